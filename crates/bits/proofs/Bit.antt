@@ -3,11 +3,11 @@ use mathlib.Core.Path.{_≡_, refl, sym, ap, ap₂, _∙_}
 use Prim.Native.Nat.{ℕ, zero, suc, _+_, _-_, _*_, _/_, _%_, _^_, _≤_, _<_, min, max}
 use native.Mathlib.Omega.{arith}
 use native.Mathlib.Nat.{pow-suc, min-le-left, max-le, zero-min, suc-min-suc, min-zero, add-zero, mul-assoc, zero-mul, one-mul}
-use lib.Bits.{bitAnd, bitOr, and-step, or-step, and-lt, and-mask}
+use lib.Bits.{bitAnd, bitOr, and-step, or-step, and-lt, and-le-l, and-le-r, and-mask, or-lt}
 use lib.Dec.{eqb}
-use lib.Pow.{pow-pos}
-use mathlib.Core.Bool.{not}
-use borrow.Author.Tests.{ne-eqb}
+use lib.Pow.{pow-pos, pow-lt}
+use mathlib.Core.Bool.{not, true, false}
+use borrow.Author.Tests.{eq-eqb, ne-eqb}
 use Rattle.bits.specs.Word.{clear, set, any, replace, inv32}
 
 -- bit k of v
@@ -62,9 +62,15 @@ bit-ext (suc n) a b ha hb f =
     let high = bit-ext n (a / 2) (b / 2) (omega (arith, p)) (omega (arith, p)) (λ k h. f (suc k) (omega arith)) in
     omega (arith, low, high)
 
--- what a write of v leaves of a register whose ones clear: bit k stands where it stood and v has it not
-pub bit-clear : (k keep v : ℕ) → k < 32 → v < 2 ^ 32 → bit k (clear keep v) ≡ min (bit k keep) (1 - bit k v)
-bit-clear k keep v h hv = bit-and k keep (inv32 v) ∙ ap (min (bit k keep)) (bit-not 32 k v h hv)
+-- bit k of a word cleared, set and replaced
+pub bit-clear : (k v m : ℕ) → k < 32 → m < 2 ^ 32 → bit k (clear v m) ≡ min (bit k v) (1 - bit k m)
+bit-clear k v m h hm = bit-and k v (inv32 m) ∙ ap (min (bit k v)) (bit-not 32 k m h hm)
+
+pub bit-set : (k v m : ℕ) → bit k (set v m) ≡ max (bit k v) (bit k m)
+bit-set k v m = bit-or k v m
+
+pub bit-replace : (k v m f : ℕ) → k < 32 → m < 2 ^ 32 → bit k (replace v m f) ≡ max (min (bit k v) (1 - bit k m)) (min (bit k f) (bit k m))
+bit-replace k v m f h hm = bit-or k (clear v m) (bitAnd f m) ∙ ap₂ max (bit-clear k v m h hm) (bit-and k f m)
 
 pub bit-zero : (k : ℕ) → bit k 0 ≡ 0
 unfolding bit
@@ -107,3 +113,78 @@ bit-test k (suc (suc b)) h = absurd (omega arith)
 
 pub any-bit : (k v : ℕ) → any v (2 ^ k) ≡ eqb (bit k v) 1
 any-bit k v = ap (λ x. not (eqb x 0)) (bit-mask k v) ∙ bit-test k (bit k v) (bit-lt k v)
+
+-- ---- words stay words
+
+pub clear-lt : (v m : ℕ) → v < 2 ^ 32 → clear v m < 2 ^ 32
+clear-lt v m h = omega (arith, and-le-l v (inv32 m))
+
+pub set-lt : (v m : ℕ) → v < 2 ^ 32 → m < 2 ^ 32 → set v m < 2 ^ 32
+set-lt v m hv hm = or-lt 32 v m hv hm
+
+pub replace-lt : (v m f : ℕ) → v < 2 ^ 32 → m < 2 ^ 32 → replace v m f < 2 ^ 32
+replace-lt v m f hv hm =
+    or-lt 32 (clear v m) (bitAnd f m) (clear-lt v m hv) (omega (arith, and-le-r f m))
+
+-- ---- one bit set or cleared: the test of it, and of any other bit
+
+-- the bits of a power of two
+pub bit-same : (k : ℕ) → bit k (2 ^ k) ≡ 1
+unfolding bit
+bit-same zero = refl
+bit-same (suc k) =
+    let p = pow-suc 2 k in
+    let half : 2 ^ suc k / 2 ≡ 2 ^ k = omega (arith, p) in
+    rw half (bit-same k)
+
+pub bit-other : (j k : ℕ) → (j ≡ k → ⊥) → bit j (2 ^ k) ≡ 0
+unfolding bit
+bit-other zero zero h = absurd (h refl)
+bit-other zero (suc k) h = omega (arith, pow-suc 2 k)
+bit-other (suc j) zero h = bit-zero j
+bit-other (suc j) (suc k) h =
+    let p = pow-suc 2 k in
+    let half : 2 ^ suc k / 2 ≡ 2 ^ k = omega (arith, p) in
+    rw half (bit-other j k (λ e. h (ap suc e)))
+
+one-is : (a b : ℕ) → a ≡ b → eqb a 1 ≡ eqb b 1
+one-is a b e = ap (λ (x : ℕ). eqb x 1) e
+
+-- a test of bit k is the same of words that agree in it
+pub any-agrees : (k v w : ℕ) → bit k v ≡ bit k w → any v (2 ^ k) ≡ any w (2 ^ k)
+any-agrees k v w e = any-bit k v ∙ one-is (bit k v) (bit k w) e ∙ sym (any-bit k w)
+
+max-one : (a : ℕ) → a < 2 → max a 1 ≡ 1
+max-one zero h = refl
+max-one (suc zero) h = refl
+max-one (suc (suc a)) h = absurd (omega arith)
+
+max-none : (a : ℕ) → a < 2 → max a 0 ≡ a
+max-none zero h = refl
+max-none (suc zero) h = refl
+max-none (suc (suc a)) h = absurd (omega arith)
+
+min-one : (a : ℕ) → a < 2 → min a 1 ≡ a
+min-one zero h = refl
+min-one (suc zero) h = refl
+min-one (suc (suc a)) h = absurd (omega arith)
+
+pub any-set : (k v : ℕ) → any (set v (2 ^ k)) (2 ^ k) ≡ true
+any-set k v =
+    any-bit k (set v (2 ^ k))
+    ∙ eq-eqb _ 1 (bit-set k v (2 ^ k) ∙ ap (max (bit k v)) (bit-same k) ∙ max-one (bit k v) (bit-lt k v))
+
+pub any-set-other : (j k v : ℕ) → (j ≡ k → ⊥) → any (set v (2 ^ k)) (2 ^ j) ≡ any v (2 ^ j)
+any-set-other j k v h =
+    any-agrees j (set v (2 ^ k)) v
+    (bit-set j v (2 ^ k) ∙ ap (max (bit j v)) (bit-other j k h) ∙ max-none (bit j v) (bit-lt j v))
+
+pub any-clear : (k v : ℕ) → k < 32 → any (clear v (2 ^ k)) (2 ^ k) ≡ false
+any-clear k v h =
+    let gone : bit k (clear v (2 ^ k)) ≡ 0 = bit-clear k v (2 ^ k) h (pow-lt h) ∙ ap (λ (x : ℕ). min (bit k v) (1 - x)) (bit-same k) ∙ min-zero (bit k v) in
+    any-bit k (clear v (2 ^ k)) ∙ ne-eqb (bit k (clear v (2 ^ k))) 1 (λ e. omega (arith, e, gone))
+
+pub any-clear-other : (j k v : ℕ) → j < 32 → k < 32 → (j ≡ k → ⊥) → any (clear v (2 ^ k)) (2 ^ j) ≡ any v (2 ^ j)
+any-clear-other j k v hj hk h =
+    any-agrees j (clear v (2 ^ k)) v
+    (bit-clear j v (2 ^ k) hj (pow-lt hk) ∙ ap (λ (x : ℕ). min (bit j v) (1 - x)) (bit-other j k h) ∙ min-one (bit j v) (bit-lt j v))

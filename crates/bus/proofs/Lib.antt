@@ -1,0 +1,9 @@
+pub mod Places
+pub mod Words
+pub mod Laws
+pub mod WordLaws
+pub mod Pages
+pub mod PageWords
+pub mod Sizes
+pub mod Registers
+pub mod Edges
