@@ -15,8 +15,8 @@ module _ {S C : Type 0} (apply : C → S → S) where
   exec f s = replay (f s) s
 
   -- one step after the other: the second sees the state that the first left
-  unfoldable pub after : (S → List C) → (S → List C) → S → List C
-  after f g s = f s ++ g (exec f s)
+  unfoldable pub andThen : (S → List C) → (S → List C) → S → List C
+  andThen f g s = f s ++ g (exec f s)
 
   -- the one or the other step, by a test of the state at hand
   unfoldable pub choose : (S → Bool) → (S → List C) → (S → List C) → S → List C
@@ -26,9 +26,9 @@ module _ {S C : Type 0} (apply : C → S → S) where
   replay-append [] ds s = refl
   replay-append (c ∷ cs) ds s = replay-append cs ds (apply c s)
 
-  pub exec-after : (f g : S → List C) (s : S) → exec (after f g) s ≡ exec g (exec f s)
-  unfolding after
-  exec-after f g s = replay-append (f s) (g (exec f s)) s
+  pub exec-then : (f g : S → List C) (s : S) → exec (andThen f g) s ≡ exec g (exec f s)
+  unfolding andThen
+  exec-then f g s = replay-append (f s) (g (exec f s)) s
 
   pub exec-choose : (t : S → Bool) (f g : S → List C) (s : S) → exec (choose t f g) s ≡ pick (t s) (exec f s) (exec g s)
   unfolding choose

@@ -5,7 +5,7 @@ use mathlib.Core.Bool.{Bool}
 use mathlib.Core.List.{List, [], _∷_, _++_}
 use mathlib.Core.Path.{_≡_}
 use Rattle.bus.specs.Memory.{Memory, poke8, poke32, dropped8, dropped32}
-use Rattle.bus.specs.Steps.{after, replay, replay-append}
+use Rattle.bus.specs.Steps.{replay, replay-append}
 
 -- the windows, and the interrupt line's flag (`usb_irq`)
 pub record Bus : Type 0 where

@@ -1,0 +1,5 @@
+pub mod Offsets
+pub mod Registers
+pub mod Access
+pub mod Transfer
+pub mod Checked
