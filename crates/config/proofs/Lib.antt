@@ -1,0 +1,6 @@
+pub mod Cases
+pub mod Few
+pub mod Placing
+pub mod Cut
+pub mod Holding
+pub mod Walking
