@@ -17,7 +17,7 @@ SIZES = [0, 8, 32, 33, 60, 64, 88, 88, 88, 368, 368, 512, 1023, 1024, 2047, 2048
 
 
 def interface(number, alternate, cls=0xFF, length=9):
-    return (bytes([length, 4, number, alternate, 2, cls, 0, 0, 0]) + bytes(length))[:length]
+    return (bytes([length, 4, number, alternate, 1, cls, 0, 0, 0]) + bytes(length))[:length]
 
 
 def endpoint(address, size, attributes=3, length=7):

@@ -11,7 +11,7 @@ use lib.Dec.{ltb}
 use borrow.Author.Tests.{eq-eqb, ne-eqb, le-leb, lt-leb}
 use Rattle.bits.specs.Pick.{pick}
 use Rattle.config.specs.Config.{Walk, member, interfaces, alternates, slot, chosen, step, at, isInterface, interfaceOf, isEndpoint, counts, isInput, packetSize}
-use Rattle.config.specs.Table.{position, Holds, Held, choosing, takenAt, tableOf}
+use Rattle.config.specs.Table.{position, readingOf, Holds, Held, choosing, takenAt, tableOf}
 use Rattle.config.specs.declared.Progress.{Progress}
 use Rattle.config.proofs.Few.{valid-few}
 use Rattle.config.proofs.Placing.{position-member, room, length-placed, padded-placed, length-padded}
@@ -24,6 +24,9 @@ module _ {p : Progress} {is al : List ℕ} (h : Held p is al) where
   held-length =
       rw (h .holds .firsts)
       (length-padded (interfaces (h .walk .choice .pairs)) (rw length-map (valid-few (h .walk) (h .valid))))
+
+  pub held-counts : (x : List ℕ) → counts (readingOf p) x ≡ counts (h .walk .reading) x
+  held-counts x = rw (h .holds .progress)
 
   -- where the search finds the interface being read
   held-place : position (p .interface) (take (p .count) is) ≡ position (h .walk .reading .number) (interfaces (h .walk .choice .pairs))

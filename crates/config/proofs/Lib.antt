@@ -4,3 +4,4 @@ pub mod Placing
 pub mod Cut
 pub mod Holding
 pub mod Walking
+pub mod Sizes

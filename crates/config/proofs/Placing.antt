@@ -7,7 +7,7 @@ use native.Mathlib.Omega.{arith}
 use native.Mathlib.Nat.{suc-sub-suc}
 use native.Mathlib.Numerals.{add-one, unary-clauses}
 use borrow.Author.Tests.{eq-eqb, ne-eqb, lt-ltb, ltb-true}
-use lib.ListN.{length, getD, drop, set, replicate, length-append, length-replicate}
+use lib.ListN.{length, getD, drop, set, replicate, length-append, length-replicate, length-map, List·getD-append, List·getD-map}
 use lib.Seq.{drop-cons}
 use lib.Dec.{eqb, ltb, leb·suc-suc}
 use Rattle.bits.specs.Pick.{pick}
@@ -87,3 +87,8 @@ module _ (i a : ℕ) where
 
 pub length-padded : (l : List ℕ) → length l ≤ 256 → length (padded l) ≡ 256
 length-padded l h = simp (length-append, length-replicate) (omega arith)
+
+-- an entry below the number of pairs is that pair's half
+pub padded-entry : (f : ℕ × ℕ → ℕ) (ps : List (ℕ × ℕ)) (k : ℕ) → k < length ps → getD (padded (map f ps)) k (f (0, 0)) ≡ f (getD ps k (0, 0))
+padded-entry f ps k h =
+    List·getD-append (map f ps) (replicate (256 - length (map f ps)) 0) (f (0, 0)) k (rw length-map h) ∙ List·getD-map f ps k (0, 0)

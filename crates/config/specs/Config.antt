@@ -83,17 +83,16 @@ interfaces ps = map (λ p. p .0) ps
 abbrev pub alternates : List (ℕ × ℕ) → List ℕ
 alternates ps = map (λ p. p .1) ps
 
--- the pair of interface i takes the alternate a; an interface that has no pair yet gets one, at the end (usbhost.rs 83-93)
+-- the pair of interface i takes the alternate a; an interface that has no pair yet gets one, at the end (usbhost.rs 83-92)
 unfoldable pub placed : ℕ → ℕ → List (ℕ × ℕ) → List (ℕ × ℕ)
 placed i a [] = (i, a) ∷ []
 placed i a (p ∷ ps) = pick (eqb (p .0) i) ((i, a) ∷ ps) (p ∷ placed i a ps)
 
--- the size slot of a direction, shared by all interfaces
+-- the size slot of a direction, shared by all interfaces (usbhost.rs 81)
 abbrev pub slot : Bool → Choice → ℕ
 slot input c = pick input (c .input) (c .output)
 
--- an endpoint of this size and direction: the interface's alternate is taken and the slot holds the size,
--- unless the interface has a pair and the size is below the slot's (usbhost.rs 83-93)
+-- an endpoint's alternate and size are taken, unless its interface has a pair and the size is below the slot's (usbhost.rs 81-94)
 unfoldable pub chosen : Interface → Bool → ℕ → Choice → Choice
 chosen i input size c =
     pick (member (i .number) (interfaces (c .pairs)) && ltb size (slot input c)) c
@@ -140,8 +139,7 @@ unfoldable pub Distinct : List ℕ → Type 0
 Distinct [] = Unit {0}
 Distinct (x ∷ xs) = (member x xs ≡ false) × Distinct xs
 
--- the block and the channels after a configuration: an output size above 32 sets both, seven frames of 4-byte samples
--- behind 32 bytes (document 01, "Interface choice"; usbhost.rs 717-720)
+-- the block and the channels after a configuration: an output size above 32 sets both (document 01, "Interface choice"; usbhost.rs 718-720)
 abbrev pub outBlock : ℕ → OutBlock → OutBlock
 outBlock size old =
     record {

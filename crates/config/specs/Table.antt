@@ -6,7 +6,7 @@ use mathlib.Core.List.{List, [], _∷_, _++_}
 use lib.ListN.{length, replicate}
 use lib.Dec.{eqb, ltb}
 use Rattle.bits.specs.Pick.{pick}
-use Rattle.config.specs.Config.{Choice, Walk, Distinct, interfaces, alternates, chosen}
+use Rattle.config.specs.Config.{Choice, Interface, Walk, Distinct, interfaces, alternates, chosen}
 use Rattle.config.specs.declared.ConfigInfo.{ConfigInfo}
 use Rattle.config.specs.declared.Progress.{Progress}
 
@@ -41,6 +41,10 @@ progressOf w =
       input = w .choice .input;
       output = w .choice .output;
     }
+
+-- the interface being read, as the struct has it
+abbrev pub readingOf : Progress → Interface
+readingOf p = record { number = p .interface; alternate = p .alternate; class = p .class }
 
 -- every number of a list is below k
 unfoldable pub Below : ℕ → List ℕ → Type 0

@@ -31,7 +31,8 @@ shared-slice-read-t16 c = search needs
 
 returns-4 : tie.Need-returns-4
 returns-4 c h =
-    rw (step-interface (c .before .before .before .before .before .before .before .before .args .x .now) (h .walk) (c .before .before .before .before .if2 .left) (c .before .before .before .if3 .left))
+    let tested = c .before .before .before in
+    rw (step-interface (tested .before .before .before .before .before .args .x .now) (h .walk) (tested .before .if2 .left) (tested .if3 .left))
     (record { progress = rw (h .holds .progress) refl; firsts = h .holds .firsts; seconds = h .holds .seconds })
 
 pub descriptor-spec : {M : Type 1} → statement M

@@ -1,12 +1,11 @@
 -- An endpoint descriptor that is too short or does not count is passed over, and any other is chosen by `choose`.
-use mathlib.Core.Path.{_≡_, ap₂}
-use mathlib.Core.Bool.{true, false, _&&_, not}
+use mathlib.Core.Path.{_≡_, sym, ap₂, _∙_}
+use mathlib.Core.Bool.{true, not}
 use Prim.Native.Nat.{_+_, _*_}
 use lib.Bits.{bitAnd}
-use lib.Dec.{eqb}
 use borrow.Author.Tests.{not-true, not-false}
-use Rattle.config.specs.Config.{counts, isInterrupt, packetSize}
-use Rattle.config.proofs.Holding.{step-short, step-idle, step-endpoint}
+use Rattle.config.specs.Config.{counts, packetSize}
+use Rattle.config.proofs.Holding.{held-counts, step-short, step-idle, step-endpoint}
 use borrow.Author.Needs.{needs}
 use Rattle.config.proofs.endpoint.Statement.{statement}
 use Rattle.config.proofs.endpoint.Tie as tie
@@ -19,11 +18,9 @@ shared-slice-read-counts c = search needs
 
 returns-2 : tie.Need-returns-2
 returns-2 c h =
-    let x = c .before .before .before .before .before .before .args .x .now in
-    let p = c .before .before .before .before .before .before .args .p in
-    let off : eqb (p .class) 0xFF && (not (eqb (p .alternate) 0) && isInterrupt x) ≡ false = not-true _ (c .if2 .taken) in
-    let idle : counts (h .walk .reading) x ≡ false = rw (h .holds .progress) at off in
-    rw (step-idle x (h .walk) (c .before .before .before .before .before .before .pre .1) idle) (h .holds)
+    let entry = c .before .before .before .before .before .before in
+    let x = entry .args .x .now in
+    rw (step-idle x (h .walk) (entry .pre .1) (sym (held-counts h x) ∙ not-true _ (c .if2 .taken))) (h .holds)
 
 shared-slice-read-input : tie.Need-shared-slice-read-input
 shared-slice-read-input c = search needs
@@ -51,14 +48,15 @@ choose-requires c κs = search needs
 
 returns-3 : tie.Need-returns-3
 returns-3 c h =
-    let x = c .before .before .before .before .before .before .before .before .before .before .before .before .before .before .args .x .now in
-    let p = c .before .before .before .before .before .before .before .before .before .before .before .before .before .before .args .p in
-    let on : eqb (p .class) 0xFF && (not (eqb (p .alternate) 0) && isInterrupt x) ≡ true = not-false _ (c .before .before .before .before .before .before .before .before .if2 .left) in
-    let busy : counts (h .walk .reading) x ≡ true = rw (h .holds .progress) at on in
-    let low = c .before .before .before .before .before .wide .ensures .0 in
-    let high = c .before .before .before .wide2 .ensures .0 in
-    let size : bitAnd (c .before .before .before .before .before .wide .result + c .before .before .before .wide2 .result * 256) 0x7FF ≡ packetSize x = ap₂ (λ a b. bitAnd (a + b * 256) 0x7FF) low high in
-    rw (step-endpoint x (h .walk) (c .before .before .before .before .before .before .before .before .before .before .before .before .before .before .pre .1) (c .before .before .before .before .before .before .before .before .before .before .before .before .if1 .left) busy, ← size) (c .choose .ensures h)
+    let tested = c .before .before .before .before .before .before .before .before in
+    let entry = tested .before .before .before .before .before .before in
+    let x = entry .args .x .now in
+    let low = c .before .before .before .before .before .wide in
+    let high = c .before .before .before .wide2 in
+    let size : bitAnd (low .result + high .result * 256) 0x7FF ≡ packetSize x =
+    ap₂ (λ a b. bitAnd (a + b * 256) 0x7FF) (low .ensures .0) (high .ensures .0) in
+    let on : counts (h .walk .reading) x ≡ true = sym (held-counts h x) ∙ not-false _ (tested .if2 .left) in
+    rw (step-endpoint x (h .walk) (entry .pre .1) (tested .before .before .before .before .if1 .left) on, ← size) (c .choose .ensures h)
 
 pub endpoint-spec : {M : Type 1} → statement M
 endpoint-spec =

@@ -30,19 +30,19 @@ place-requires c κs = search needs
 
 returns : tie.Need-returns Inv-loop μ-loop
 returns c =
-    let d = c .before .before .before .before .before .before .args .d .now in
-    let o = c .before .before .before .before .loop .o in
-    walking-end (c .before .before .before .before .loop .inv) (ends-short d o (c .before .place .result) (c .before .place .ensures .0) (omega arith) (omega arith))
+    let looped = c .before .before .before .before in
+    let n = c .before .place in
+    walking-end (looped .loop .inv) (ends-short (looped .before .before .args .d .now) (looped .loop .o) (n .result) (n .ensures .0) (omega arith) (omega arith))
 
 sub-if2 : tie.Need-sub-if2 Inv-loop μ-loop
 sub-if2 c = search needs
 
 returns-2 : tie.Need-returns-2 Inv-loop μ-loop
 returns-2 c =
-    let d = c .before .before .before .before .before .before .before .args .d .now in
-    let o = c .before .before .before .before .before .loop .o in
-    walking-end (c .before .before .before .before .before .loop .inv)
-    (ends-cut d o (c .before .before .place .result) (c .before .before .place .ensures .0) (omega arith) (omega arith) (omega arith))
+    let looped = c .before .before .before .before .before in
+    let n = c .before .before .place in
+    walking-end (looped .loop .inv)
+    (ends-cut (looped .before .before .args .d .now) (looped .loop .o) (n .result) (n .ensures .0) (omega arith) (omega arith) (omega arith))
 
 add-descriptor : tie.Need-add-descriptor Inv-loop μ-loop
 add-descriptor c = search needs
@@ -67,18 +67,17 @@ loop-less c = search needs
 
 loop-again : tie.Need-loop-again Inv-loop μ-loop
 loop-again c =
-    let d = c .before .before .before .before .before .before .before .before .before .before .before .args .d .now in
-    let o = c .before .before .before .before .before .before .before .before .before .loop .o in
-    let n = c .before .before .before .before .before .before .place .result in
-    let bytes : Bytes d = λ k. c .before .before .before .before .before .before .before .before .before .before .shared-slice-known .given k .fits in
-    let span : o + n - o ≡ n = omega arith in
-    walking-more (c .before .before .before .before .before .before .before .before .before .loop .inv) bytes n (c .before .before .before .before .before .before .place .ensures .0) (omega arith) (omega arith) (rw span at (c .descriptor .ensures))
+    let looped = c .before .before .before .before .before .before .before .before .before in
+    let o = looped .loop .o in
+    let n = c .before .before .before .before .before .before .place in
+    let bytes : Bytes (looped .before .before .args .d .now) = λ k. looped .before .shared-slice-known .given k .fits in
+    let span : o + n .result - o ≡ n .result = omega arith in
+    walking-more (looped .loop .inv) bytes (n .result) (n .ensures .0) (omega arith) (omega arith) (rw span at (c .descriptor .ensures))
 
 returns-3 : tie.Need-returns-3 Inv-loop μ-loop
 returns-3 c =
-    let d = c .before .before .before .args .d .now in
-    let o = c .before .loop .o in
-    walking-end (c .before .loop .inv) (ends-bare d o (omega arith))
+    let looped = c .before in
+    walking-end (looped .loop .inv) (ends-bare (looped .before .before .args .d .now) (looped .loop .o) (omega arith))
 
 pub walk-spec : {M : Type 1} → statement M
 walk-spec =
