@@ -1,0 +1,4 @@
+pub mod Laws
+pub mod Table
+pub mod Bounds
+pub mod Examples
