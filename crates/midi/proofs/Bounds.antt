@@ -1,8 +1,8 @@
 -- Bounds that every byte keeps: number 5's of the packer, the sixteen codes, and that packets are bytes.
-use mathlib.Core.Path.{_≡_, refl, sym, ap, _∙_}
+use mathlib.Core.Path.{_≡_, refl}
 use mathlib.Core.Bool.{Bool, true, false, _||_}
 use mathlib.Core.List.{List, [], _∷_, _++_, flatMap}
-use Prim.Native.Nat.{ℕ, zero, suc, _+_, _*_, _/_, _%_, _≤_, _<_}
+use Prim.Native.Nat.{ℕ, zero, suc, _+_, _*_, _%_, _≤_, _<_}
 use native.Mathlib.Omega.{arith}
 use lib.ListN.{length, getD}
 use lib.Dec.{eqb, leb}
@@ -12,7 +12,8 @@ use Rattle.midi.specs.declared.Packer.{Packer}
 use Rattle.midi.specs.declared.Event.{Event}
 use Rattle.midi.specs.declared.Event.the-variants.{Quiet, Packet}
 use Rattle.midi.specs.declared.Fed.{Fed}
-use Rattle.midi.specs.Packer.{within, messageLength, messageCode, runningOf, heldBytes, holding, packet, fed, sysexOf, messageOf, fedSysex, fedData, fedStatus, feedOf, fedAll, made, eventsOf, codeOf, header, packetBytes, packetsOf, fresh, PackerBound, AllBytes, PackerBytes}
+use Rattle.midi.specs.declared.Sent.{Sent}
+use Rattle.midi.specs.Packer.{packetCount, sentOf, within, messageLength, messageCode, runningOf, heldBytes, holding, packet, sysexOf, messageOf, fedData, fedStatus, feedOf, fedAll, made, eventsOf, codeOf, header, packetBytes, packetsOf, fresh, PackerBound, AllBytes, PackerBytes}
 use Rattle.midi.proofs.Laws.{flatMap-append}
 
 -- a choice by its test
@@ -121,6 +122,21 @@ pub fedAll-bound : (p : Packer) (bs : List ℕ) → PackerBound p → PackerBoun
 unfolding fedAll
 fedAll-bound p [] h = h
 fedAll-bound p (b ∷ bs) h = fedAll-bound (feedOf p b .next) bs (bound-kept p b h)
+
+-- a send leaves a packer and a queue inside number 5's bounds
+pub sent-bound : (p : Packer) (bs : List ℕ) (held : ℕ) → PackerBound p → PackerBound (sentOf p bs held .packer)
+unfolding sentOf
+sent-bound p bs held h = pick-both (λ (s : Sent). PackerBound (s .packer)) (leb (held + 4 * packetCount p bs) 4096) (fedAll-bound p bs h) h
+
+pub sent-most : (p : Packer) (bs : List ℕ) (held : ℕ) → held ≤ 4096 → sentOf p bs held .held ≤ 4096
+unfolding sentOf
+sent-most p bs held h =
+    pick-by (λ (s : Sent). s .held ≤ 4096) (leb (held + 4 * packetCount p bs) 4096) (λ t. leb-true (held + 4 * packetCount p bs) 4096 t) (λ t. h)
+
+pub sent-fours : (p : Packer) (bs : List ℕ) (held : ℕ) → held % 4 ≡ 0 → sentOf p bs held .held % 4 ≡ 0
+unfolding sentOf
+sent-fours p bs held h =
+    pick-both (λ (s : Sent). s .held % 4 ≡ 0) (leb (held + 4 * packetCount p bs) 4096) (omega arith) h
 
 -- ---- packets are bytes
 

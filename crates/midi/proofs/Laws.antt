@@ -5,14 +5,15 @@ use Prim.Native.Nat.{ℕ, suc, _+_, _*_, _≤_, _<_}
 use native.Mathlib.Numerals.{add-one}
 use native.Mathlib.Nat.{add-zero, add-suc, suc-add}
 use native.Mathlib.Omega.{arith}
-use lib.ListN.{length, set, getD, drop, length-append, drop-of-length-le}
-use lib.Seq.{drop-cons, sets, length-sets}
-use borrow.Author.Tests.{le-leb}
+use lib.ListN.{length, set, getD, take, drop, length-append, drop-of-length-le}
+use lib.Seq.{drop-cons, sets, sets-eq, length-sets}
+use lib.Dec.{leb}
+use borrow.Author.Tests.{le-leb, lt-leb}
+use Rattle.bits.specs.Pick.{pick-both}
 use Rattle.midi.specs.declared.Packer.{Packer}
 use Rattle.midi.specs.declared.Event.{Event}
 use Rattle.midi.specs.declared.Event.the-variants.{Quiet, Packet}
 use Rattle.midi.specs.declared.Fed.{Fed}
-use Rattle.midi.specs.declared.Sent.{Sent}
 use Rattle.midi.specs.Packer.{feedOf, fedAll, made, eventsOf, packetCount, packetBytes, written, packetsOf, sentOf, queueAfter}
 
 -- ---- the bytes of a list of packets
@@ -118,6 +119,35 @@ module _ (cable : ℕ) (p : Packer) (held : ℕ) (q : List ℕ) (h : held ≤ 40
   pub empty-queue : queueAfter cable p [] held q ≡ q
   unfolding queueAfter packetsOf packetCount eventsOf flatMap
   empty-queue = simp (add-zero, le-leb held 4096 h)
+
+-- ---- a send by its two cases
+
+module _ (cable : ℕ) (p : Packer) (bs : List ℕ) (held : ℕ) (q : List ℕ) where
+  -- a send that fits: the answer, and the queue in three parts
+  pub sent-fits : held + 4 * packetCount p bs ≤ 4096 → sentOf p bs held ≡ record { refusal = 0; packer = fedAll p bs; held = held + 4 * packetCount p bs }
+  unfolding sentOf
+  sent-fits h = simp (le-leb (held + 4 * packetCount p bs) 4096 h)
+
+  pub queue-fits : held + 4 * packetCount p bs ≤ 4096 → length q ≡ 4096
+      → queueAfter cable p bs held q ≡ take held q ++ packetsOf cable p bs ++ drop (held + 4 * packetCount p bs) q
+  unfolding queueAfter
+  queue-fits h l =
+      let size = packets-size cable p bs in
+      simp (le-leb (held + 4 * packetCount p bs) 4096 h)
+      (sets-eq (packetsOf cable p bs) q held (omega (arith, size)) ∙ ap (λ n. take held q ++ packetsOf cable p bs ++ drop (held + n) q) size)
+
+  -- a send that does not fit changes nothing
+  pub sent-full : 4096 < held + 4 * packetCount p bs → sentOf p bs held ≡ record { refusal = 7; packer = p; held = held }
+  unfolding sentOf
+  sent-full h = simp (lt-leb (held + 4 * packetCount p bs) 4096 h)
+
+  pub queue-full : 4096 < held + 4 * packetCount p bs → queueAfter cable p bs held q ≡ q
+  unfolding queueAfter
+  queue-full h = simp (lt-leb (held + 4 * packetCount p bs) 4096 h)
+
+  pub queue-length : length (queueAfter cable p bs held q) ≡ length q
+  unfolding queueAfter
+  queue-length = pick-both (λ (l : List ℕ). length l ≡ length q) (leb (held + 4 * packetCount p bs) 4096) (length-sets q held (packetsOf cable p bs)) refl
 
 -- ---- stores
 

@@ -1,6 +1,6 @@
 -- `midi::byte_count` meets its contract: a code by itself is looked up, and a range of codes by one test of the table's entries there.
 use mathlib.Core.Path.{_≡_, refl, sym}
-use mathlib.Core.Bool.{Bool, _||_}
+use mathlib.Core.Bool.{_||_}
 use mathlib.Core.Logic.{inl, inr, ⊎-elim}
 use Prim.Native.Nat.{_≤_}
 use native.Mathlib.Omega.{arith}

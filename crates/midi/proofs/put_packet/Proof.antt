@@ -1,5 +1,4 @@
 -- `midi::put_packet` meets its contract: four stores in a row.
-use mathlib.Core.Path.{_≡_}
 use native.Mathlib.Omega.{arith}
 use lib.ListN.{length-set}
 use Rattle.midi.proofs.Laws.{sets-four}

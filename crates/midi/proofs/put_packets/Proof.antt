@@ -1,15 +1,15 @@
 -- `midi::put_packets` meets its contract. The loop's invariant: what is left to write from here makes the whole (`Writing`).
 -- The measure is how many bytes are left.
-use mathlib.Core.Path.{_≡_, refl, sym, ap, _∙_}
+use mathlib.Core.Path.{refl, sym, ap, _∙_}
 use mathlib.Core.List.{flatMap}
 use mathlib.Core.Logic.{⊎-elim}
-use Prim.Native.Nat.{_+_, _*_, _-_, _<_}
+use Prim.Native.Nat.{_+_, _-_}
 use native.Mathlib.Omega.{arith}
 use native.Mathlib.Nat.{add-zero}
 use borrow.Author.Needs.{needs}
-use lib.ListN.{length, drop}
+use lib.ListN.{length}
 use lib.Seq.{sets}
-use Rattle.midi.specs.Packer.{made, codeOf, packetBytes, packetCount, packetsOf}
+use Rattle.midi.specs.Packer.{made, codeOf, packetBytes, packetsOf}
 use Rattle.midi.proofs.Laws.{packets-size, Writing, written-size-at, writing-more, writing-end, writing-queue, writing-packer}
 use Rattle.midi.proofs.put_packets.Statement.{statement}
 use Rattle.midi.proofs.put_packets.Tie as tie

@@ -1,5 +1,5 @@
 -- `midilist::digit` meets its contract, by one test of the digits of each of its two ranges.
-use mathlib.Core.Path.{_≡_, refl}
+use mathlib.Core.Path.{refl}
 use Prim.Native.Nat.{_+_}
 use native.Mathlib.Omega.{arith}
 use lib.Dec.{eqb}

@@ -1,5 +1,4 @@
 -- `midilist::put_byte` meets its contract: three stores in a row.
-use mathlib.Core.Path.{_≡_}
 use native.Mathlib.Omega.{arith}
 use lib.ListN.{length-set}
 use Rattle.midilist.proofs.Laws.{sets-three}

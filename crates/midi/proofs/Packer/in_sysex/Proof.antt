@@ -1,5 +1,5 @@
 -- `midi::Packer::in_sysex` meets its contract: by F7, and by how many bytes are held.
-use borrow.Author.Tests.{eq-eqb, ne-eqb}
+use borrow.Author.Tests.{ne-eqb}
 use borrow.Author.Needs.{needs}
 use Rattle.midi.proofs.Packer.in_sysex.Statement.{statement}
 use Rattle.midi.proofs.Packer.in_sysex.Tie as tie
