@@ -1,5 +1,6 @@
 -- Bounds that every byte keeps: number 5's of the packer, the sixteen codes, and that packets are bytes.
 use mathlib.Core.Path.{_≡_, refl}
+use mathlib.Core.Logic.{_⊎_, inl, inr, ⊎-elim}
 use mathlib.Core.Bool.{Bool, true, false, _||_}
 use mathlib.Core.List.{List, [], _∷_, _++_, flatMap}
 use Prim.Native.Nat.{ℕ, zero, suc, _+_, _*_, _%_, _≤_, _<_}
@@ -13,7 +14,7 @@ use Rattle.midi.specs.declared.Event.{Event}
 use Rattle.midi.specs.declared.Event.the-variants.{Quiet, Packet}
 use Rattle.midi.specs.declared.Fed.{Fed}
 use Rattle.midi.specs.declared.Sent.{Sent}
-use Rattle.midi.specs.Packer.{packetCount, sentOf, within, messageLength, messageCode, runningOf, heldBytes, holding, packet, sysexOf, messageOf, fedData, fedStatus, feedOf, fedAll, made, eventsOf, codeOf, header, packetBytes, packetsOf, fresh, PackerBound, AllBytes, PackerBytes}
+use Rattle.midi.specs.Packer.{packetCount, sentOf, within, messageLength, messageCode, runningOf, heldBytes, holding, packet, sysexOf, messageOf, soFar, fedData, fedStatus, feedOf, fedAll, made, eventsOf, codeOf, header, packetBytes, packetsOf, fresh, PackerBound, AllBytes, PackerBytes}
 use Rattle.midi.proofs.Laws.{flatMap-append}
 
 -- a choice by its test
@@ -45,7 +46,7 @@ message-code p bs h =
 
 data-code : (p : Packer) (b : ℕ) → p .status < 256 → codeOf (fedData p b .event) < 16
 data-code p b h =
-    pick-both (λ (f : Fed). codeOf (f .event) < 16) (eqb (p .status) 0) (omega arith) (message-code p (pick (eqb (p .held) 0) (p .status ∷ []) (heldBytes p) ++ (b ∷ [])) h)
+    pick-both (λ (f : Fed). codeOf (f .event) < 16) (eqb (p .status) 0) (omega arith) (message-code p (soFar p b) h)
 
 status-code : (p : Packer) (b : ℕ) → codeOf (fedStatus p b .event) < 16
 status-code p b =
@@ -97,7 +98,7 @@ message-bound p bs h =
 data-bound : (p : Packer) (b : ℕ) → PackerBound p → PackerBound (fedData p b .next)
 data-bound p b h =
     pick-both (λ (f : Fed). PackerBound (f .next)) (eqb (p .status) 0) h
-    (message-bound p (pick (eqb (p .held) 0) (p .status ∷ []) (heldBytes p) ++ (b ∷ []))
+    (message-bound p (soFar p b)
     (two-at-least (eqb (p .held) 0) (eqb (p .held) 1) (p .status) (p .first) (p .second) b))
 
 status-bound : (p : Packer) (b : ℕ) → PackerBound p → PackerBound (fedStatus p b .next)
@@ -106,6 +107,29 @@ status-bound p b h =
     pick-both (λ (f : Fed). PackerBound (f .next)) (eqb b 0xF0) (sysex-bound 0 (b ∷ []) (omega arith))
     (pick-both (λ (f : Fed). PackerBound (f .next)) (eqb b 0xF6) (record { few = h .few; none = λ e l. absurd (omega (arith, l)) })
     (empty-bound b false))
+
+two-or-three : (s : ℕ) → (messageLength s ≡ 2) ⊎ (messageLength s ≡ 3)
+unfolding messageLength
+two-or-three s = pick-both (λ n. (n ≡ 2) ⊎ (n ≡ 3)) (within 0xC0 0xDF s || (eqb s 0xF1 || eqb s 0xF3)) (inl refl) (inr refl)
+
+three-at-most : (p : Packer) (b : ℕ) → length (soFar p b) ≤ 3
+three-at-most p b = pick-both (λ (l : List ℕ). length (l ++ (b ∷ [])) ≤ 3) (eqb (p .held) 0) (omega arith) (held-few p b)
+
+three-exactly : (n : ℕ) → 2 ≤ n → n ≤ 3 → leb 3 n ≡ eqb n 3
+three-exactly zero l h = absurd (omega arith)
+three-exactly (suc zero) l h = absurd (omega arith)
+three-exactly (suc (suc zero)) l h = refl
+three-exactly (suc (suc (suc zero))) l h = refl
+three-exactly (suc (suc (suc (suc n)))) l h = absurd (omega arith)
+
+-- inside number 5's bound a message so far never passes its length, so that "at least" and the source's "exactly" are one test
+pub whole-exactly : (p : Packer) (b : ℕ) → PackerBound p → p .sysex ≡ false
+    → leb (messageLength (p .status)) (length (soFar p b)) ≡ eqb (length (soFar p b)) (messageLength (p .status))
+whole-exactly p b h x =
+    ⊎-elim
+    (λ e. let none : p .held ≡ 0 = h .none x e in simp (e, none))
+    (λ e. rw e (three-exactly (length (soFar p b)) (two-at-least (eqb (p .held) 0) (eqb (p .held) 1) (p .status) (p .first) (p .second) b) (three-at-most p b)))
+    (two-or-three (p .status))
 
 -- a byte leaves a packer inside number 5's bound
 pub bound-kept : (p : Packer) (b : ℕ) → PackerBound p → PackerBound (feedOf p b .next)

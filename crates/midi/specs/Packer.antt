@@ -68,18 +68,21 @@ sysexOf p b bs =
 abbrev pub fedSysex : Packer → ℕ → Fed
 fedSysex p b = sysexOf p b (heldBytes p ++ (b ∷ []))
 
--- source, lines 148 to 157: bs is the message so far; whole, it is a packet, and its status may run on
+-- source, lines 148 to 157: bs is the message so far; whole, it is a packet, and its status may run on. The source asks for exactly its
+-- length; number 5 rules out a packer that holds more (`whole-exactly`)
 abbrev pub messageOf : Packer → List ℕ → Fed
 messageOf p bs =
     pick (leb (messageLength (p .status)) (length bs))
     (fed (holding (runningOf (p .status)) false []) (packet (messageCode (p .status)) bs))
     (fed (holding (p .status) false bs) Quiet)
 
--- source, lines 143 to 147: a data byte with no status is dropped; the status stands first in its message
+-- source, lines 144 to 147: the message with its next data byte; the status stands first in it
+abbrev pub soFar : Packer → ℕ → List ℕ
+soFar p b = pick (eqb (p .held) 0) (p .status ∷ []) (heldBytes p) ++ (b ∷ [])
+
+-- source, line 143: a data byte with no status is dropped
 abbrev pub fedData : Packer → ℕ → Fed
-fedData p b =
-    pick (eqb (p .status) 0) (fed p Quiet)
-    (messageOf p (pick (eqb (p .held) 0) (p .status ∷ []) (heldBytes p) ++ (b ∷ [])))
+fedData p b = pick (eqb (p .status) 0) (fed p Quiet) (messageOf p (soFar p b))
 
 -- source, lines 133 to 142: F0 begins SysEx; F6 is whole by itself and leaves the held bytes; any other status drops them and waits for data
 abbrev pub fedStatus : Packer → ℕ → Fed
@@ -96,7 +99,7 @@ feedOf p b =
     (pick (p .sysex) (fedSysex p b)
     (pick (leb 0x80 b) (fedStatus p b) (fedData p b)))
 
--- the packer once it was fed bs
+-- the packer after bs, a byte at a time (source, line 120)
 unfoldable pub fedAll : Packer → List ℕ → Packer
 fedAll p [] = p
 fedAll p (b ∷ bs) = fedAll (feedOf p b .next) bs
