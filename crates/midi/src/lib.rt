@@ -83,6 +83,32 @@ fn empty(status: u8, sysex: bool) -> Packer
     }
 }
 
+// The packer with one byte held.
+fn one_held(status: u8, first: u8, sysex: bool) -> Packer
+    ensures { λ r. ⌜ r ≡ holding status sysex (first ∷ []) ⌝ }
+{
+    Packer {
+        status,
+        first,
+        second: 0,
+        held: 1,
+        sysex,
+    }
+}
+
+// The packer with two bytes held.
+fn two_held(status: u8, first: u8, second: u8, sysex: bool) -> Packer
+    ensures { λ r. ⌜ r ≡ holding status sysex (first ∷ second ∷ []) ⌝ }
+{
+    Packer {
+        status,
+        first,
+        second,
+        held: 2,
+        sysex,
+    }
+}
+
 impl Packer {
     pub fn new() -> Packer
         ensures { λ r. ⌜ r ≡ fresh ⌝ }
@@ -106,23 +132,11 @@ impl Packer {
         }
         match n {
             0 => Fed {
-                next: Packer {
-                    status: self.status,
-                    first: b,
-                    second: 0,
-                    held: 1,
-                    sysex: true,
-                },
+                next: one_held(self.status, b, true),
                 event: Event::Quiet,
             },
             1 => Fed {
-                next: Packer {
-                    status: self.status,
-                    first: self.first,
-                    second: b,
-                    held: 2,
-                    sysex: true,
-                },
+                next: two_held(self.status, self.first, b, true),
                 event: Event::Quiet,
             },
             _ => Fed {
@@ -138,13 +152,7 @@ impl Packer {
     {
         match b {
             0xF0 => Fed {
-                next: Packer {
-                    status: 0,
-                    first: b,
-                    second: 0,
-                    held: 1,
-                    sysex: true,
-                },
+                next: one_held(0, b, true),
                 event: Event::Quiet,
             },
             0xF6 => Fed {
@@ -192,13 +200,7 @@ impl Packer {
             }
         } else {
             Fed {
-                next: Packer {
-                    status: s,
-                    first: head,
-                    second: b,
-                    held: 2,
-                    sysex: false,
-                },
+                next: two_held(s, head, b, false),
                 event: Event::Quiet,
             }
         }

@@ -37,6 +37,9 @@ running-requires-2 c κs = search needs
 empty-requires-2 : tie.Need-empty-requires-2
 empty-requires-2 c κs = search needs
 
+two-held-requires : tie.Need-two-held-requires
+two-held-requires c κs = search needs
+
 returns-3 : tie.Need-returns-3
 returns-3 c =
     let s = c .before .before .before .before .before .before .before .before .args .self .status in
@@ -48,12 +51,14 @@ returns-3 c =
 
 returns-4 : tie.Need-returns-4
 returns-4 c =
-    let s = c .before .before .before .before .before .before .args .self .status in
-    let n = c .before .before .before .before .before .before .args .self .held in
-    let long : 2 < messageLength s = omega (arith, c .before .before .before .before .message-length .ensures, c .if4 .left) in
-    ⊎-elim (λ w. simp (ne-eqb s 0 (c .before .before .before .before .before .if1 .left), lt-leb (messageLength s) 2 long, w .1, w .0 .taken))
-    (λ w. let one : n ≡ 1 = omega (arith, w .0 .left, c .before .before .if2 .left) in simp (ne-eqb s 0 (c .before .before .before .before .before .if1 .left), lt-leb (messageLength s) 2 long, w .1, one))
-    (c .before .if3 .came)
+    let s = c .before .before .before .before .before .before .before .args .self .status in
+    let n = c .before .before .before .before .before .before .before .args .self .held in
+    let long : 2 < messageLength s = omega (arith, c .before .before .before .before .before .message-length .ensures, c .before .if4 .left) in
+    ⊎-elim
+    (λ w. simp (c .two-held .ensures, ne-eqb s 0 (c .before .before .before .before .before .before .if1 .left), lt-leb (messageLength s) 2 long, w .1, w .0 .taken))
+    (λ w. let one : n ≡ 1 = omega (arith, w .0 .left, c .before .before .before .if2 .left) in
+    simp (c .two-held .ensures, ne-eqb s 0 (c .before .before .before .before .before .before .if1 .left), lt-leb (messageLength s) 2 long, w .1, one))
+    (c .before .before .if3 .came)
 
 pub at-data-spec : {M : Type 1} → statement M
 at-data-spec =
@@ -67,5 +72,6 @@ at-data-spec =
     returns-2
     running-requires-2
     empty-requires-2
+    two-held-requires
     returns-3
     returns-4)
