@@ -164,7 +164,7 @@ max-none zero h = refl
 max-none (suc zero) h = refl
 max-none (suc (suc a)) h = absurd (omega arith)
 
-min-one : (a : ℕ) → a < 2 → min a 1 ≡ a
+pub min-one : (a : ℕ) → a < 2 → min a 1 ≡ a
 min-one zero h = refl
 min-one (suc zero) h = refl
 min-one (suc (suc a)) h = absurd (omega arith)

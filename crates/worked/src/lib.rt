@@ -1,2 +1,6 @@
-// The eleven marked worked examples of document 01, as one claim about the definitions (specs/Worked.antt); there is no code here.
-pub fn worked() {}
+// The eleven marked worked examples of document 01, as the contract of a function that does nothing.
+ghost use Rattle.worked.specs.Worked.{Worked};
+
+pub fn worked()
+    ensures { λ _. ⌜ Worked ⌝ }
+{}
