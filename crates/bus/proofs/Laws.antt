@@ -9,7 +9,7 @@ use lib.ListN.{length, getD, set}
 use lib.Pow.{mod-mod-pow}
 use lib.Seq.{getD-set-same, getD-set-other}
 use Rattle.bus.specs.declared.Place.{Place}
-use Rattle.bus.specs.declared.Place.the-variants.{Dynamic, Fixed, Page, Nowhere}
+use Rattle.bus.specs.declared.Place.the-variants.{Dynamic, Static, Page, Nowhere}
 use Rattle.bus.specs.Memory.{Memory, memory, place, read, write, lost, at, peek8, poke8, dropped8, after, word, peek32, poke32, dropped32}
 use Rattle.bus.specs.Sized.{Power, Sized}
 use Rattle.bus.proofs.Places.{Inside, inside, Kept, kept-poke8, sized-kept, place-case, dropped-at}
@@ -22,7 +22,7 @@ zero-one e = omega arith
 pub read-same : (m : Memory) (q : Place) (v : ℕ) → Inside m q → lost q ≡ 0 → read (write m q v) q ≡ v
 unfolding read write lost
 read-same m (Dynamic i) v h e = getD-set-same (m .dynamic) i v 0 h
-read-same m (Fixed i) v h e = getD-set-same (m .fixed) i v 0 h
+read-same m (Static i) v h e = getD-set-same (m .sram) i v 0 h
 read-same m (Page i) v h e = getD-set-same (m .page) i v 0 h
 read-same m Nowhere v h e = let z : _≡_ {A = ℕ} 1 0 = e in absurd (omega arith)
 
@@ -30,15 +30,15 @@ read-same m Nowhere v h e = let z : _≡_ {A = ℕ} 1 0 = e in absurd (omega ari
 pub read-other : (m : Memory) (p q : Place) (v : ℕ) → (p ≡ q → lost p ≡ 1) → read (write m p v) q ≡ read m q
 unfolding read write lost
 read-other m (Dynamic i) (Dynamic j) v h = getD-set-other (m .dynamic) i j v 0 (λ e. zero-one (h (ap Dynamic (sym e))))
-read-other m (Dynamic i) (Fixed j) v h = refl
+read-other m (Dynamic i) (Static j) v h = refl
 read-other m (Dynamic i) (Page j) v h = refl
 read-other m (Dynamic i) Nowhere v h = refl
-read-other m (Fixed i) (Dynamic j) v h = refl
-read-other m (Fixed i) (Fixed j) v h = getD-set-other (m .fixed) i j v 0 (λ e. zero-one (h (ap Fixed (sym e))))
-read-other m (Fixed i) (Page j) v h = refl
-read-other m (Fixed i) Nowhere v h = refl
+read-other m (Static i) (Dynamic j) v h = refl
+read-other m (Static i) (Static j) v h = getD-set-other (m .sram) i j v 0 (λ e. zero-one (h (ap Static (sym e))))
+read-other m (Static i) (Page j) v h = refl
+read-other m (Static i) Nowhere v h = refl
 read-other m (Page i) (Dynamic j) v h = refl
-read-other m (Page i) (Fixed j) v h = refl
+read-other m (Page i) (Static j) v h = refl
 read-other m (Page i) (Page j) v h = getD-set-other (m .page) i j v 0 (λ e. zero-one (h (ap Page (sym e))))
 read-other m (Page i) Nowhere v h = refl
 read-other m Nowhere q v h = refl
@@ -68,7 +68,7 @@ peek8-other m a b v h =
 
 abbrev pub offset : Place → ℕ
 offset (Dynamic i) = i
-offset (Fixed i) = i
+offset (Static i) = i
 offset (Page i) = i
 offset Nowhere = 0
 
@@ -82,7 +82,7 @@ low12 {n} w a =
 lost-cases : (q : Place) → (lost q ≡ 1 → ⊥) → lost q ≡ 0
 unfolding lost
 lost-cases (Dynamic i) h = refl
-lost-cases (Fixed i) h = refl
+lost-cases (Static i) h = refl
 lost-cases (Page i) h = refl
 lost-cases Nowhere h = absurd (h refl)
 

@@ -6,7 +6,7 @@ use native.Mathlib.Nat.{mod-eq-of-lt}
 use native.Mathlib.Omega.{arith}
 use lib.ListN.{length, getD, set}
 use Rattle.bus.specs.declared.Place.{Place}
-use Rattle.bus.specs.declared.Place.the-variants.{Dynamic, Fixed, Page, Nowhere}
+use Rattle.bus.specs.declared.Place.the-variants.{Dynamic, Static, Page, Nowhere}
 use Rattle.bus.specs.Memory.{Memory, memory, at, read, write, lost, word, after, peek8, poke8, peek32, poke32, dropped8, dropped32}
 use Rattle.bus.specs.Sized.{Sized}
 use Rattle.bus.proofs.Places.{peek-at, poke-at, dropped-at, Kept, kept-poke8, kept-trans}
@@ -17,21 +17,21 @@ use Rattle.bus.specs.Words.{wordAt, wordPut}
 -- what a word at a place is
 abbrev pub wordOf : Memory → Place → ℕ
 wordOf m (Dynamic i) = wordAt (m .dynamic) i
-wordOf m (Fixed i) = wordAt (m .fixed) i
+wordOf m (Static i) = wordAt (m .sram) i
 wordOf m (Page i) = wordAt (m .page) i
 wordOf m Nowhere = 0
 
 -- the memory with a word at a place
 abbrev pub put : Memory → Place → ℕ → Memory
-put m (Dynamic i) v = memory (wordPut (m .dynamic) i v) (m .fixed) (m .page)
-put m (Fixed i) v = memory (m .dynamic) (wordPut (m .fixed) i v) (m .page)
-put m (Page i) v = memory (m .dynamic) (m .fixed) (wordPut (m .page) i v)
+put m (Dynamic i) v = memory (wordPut (m .dynamic) i v) (m .sram) (m .page)
+put m (Static i) v = memory (m .dynamic) (wordPut (m .sram) i v) (m .page)
+put m (Page i) v = memory (m .dynamic) (m .sram) (wordPut (m .page) i v)
 put m Nowhere v = m
 
 lost-shift : (q : Place) (k : ℕ) → lost (shift q k) ≡ lost q
 unfolding lost
 lost-shift (Dynamic i) k = refl
-lost-shift (Fixed i) k = refl
+lost-shift (Static i) k = refl
 lost-shift (Page i) k = refl
 lost-shift Nowhere k = refl
 
@@ -86,14 +86,14 @@ module _ (m : Memory) (a : ℕ) (q : Place) (e : at m a ≡ q) (s : Sized m) (h 
 bytes-word : (m : Memory) (q : Place) → word (read m q) (read m (shift q 1)) (read m (shift q 2)) (read m (shift q 3)) ≡ wordOf m q
 unfolding read word wordAt
 bytes-word m (Dynamic i) = refl
-bytes-word m (Fixed i) = refl
+bytes-word m (Static i) = refl
 bytes-word m (Page i) = refl
 bytes-word m Nowhere = refl
 
 writes-word : (m : Memory) (q : Place) (v : ℕ) → write (write (write (write m q (v / 2 ^ 24)) (shift q 1) (v / 2 ^ 16 % 256)) (shift q 2) (v / 2 ^ 8 % 256)) (shift q 3) (v % 256) ≡ put m q v
 unfolding write wordPut
 writes-word m (Dynamic i) v = refl
-writes-word m (Fixed i) v = refl
+writes-word m (Static i) v = refl
 writes-word m (Page i) v = refl
 writes-word m Nowhere v = refl
 

@@ -11,7 +11,7 @@ use lib.ListN.{length, getD}
 use lib.Pow.{pow-add, pow-pos, mod-pow-add}
 use Rattle.bits.specs.Pick.{pick}
 use Rattle.bus.specs.declared.Place.{Place}
-use Rattle.bus.specs.declared.Place.the-variants.{Dynamic, Fixed, Page, Nowhere}
+use Rattle.bus.specs.declared.Place.the-variants.{Dynamic, Static, Page, Nowhere}
 use Rattle.bus.specs.Memory.{Memory, memory, place, read, write, lost, at, peek8, poke8, dropped8}
 use Rattle.bus.specs.Sized.{Power, Sized}
 use Rattle.bus.proofs.Places.{Inside, inside}
@@ -19,7 +19,7 @@ use Rattle.bus.proofs.Places.{Inside, inside}
 -- the k-th place after a place
 abbrev pub shift : Place → ℕ → Place
 shift (Dynamic i) k = Dynamic (i + k)
-shift (Fixed i) k = Fixed (i + k)
+shift (Static i) k = Static (i + k)
 shift (Page i) k = Page (i + k)
 shift Nowhere k = Nowhere
 
@@ -60,7 +60,7 @@ place-shift {n} a k w h =
     (ltb-shift a k 0x4000_0000 h refl, ltb-shift a k 0x8000_0000 h refl, ltb-shift a k 0x8C00_0000 h refl, ltb-shift a k 0xFC0B_0000 h refl, ltb-shift a k 0xFC0B_1000 h refl)
     (shift-pick (ltb a 0x4000_0000) _ _ _ _ k refl
     (λ _. shift-pick (ltb a 0x8000_0000) _ _ _ _ k (ap Dynamic (mod-shift a k w h))
-    (λ _. shift-pick (ltb a 0x8C00_0000) _ _ _ _ k (ap Fixed (omega arith))
+    (λ _. shift-pick (ltb a 0x8C00_0000) _ _ _ _ k (ap Static (omega arith))
     (λ _. shift-pick (ltb a 0xFC0B_0000) _ _ _ _ k refl
     (λ e. shift-pick (ltb a 0xFC0B_1000) _ _ _ _ k (ap Page (omega (arith, ltb-false a 0xFC0B_0000 e))) (λ _. refl))))))
 
@@ -71,19 +71,19 @@ at-shift m a k s h = place-shift a k (s .dynamic-length) h
 -- the n places from q on are within its window
 abbrev pub Ends : Memory → Place → ℕ → Type 0
 Ends m (Dynamic i) n = i + n ≤ length (m .dynamic)
-Ends m (Fixed i) n = i + n ≤ length (m .fixed)
+Ends m (Static i) n = i + n ≤ length (m .sram)
 Ends m (Page i) n = i + n ≤ length (m .page)
 Ends m Nowhere n = Unit {0}
 
 ends-none : (m : Memory) (q : Place) → Inside m q → Ends m q 0
 ends-none m (Dynamic i) h = omega arith
-ends-none m (Fixed i) h = omega arith
+ends-none m (Static i) h = omega arith
 ends-none m (Page i) h = omega arith
 ends-none m Nowhere h = tt
 
 ends-some : (m : Memory) (q : Place) (k : ℕ) → Inside m (shift q k) → Ends m q (suc k)
 ends-some m (Dynamic i) k h = omega arith
-ends-some m (Fixed i) k h = omega arith
+ends-some m (Static i) k h = omega arith
 ends-some m (Page i) k h = omega arith
 ends-some m Nowhere k h = tt
 

@@ -12,7 +12,7 @@ use lib.ListN.{length, length-set}
 use lib.Pow.{pow-pos, pow-add}
 use Rattle.bits.specs.Pick.{pick}
 use Rattle.bus.specs.declared.Place.{Place}
-use Rattle.bus.specs.declared.Place.the-variants.{Dynamic, Fixed, Page, Nowhere}
+use Rattle.bus.specs.declared.Place.the-variants.{Dynamic, Static, Page, Nowhere}
 use Rattle.bus.specs.Memory.{Memory, memory, place, read, write, lost, at, peek8, poke8, dropped8}
 use Rattle.bus.specs.Sized.{Power, Sized, Left}
 
@@ -25,9 +25,9 @@ module _ (n a : ℕ) where
   unfolding place
   place-dynamic l h = simp (le-ltb a 0x4000_0000 l, lt-ltb a 0x8000_0000 h)
 
-  pub place-fixed : 0x8000_0000 ≤ a → a < 0x8C00_0000 → place n a ≡ Fixed (a % 65536)
+  pub place-static : 0x8000_0000 ≤ a → a < 0x8C00_0000 → place n a ≡ Static (a % 65536)
   unfolding place
-  place-fixed l h =
+  place-static l h =
       simp (le-ltb a 0x4000_0000 (omega arith), le-ltb a 0x8000_0000 l, lt-ltb a 0x8C00_0000 h)
 
   pub place-gap : 0x8C00_0000 ≤ a → a < 0xFC0B_0000 → place n a ≡ Nowhere
@@ -53,7 +53,7 @@ pick-case P true x y t f = t refl
 pick-case P false x y t f = f refl
 
 -- what holds of each place that an address can lead to holds of its place
-pub place-case : (P : Place → Type 0) (n a : ℕ) → P Nowhere → P (Dynamic (a % n)) → P (Fixed (a % 65536))
+pub place-case : (P : Place → Type 0) (n a : ℕ) → P Nowhere → P (Dynamic (a % n)) → P (Static (a % 65536))
     → (0xFC0B_0000 ≤ a → a < 0xFC0B_1000 → P (Page (a - 0xFC0B_0000))) → P (place n a)
 unfolding place
 place-case P n a none dy fi pa =
@@ -66,7 +66,7 @@ place-case P n a none dy fi pa =
 -- a place is within its window
 abbrev pub Inside : Memory → Place → Type 0
 Inside m (Dynamic i) = i < length (m .dynamic)
-Inside m (Fixed i) = i < length (m .fixed)
+Inside m (Static i) = i < length (m .sram)
 Inside m (Page i) = i < length (m .page)
 Inside m Nowhere = Unit {0}
 
@@ -81,7 +81,7 @@ pub inside : {m : Memory} → Sized m → (a : ℕ) → Inside m (at m a)
 unfolding at
 inside {m} s a =
     place-case (Inside m) (length (m .dynamic)) a tt (mod-lt a (power-pos (s .dynamic-length)))
-    (subst (λ (k : ℕ). a % 65536 < k) (sym (s .fixed-length)) (mod-lt a (lit< tt)))
+    (subst (λ (k : ℕ). a % 65536 < k) (sym (s .sram-length)) (mod-lt a (lit< tt)))
     (λ l h. omega (arith, s .page-length))
 
 -- ---- once the place of an address is known
@@ -116,29 +116,29 @@ dropped-at m a q e = lost-any 1 (length (m .dynamic)) a ∙ ap lost e
 
 pub record Kept (m m′ : Memory) : Type 0 where
   pub dynamic : length (m′ .dynamic) ≡ length (m .dynamic)
-  pub fixed : length (m′ .fixed) ≡ length (m .fixed)
+  pub sram : length (m′ .sram) ≡ length (m .sram)
   pub page : length (m′ .page) ≡ length (m .page)
 
 pub kept-refl : (m : Memory) → Kept m m
-kept-refl m = record { dynamic = refl; fixed = refl; page = refl }
+kept-refl m = record { dynamic = refl; sram = refl; page = refl }
 
 pub kept-trans : {m m′ m″ : Memory} → Kept m m′ → Kept m′ m″ → Kept m m″
 kept-trans k l =
-    record { dynamic = l .dynamic ∙ k .dynamic; fixed = l .fixed ∙ k .fixed; page = l .page ∙ k .page }
+    record { dynamic = l .dynamic ∙ k .dynamic; sram = l .sram ∙ k .sram; page = l .page ∙ k .page }
 
 pub sized-kept : {m m′ : Memory} → Kept m m′ → Sized m → Sized m′
 sized-kept k s =
     record {
       dynamic-length = subst Power (sym (k .dynamic)) (s .dynamic-length);
-      fixed-length = k .fixed ∙ s .fixed-length;
+      sram-length = k .sram ∙ s .sram-length;
       page-length = k .page ∙ s .page-length;
     }
 
 pub kept-write : (m : Memory) (q : Place) (v : ℕ) → Kept m (write m q v)
 unfolding write
-kept-write m (Dynamic i) v = record { dynamic = length-set (m .dynamic) i v; fixed = refl; page = refl }
-kept-write m (Fixed i) v = record { dynamic = refl; fixed = length-set (m .fixed) i v; page = refl }
-kept-write m (Page i) v = record { dynamic = refl; fixed = refl; page = length-set (m .page) i v }
+kept-write m (Dynamic i) v = record { dynamic = length-set (m .dynamic) i v; sram = refl; page = refl }
+kept-write m (Static i) v = record { dynamic = refl; sram = length-set (m .sram) i v; page = refl }
+kept-write m (Page i) v = record { dynamic = refl; sram = refl; page = length-set (m .page) i v }
 kept-write m Nowhere v = kept-refl m
 
 pub kept-poke8 : (m : Memory) (a v : ℕ) → Kept m (poke8 m a v)
@@ -175,15 +175,15 @@ leads n a o e =
     same : Dynamic (a % n) ≡ Dynamic o → o ≡ a % n
     same q = cc
 
-    fixed-never : (i : ℕ) → Fixed i ≡ Dynamic o → ⊥
-    fixed-never i q = let z : _≡_ {A = ℕ} 0 1 = cc in omega arith
+    sram-never : (i : ℕ) → Static i ≡ Dynamic o → ⊥
+    sram-never i q = let z : _≡_ {A = ℕ} 0 1 = cc in omega arith
 
     page-never : (i : ℕ) → Page i ≡ Dynamic o → ⊥
     page-never i q = let z : _≡_ {A = ℕ} 0 1 = cc in omega arith
 
-    others : pick (ltb a 0x8C00_0000) (Fixed (a % 65536)) (pick (ltb a 0xFC0B_0000) Nowhere (pick (ltb a 0xFC0B_1000) (Page (a - 0xFC0B_0000)) Nowhere)) ≡ Dynamic o → ⊥
+    others : pick (ltb a 0x8C00_0000) (Static (a % 65536)) (pick (ltb a 0xFC0B_0000) Nowhere (pick (ltb a 0xFC0B_1000) (Page (a - 0xFC0B_0000)) Nowhere)) ≡ Dynamic o → ⊥
     others q =
-        ⊎-elim (λ w. fixed-never _ w.1)
+        ⊎-elim (λ w. sram-never _ w.1)
         (λ w. ⊎-elim (λ v. never v.1)
         (λ v. ⊎-elim (λ u. page-never _ u.1) (λ u. never u.1) (pick-into (ltb a 0xFC0B_1000) _ _ _ v.1))
         (pick-into (ltb a 0xFC0B_0000) _ _ _ w.1))

@@ -84,11 +84,11 @@ power-is n w =
 pub is-sized : (m : Memory) → isSized m ≡ true → Sized m
 unfolding isSized
 is-sized m e =
-    let p = and-true (eqb (length (m .fixed)) 65536) (eqb (length (m .page)) 4096 && isPower (length (m .dynamic))) e in
+    let p = and-true (eqb (length (m .sram)) 65536) (eqb (length (m .page)) 4096 && isPower (length (m .dynamic))) e in
     let q = and-true (eqb (length (m .page)) 4096) (isPower (length (m .dynamic))) (p .1) in
     record {
       dynamic-length = is-power (length (m .dynamic)) (q .1);
-      fixed-length = eqb-true (length (m .fixed)) 65536 (p .0);
+      sram-length = eqb-true (length (m .sram)) 65536 (p .0);
       page-length = eqb-true (length (m .page)) 4096 (q .0);
     }
 
@@ -96,4 +96,4 @@ pub sized-is : (m : Memory) → Sized m → isSized m ≡ true
 unfolding isSized
 sized-is m s =
     simp
-    (eq-eqb (length (m .fixed)) 65536 (s .fixed-length), eq-eqb (length (m .page)) 4096 (s .page-length), power-is (length (m .dynamic)) (s .dynamic-length))
+    (eq-eqb (length (m .sram)) 65536 (s .sram-length), eq-eqb (length (m .page)) 4096 (s .page-length), power-is (length (m .dynamic)) (s .dynamic-length))

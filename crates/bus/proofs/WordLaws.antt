@@ -7,7 +7,7 @@ use mathlib.Core.List.{List, [], _∷_}
 use lib.Dec.{lit<}
 use lib.ListN.{getD, set}
 use Rattle.bus.specs.declared.Place.{Place}
-use Rattle.bus.specs.declared.Place.the-variants.{Dynamic, Fixed, Page, Nowhere}
+use Rattle.bus.specs.declared.Place.the-variants.{Dynamic, Static, Page, Nowhere}
 use Rattle.bus.specs.Memory.{Memory, read, write, lost, at, peek8, poke8, dropped8, after, word, peek32, poke32, dropped32}
 use Rattle.bus.specs.Sized.{Sized}
 use Rattle.bus.proofs.Places.{Kept, kept-refl, kept-trans, kept-poke8, sized-kept}
@@ -111,13 +111,13 @@ peek32-same m a v s h e = omega (arith, b₀, b₁, b₂, b₃)
 
 pub record Bytes (m : Memory) : Type 0 where
   pub dynamic : (i : ℕ) → getD (m .dynamic) i 0 < 256
-  pub fixed : (i : ℕ) → getD (m .fixed) i 0 < 256
+  pub sram : (i : ℕ) → getD (m .sram) i 0 < 256
   pub page : (i : ℕ) → getD (m .page) i 0 < 256
 
 pub read-lt : {m : Memory} → Bytes m → (q : Place) → read m q < 256
 unfolding read
 read-lt b (Dynamic i) = b .dynamic i
-read-lt b (Fixed i) = b .fixed i
+read-lt b (Static i) = b .sram i
 read-lt b (Page i) = b .page i
 read-lt b Nowhere = lit< tt
 
@@ -138,9 +138,9 @@ set-lt (x ∷ l) (suc i) v h k (suc j) = set-lt l i v (λ j. h (suc j)) k j
 
 pub bytes-write : {m : Memory} → Bytes m → (q : Place) (v : ℕ) → v < 256 → Bytes (write m q v)
 unfolding write
-bytes-write {m} b (Dynamic i) v k = record { dynamic = set-lt (m .dynamic) i v (b .dynamic) k; fixed = b .fixed; page = b .page }
-bytes-write {m} b (Fixed i) v k = record { dynamic = b .dynamic; fixed = set-lt (m .fixed) i v (b .fixed) k; page = b .page }
-bytes-write {m} b (Page i) v k = record { dynamic = b .dynamic; fixed = b .fixed; page = set-lt (m .page) i v (b .page) k }
+bytes-write {m} b (Dynamic i) v k = record { dynamic = set-lt (m .dynamic) i v (b .dynamic) k; sram = b .sram; page = b .page }
+bytes-write {m} b (Static i) v k = record { dynamic = b .dynamic; sram = set-lt (m .sram) i v (b .sram) k; page = b .page }
+bytes-write {m} b (Page i) v k = record { dynamic = b .dynamic; sram = b .sram; page = set-lt (m .page) i v (b .page) k }
 bytes-write b Nowhere v k = b
 
 pub bytes-poke8 : {m : Memory} → Bytes m → (a v : ℕ) → v < 256 → Bytes (poke8 m a v)

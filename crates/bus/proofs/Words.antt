@@ -6,7 +6,7 @@ use native.Mathlib.Omega.{arith}
 use lib.Dec.{lit<}
 use lib.ListN.{length, getD}
 use Rattle.bus.specs.declared.Place.{Place}
-use Rattle.bus.specs.declared.Place.the-variants.{Dynamic, Fixed, Page, Nowhere}
+use Rattle.bus.specs.declared.Place.the-variants.{Dynamic, Static, Page, Nowhere}
 use Rattle.bus.specs.Memory.{Memory, after, at, read, word, peek8, peek32, poke8, poke32, dropped8, dropped32, lost, place}
 use Rattle.bus.specs.Sized.{Sized, Left}
 use Rattle.bus.proofs.Places.{Kept, kept-trans, kept-poke8, sized-kept, place-case, place-dynamic, Leads, leads, room, peek-at}

@@ -6,16 +6,16 @@ use lib.Dec.{ltb}
 use denote.Ref.{RefT, now}
 use Rattle.bits.specs.Pick.{pick}
 use Rattle.bus.specs.declared.Place.{Place}
-use Rattle.bus.specs.declared.Place.the-variants.{Dynamic, Fixed, Page, Nowhere}
+use Rattle.bus.specs.declared.Place.the-variants.{Dynamic, Static, Page, Nowhere}
 
--- the bytes of dynamic memory, of static memory (`static` is a word of the language, so the code calls it fixed) and of the register page
+-- the bytes of dynamic memory, of static memory (`static` is a word of the language, so it is `sram`, as in the source) and of the register page
 pub record Memory : Type 0 where
   pub dynamic : List ℕ
-  pub fixed : List ℕ
+  pub sram : List ℕ
   pub page : List ℕ
 
 abbrev pub memory : List ℕ → List ℕ → List ℕ → Memory
-memory d f p = record { dynamic = d; fixed = f; page = p }
+memory d f p = record { dynamic = d; sram = f; page = p }
 
 -- what references to the three windows show
 abbrev pub shown : RefT (List ℕ) → RefT (List ℕ) → RefT (List ℕ) → Memory
@@ -26,28 +26,28 @@ unfoldable pub place : ℕ → ℕ → Place
 place n a =
     pick (ltb a 0x4000_0000) Nowhere
     (pick (ltb a 0x8000_0000) (Dynamic (a % n))
-    (pick (ltb a 0x8C00_0000) (Fixed (a % 65536))
+    (pick (ltb a 0x8C00_0000) (Static (a % 65536))
     (pick (ltb a 0xFC0B_0000) Nowhere
     (pick (ltb a 0xFC0B_1000) (Page (a - 0xFC0B_0000)) Nowhere))))
 
 -- the byte at a place
 unfoldable pub read : Memory → Place → ℕ
 read m (Dynamic i) = getD (m .dynamic) i 0
-read m (Fixed i) = getD (m .fixed) i 0
+read m (Static i) = getD (m .sram) i 0
 read m (Page i) = getD (m .page) i 0
 read m Nowhere = 0
 
 -- the memory with v at a place
 unfoldable pub write : Memory → Place → ℕ → Memory
-write m (Dynamic i) v = memory (set (m .dynamic) i v) (m .fixed) (m .page)
-write m (Fixed i) v = memory (m .dynamic) (set (m .fixed) i v) (m .page)
-write m (Page i) v = memory (m .dynamic) (m .fixed) (set (m .page) i v)
+write m (Dynamic i) v = memory (set (m .dynamic) i v) (m .sram) (m .page)
+write m (Static i) v = memory (m .dynamic) (set (m .sram) i v) (m .page)
+write m (Page i) v = memory (m .dynamic) (m .sram) (set (m .page) i v)
 write m Nowhere v = m
 
 -- how many bytes a write at a place loses
 unfoldable pub lost : Place → ℕ
 lost (Dynamic i) = 0
-lost (Fixed i) = 0
+lost (Static i) = 0
 lost (Page i) = 0
 lost Nowhere = 1
 

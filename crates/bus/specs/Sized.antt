@@ -16,7 +16,7 @@ pub record Power (n : ℕ) : Type 0 where
 
 pub record Sized (m : Memory) : Type 0 where
   pub dynamic-length : Power (length (m .dynamic))
-  pub fixed-length : length (m .fixed) ≡ 65536
+  pub sram-length : length (m .sram) ≡ 65536
   pub page-length : length (m .page) ≡ 4096
 
 -- what a function leaves in the windows: m, which is what a definition says, and is sized again
@@ -30,4 +30,4 @@ isPower n = leb 4096 n && (leb n 67108864 && eqb (bitAnd n (n - 1)) 0)
 
 -- the test for Sized (laws is-sized and sized-is)
 unfoldable pub isSized : Memory → Bool
-isSized m = eqb (length (m .fixed)) 65536 && (eqb (length (m .page)) 4096 && isPower (length (m .dynamic)))
+isSized m = eqb (length (m .sram)) 65536 && (eqb (length (m .page)) 4096 && isPower (length (m .dynamic)))

@@ -5,7 +5,7 @@ use lib.Dec.{leb}
 use lib.ListN.{length, getD, set}
 use Rattle.bits.specs.Pick.{pick}
 use Rattle.bus.specs.declared.Place.{Place}
-use Rattle.bus.specs.declared.Place.the-variants.{Dynamic, Fixed, Page, Nowhere}
+use Rattle.bus.specs.declared.Place.the-variants.{Dynamic, Static, Page, Nowhere}
 use Rattle.bus.specs.Memory.{Memory, at, word, peek32}
 
 -- the word at index i
@@ -20,7 +20,7 @@ wordPut l i v =
 -- bus.rs 463-470: the source reads a word of dynamic memory at once where it ends within the window, and any other byte by byte
 unfoldable pub shortPath : Memory → ℕ → Place → ℕ
 shortPath m a (Dynamic o) = pick (leb (o + 4) (length (m .dynamic))) (wordAt (m .dynamic) o) (peek32 m a)
-shortPath m a (Fixed i) = peek32 m a
+shortPath m a (Static i) = peek32 m a
 shortPath m a (Page i) = peek32 m a
 shortPath m a Nowhere = peek32 m a
 

@@ -12,7 +12,7 @@ use std::num::wrapping_add_u32;
 // Where an address leads: a byte of one of the windows, or nowhere.
 pub enum Place {
     Dynamic(usize),
-    Fixed(usize),
+    Static(usize),
     Page(usize),
     Nowhere,
 }
@@ -30,7 +30,7 @@ pub fn locate(n: usize, a: u32) -> Place
         return Place::Dynamic((a as usize) & mask);
     }
     if a < 0x8C00_0000 {
-        return Place::Fixed((a as usize) % 65536);
+        return Place::Static((a as usize) % 65536);
     }
     if a < 0xFC0B_0000 {
         return Place::Nowhere;
@@ -43,22 +43,22 @@ pub fn locate(n: usize, a: u32) -> Place
 }
 
 // The byte at address a.
-pub fn peek8(dynamic: &[u8], fixed: &[u8], page: &[u8], a: u32) -> u8
-    requires { ⌜ Sized (shown dynamic fixed page) ⌝ }
-    ensures { λ r. ⌜ r ≡ M.peek8 (shown (dynamic .entry) (fixed .entry) (page .entry)) a ⌝ }
+pub fn peek8(dynamic: &[u8], sram: &[u8], page: &[u8], a: u32) -> u8
+    requires { ⌜ Sized (shown dynamic sram page) ⌝ }
+    ensures { λ r. ⌜ r ≡ M.peek8 (shown (dynamic .entry) (sram .entry) (page .entry)) a ⌝ }
 {
     match locate(dynamic.len(), a) {
         Place::Dynamic(i) => dynamic[i],
-        Place::Fixed(i) => fixed[i],
+        Place::Static(i) => sram[i],
         Place::Page(i) => page[i],
         Place::Nowhere => 0,
     }
 }
 
 // Stores v at address a, and answers how many bytes were dropped.
-pub fn poke8(dynamic: &mut [u8], fixed: &mut [u8], page: &mut [u8], a: u32, v: u8) -> u32
-    requires { ⌜ Sized (shown dynamic fixed page) ⌝ }
-    ensures { λ r. ⌜ Left (shown (dynamic .exit) (fixed .exit) (page .exit)) (M.poke8 (shown (dynamic .entry) (fixed .entry) (page .entry)) a v) ⌝ }
+pub fn poke8(dynamic: &mut [u8], sram: &mut [u8], page: &mut [u8], a: u32, v: u8) -> u32
+    requires { ⌜ Sized (shown dynamic sram page) ⌝ }
+    ensures { λ r. ⌜ Left (shown (dynamic .exit) (sram .exit) (page .exit)) (M.poke8 (shown (dynamic .entry) (sram .entry) (page .entry)) a v) ⌝ }
     ensures { λ r. ⌜ r ≡ M.dropped8 a ⌝ }
 {
     match locate(dynamic.len(), a) {
@@ -66,8 +66,8 @@ pub fn poke8(dynamic: &mut [u8], fixed: &mut [u8], page: &mut [u8], a: u32, v: u
             dynamic[i] = v;
             0
         }
-        Place::Fixed(i) => {
-            fixed[i] = v;
+        Place::Static(i) => {
+            sram[i] = v;
             0
         }
         Place::Page(i) => {
@@ -105,80 +105,74 @@ pub fn put_at(s: &mut [u8], i: usize, v: u32)
 }
 
 // The word at address a, byte by byte.
-fn peek32_bytes(dynamic: &[u8], fixed: &[u8], page: &[u8], a: u32) -> u32
-    requires { ⌜ Sized (shown dynamic fixed page) ⌝ }
-    ensures { λ r. ⌜ r ≡ M.peek32 (shown (dynamic .entry) (fixed .entry) (page .entry)) a ⌝ }
+fn peek32_bytes(dynamic: &[u8], sram: &[u8], page: &[u8], a: u32) -> u32
+    requires { ⌜ Sized (shown dynamic sram page) ⌝ }
+    ensures { λ r. ⌜ r ≡ M.peek32 (shown (dynamic .entry) (sram .entry) (page .entry)) a ⌝ }
 {
-    let b0 = peek8(dynamic, fixed, page, a);
-    let b1 = peek8(dynamic, fixed, page, wrapping_add_u32(a, 1));
-    let b2 = peek8(dynamic, fixed, page, wrapping_add_u32(a, 2));
-    let b3 = peek8(dynamic, fixed, page, wrapping_add_u32(a, 3));
+    let b0 = peek8(dynamic, sram, page, a);
+    let b1 = peek8(dynamic, sram, page, wrapping_add_u32(a, 1));
+    let b2 = peek8(dynamic, sram, page, wrapping_add_u32(a, 2));
+    let b3 = peek8(dynamic, sram, page, wrapping_add_u32(a, 3));
     word(b0, b1, b2, b3)
 }
 
 // Stores v at address a, byte by byte, and answers how many bytes were dropped.
-fn poke32_bytes(dynamic: &mut [u8], fixed: &mut [u8], page: &mut [u8], a: u32, v: u32) -> u32
-    requires { ⌜ Sized (shown dynamic fixed page) ⌝ }
-    ensures { λ r. ⌜ Left (shown (dynamic .exit) (fixed .exit) (page .exit)) (M.poke32 (shown (dynamic .entry) (fixed .entry) (page .entry)) a v) ⌝ }
+fn poke32_bytes(dynamic: &mut [u8], sram: &mut [u8], page: &mut [u8], a: u32, v: u32) -> u32
+    requires { ⌜ Sized (shown dynamic sram page) ⌝ }
+    ensures { λ r. ⌜ Left (shown (dynamic .exit) (sram .exit) (page .exit)) (M.poke32 (shown (dynamic .entry) (sram .entry) (page .entry)) a v) ⌝ }
     ensures { λ r. ⌜ r ≡ M.dropped32 a ⌝ }
 {
-    let n0 = poke8(dynamic, fixed, page, a, (v / 0x100_0000) as u8);
+    let n0 = poke8(dynamic, sram, page, a, (v / 0x100_0000) as u8);
     let n1 = poke8(
         dynamic,
-        fixed,
+        sram,
         page,
         wrapping_add_u32(a, 1),
         (v / 0x1_0000 % 256) as u8,
     );
     let n2 = poke8(
         dynamic,
-        fixed,
+        sram,
         page,
         wrapping_add_u32(a, 2),
         (v / 0x100 % 256) as u8,
     );
-    let n3 = poke8(
-        dynamic,
-        fixed,
-        page,
-        wrapping_add_u32(a, 3),
-        (v % 256) as u8,
-    );
+    let n3 = poke8(dynamic, sram, page, wrapping_add_u32(a, 3), (v % 256) as u8);
     n0 + n1 + n2 + n3
 }
 
 // The word at address a: at once where it lies in one page of 4,096 bytes, since no window ends inside one.
-pub fn peek32(dynamic: &[u8], fixed: &[u8], page: &[u8], a: u32) -> u32
-    requires { ⌜ Sized (shown dynamic fixed page) ⌝ }
-    ensures { λ r. ⌜ r ≡ M.peek32 (shown (dynamic .entry) (fixed .entry) (page .entry)) a ⌝ }
+pub fn peek32(dynamic: &[u8], sram: &[u8], page: &[u8], a: u32) -> u32
+    requires { ⌜ Sized (shown dynamic sram page) ⌝ }
+    ensures { λ r. ⌜ r ≡ M.peek32 (shown (dynamic .entry) (sram .entry) (page .entry)) a ⌝ }
 {
     if 4092 < a % 4096 {
-        return peek32_bytes(dynamic, fixed, page, a);
+        return peek32_bytes(dynamic, sram, page, a);
     }
     match locate(dynamic.len(), a) {
         Place::Dynamic(i) => word_at(dynamic, i),
-        Place::Fixed(i) => word_at(fixed, i),
+        Place::Static(i) => word_at(sram, i),
         Place::Page(i) => word_at(page, i),
         Place::Nowhere => 0,
     }
 }
 
 // Stores v at address a, and answers how many bytes were dropped.
-pub fn poke32(dynamic: &mut [u8], fixed: &mut [u8], page: &mut [u8], a: u32, v: u32) -> u32
-    requires { ⌜ Sized (shown dynamic fixed page) ⌝ }
-    ensures { λ r. ⌜ Left (shown (dynamic .exit) (fixed .exit) (page .exit)) (M.poke32 (shown (dynamic .entry) (fixed .entry) (page .entry)) a v) ⌝ }
+pub fn poke32(dynamic: &mut [u8], sram: &mut [u8], page: &mut [u8], a: u32, v: u32) -> u32
+    requires { ⌜ Sized (shown dynamic sram page) ⌝ }
+    ensures { λ r. ⌜ Left (shown (dynamic .exit) (sram .exit) (page .exit)) (M.poke32 (shown (dynamic .entry) (sram .entry) (page .entry)) a v) ⌝ }
     ensures { λ r. ⌜ r ≡ M.dropped32 a ⌝ }
 {
     if 4092 < a % 4096 {
-        return poke32_bytes(dynamic, fixed, page, a, v);
+        return poke32_bytes(dynamic, sram, page, a, v);
     }
     match locate(dynamic.len(), a) {
         Place::Dynamic(i) => {
             put_at(dynamic, i, v);
             0
         }
-        Place::Fixed(i) => {
-            put_at(fixed, i, v);
+        Place::Static(i) => {
+            put_at(sram, i, v);
             0
         }
         Place::Page(i) => {
@@ -203,10 +197,10 @@ pub fn power(n: usize) -> bool
 }
 
 // Whether the windows are as long as they must be: number 1 is given where not.
-pub fn sized(dynamic: &[u8], fixed: &[u8], page: &[u8]) -> bool
-    ensures { λ r. ⌜ r ≡ isSized (shown (dynamic .entry) (fixed .entry) (page .entry)) ⌝ }
+pub fn sized(dynamic: &[u8], sram: &[u8], page: &[u8]) -> bool
+    ensures { λ r. ⌜ r ≡ isSized (shown (dynamic .entry) (sram .entry) (page .entry)) ⌝ }
 {
-    if fixed.len() != 65536 {
+    if sram.len() != 65536 {
         return false;
     }
     if page.len() != 4096 {
@@ -228,11 +222,11 @@ pub struct Poked {
 }
 
 // The byte at address a of windows of any lengths.
-pub fn checked_peek8(dynamic: &[u8], fixed: &[u8], page: &[u8], a: u32) -> Peeked
-    ensures { λ r. ⌜ r ≡ peeked (shown (dynamic .entry) (fixed .entry) (page .entry)) (M.peek8 (shown (dynamic .entry) (fixed .entry) (page .entry)) a) ⌝ }
+pub fn checked_peek8(dynamic: &[u8], sram: &[u8], page: &[u8], a: u32) -> Peeked
+    ensures { λ r. ⌜ r ≡ peeked (shown (dynamic .entry) (sram .entry) (page .entry)) (M.peek8 (shown (dynamic .entry) (sram .entry) (page .entry)) a) ⌝ }
 {
-    if sized(dynamic, fixed, page) {
-        let value = peek8(dynamic, fixed, page, a) as u32;
+    if sized(dynamic, sram, page) {
+        let value = peek8(dynamic, sram, page, a) as u32;
         return Peeked { refusal: 0, value };
     }
     Peeked {
@@ -242,11 +236,11 @@ pub fn checked_peek8(dynamic: &[u8], fixed: &[u8], page: &[u8], a: u32) -> Peeke
 }
 
 // The word at address a of windows of any lengths.
-pub fn checked_peek32(dynamic: &[u8], fixed: &[u8], page: &[u8], a: u32) -> Peeked
-    ensures { λ r. ⌜ r ≡ peeked (shown (dynamic .entry) (fixed .entry) (page .entry)) (M.peek32 (shown (dynamic .entry) (fixed .entry) (page .entry)) a) ⌝ }
+pub fn checked_peek32(dynamic: &[u8], sram: &[u8], page: &[u8], a: u32) -> Peeked
+    ensures { λ r. ⌜ r ≡ peeked (shown (dynamic .entry) (sram .entry) (page .entry)) (M.peek32 (shown (dynamic .entry) (sram .entry) (page .entry)) a) ⌝ }
 {
-    if sized(dynamic, fixed, page) {
-        let value = peek32(dynamic, fixed, page, a);
+    if sized(dynamic, sram, page) {
+        let value = peek32(dynamic, sram, page, a);
         return Peeked { refusal: 0, value };
     }
     Peeked {
@@ -256,11 +250,11 @@ pub fn checked_peek32(dynamic: &[u8], fixed: &[u8], page: &[u8], a: u32) -> Peek
 }
 
 // Stores the byte v at address a of windows of any lengths.
-pub fn checked_poke8(dynamic: &mut [u8], fixed: &mut [u8], page: &mut [u8], a: u32, v: u8) -> Poked
-    ensures { λ r. ⌜ (r ≡ poked (shown (dynamic .entry) (fixed .entry) (page .entry)) (M.dropped8 a)) × (shown (dynamic .exit) (fixed .exit) (page .exit) ≡ kept (shown (dynamic .entry) (fixed .entry) (page .entry)) (M.poke8 (shown (dynamic .entry) (fixed .entry) (page .entry)) a v)) ⌝ }
+pub fn checked_poke8(dynamic: &mut [u8], sram: &mut [u8], page: &mut [u8], a: u32, v: u8) -> Poked
+    ensures { λ r. ⌜ (r ≡ poked (shown (dynamic .entry) (sram .entry) (page .entry)) (M.dropped8 a)) × (shown (dynamic .exit) (sram .exit) (page .exit) ≡ kept (shown (dynamic .entry) (sram .entry) (page .entry)) (M.poke8 (shown (dynamic .entry) (sram .entry) (page .entry)) a v)) ⌝ }
 {
-    if sized(&*dynamic, &*fixed, &*page) {
-        let dropped = poke8(dynamic, fixed, page, a, v);
+    if sized(&*dynamic, &*sram, &*page) {
+        let dropped = poke8(dynamic, sram, page, a, v);
         return Poked {
             refusal: 0,
             dropped,
@@ -273,17 +267,11 @@ pub fn checked_poke8(dynamic: &mut [u8], fixed: &mut [u8], page: &mut [u8], a: u
 }
 
 // Stores the word v at address a of windows of any lengths.
-pub fn checked_poke32(
-    dynamic: &mut [u8],
-    fixed: &mut [u8],
-    page: &mut [u8],
-    a: u32,
-    v: u32,
-) -> Poked
-    ensures { λ r. ⌜ (r ≡ poked (shown (dynamic .entry) (fixed .entry) (page .entry)) (M.dropped32 a)) × (shown (dynamic .exit) (fixed .exit) (page .exit) ≡ kept (shown (dynamic .entry) (fixed .entry) (page .entry)) (M.poke32 (shown (dynamic .entry) (fixed .entry) (page .entry)) a v)) ⌝ }
+pub fn checked_poke32(dynamic: &mut [u8], sram: &mut [u8], page: &mut [u8], a: u32, v: u32) -> Poked
+    ensures { λ r. ⌜ (r ≡ poked (shown (dynamic .entry) (sram .entry) (page .entry)) (M.dropped32 a)) × (shown (dynamic .exit) (sram .exit) (page .exit) ≡ kept (shown (dynamic .entry) (sram .entry) (page .entry)) (M.poke32 (shown (dynamic .entry) (sram .entry) (page .entry)) a v)) ⌝ }
 {
-    if sized(&*dynamic, &*fixed, &*page) {
-        let dropped = poke32(dynamic, fixed, page, a, v);
+    if sized(&*dynamic, &*sram, &*page) {
+        let dropped = poke32(dynamic, sram, page, a, v);
         return Poked {
             refusal: 0,
             dropped,

@@ -3,7 +3,7 @@ use mathlib.Core.Path.{sym, ap, _∙_}
 use native.Mathlib.Omega.{arith}
 use borrow.Author.Needs.{needs}
 use Rattle.bus.specs.declared.Place.the-variants.{Dynamic}
-use Rattle.bus.proofs.Places.{place-low, place-dynamic, place-fixed, place-gap, place-page, place-high, power-pos, masked}
+use Rattle.bus.proofs.Places.{place-low, place-dynamic, place-static, place-gap, place-page, place-high, power-pos, masked}
 use Rattle.bus.proofs.locate.Statement.{statement}
 use Rattle.bus.proofs.locate.Tie as tie
 
@@ -17,7 +17,7 @@ returns-2 : tie.Need-returns-2
 returns-2 c = ap Dynamic (masked (c .before .before .pre) _) ∙ sym (place-dynamic _ _ (search needs) (search needs))
 
 returns-3 : tie.Need-returns-3
-returns-3 c = sym (place-fixed _ _ (search needs) (search needs))
+returns-3 c = sym (place-static _ _ (search needs) (search needs))
 
 returns-4 : tie.Need-returns-4
 returns-4 c = sym (place-gap _ _ (search needs) (search needs))

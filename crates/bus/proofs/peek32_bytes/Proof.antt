@@ -33,7 +33,7 @@ returns : tie.Need-returns
 unfolding after
 returns c =
     let start = c .before .before .before .before .before .before .before .before .before .before .before in
-    peek32-steps (shown (start .args .dynamic) (start .args .fixed) (start .args .page)) (start .args .a)
+    peek32-steps (shown (start .args .dynamic) (start .args .sram) (start .args .page)) (start .args .a)
     (c .before .before .before .before .before .before .before .peek8 .ensures)
     (c .before .before .before .before .before .before .wrapping-add-u32 .ensures)
     (c .before .before .before .before .before .peek82 .ensures)

@@ -13,7 +13,7 @@ abbrev start : tie.After-locate → tie.Start
 start c = c .before .before .before .before
 
 abbrev mem : tie.After-locate → Memory
-mem c = memory (now (start c .args .dynamic)) (now (start c .args .fixed)) (now (start c .args .page))
+mem c = memory (now (start c .args .dynamic)) (now (start c .args .sram)) (now (start c .args .page))
 
 -- the place that an arm knows is the address's
 led : (c : tie.After-locate) (q : Place) → c .locate .result ≡ q → at (mem c) (start c .args .a) ≡ q

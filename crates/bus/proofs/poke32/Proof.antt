@@ -18,7 +18,7 @@ abbrev start : tie.After-locate → tie.Start
 start c = c .before .before .before .before .before
 
 abbrev mem : tie.After-locate → Memory
-mem c = memory (now (start c .args .dynamic)) (now (start c .args .fixed)) (now (start c .args .page))
+mem c = memory (now (start c .args .dynamic)) (now (start c .args .sram)) (now (start c .args .page))
 
 -- the place that an arm knows is the address's
 led : (c : tie.After-locate) (q : Place) → c .locate .result ≡ q → at (mem c) (start c .args .a) ≡ q
@@ -83,7 +83,7 @@ returns-2 c =
     let k = c .before .before .before .before .before in
     let l = k .before .before in
     let e = led l _ (k .i .given .1) in
-    (left (start l .pre) (kept-poke32 _ _ _) (ap (λ (x : List ℕ). memory x (now (start l .args .fixed)) (now (start l .args .page))) (c .before .before .put-at .ensures) ∙ sym (poke-word (mem l) _ _ e (start l .pre) (l .before .if1 .left) (start l .fits .a .fits) _)), sym (dropped-word (mem l) _ _ e (start l .pre) (l .before .if1 .left) (start l .fits .a .fits)))
+    (left (start l .pre) (kept-poke32 _ _ _) (ap (λ (x : List ℕ). memory x (now (start l .args .sram)) (now (start l .args .page))) (c .before .before .put-at .ensures) ∙ sym (poke-word (mem l) _ _ e (start l .pre) (l .before .if1 .left) (start l .fits .a .fits) _)), sym (dropped-word (mem l) _ _ e (start l .pre) (l .before .if1 .left) (start l .fits .a .fits)))
 
 same-length-5 : tie.Need-same-length-5
 same-length-5 c = search needs
@@ -105,7 +105,7 @@ returns-4 c =
     let k = c .before .before .before .before .before in
     let l = k .before .before in
     let e = led l _ (k .i3 .given .1) in
-    (left (start l .pre) (kept-poke32 _ _ _) (ap (λ (x : List ℕ). memory (now (start l .args .dynamic)) (now (start l .args .fixed)) x) (c .before .before .put-at3 .ensures) ∙ sym (poke-word (mem l) _ _ e (start l .pre) (l .before .if1 .left) (start l .fits .a .fits) _)), sym (dropped-word (mem l) _ _ e (start l .pre) (l .before .if1 .left) (start l .fits .a .fits)))
+    (left (start l .pre) (kept-poke32 _ _ _) (ap (λ (x : List ℕ). memory (now (start l .args .dynamic)) (now (start l .args .sram)) x) (c .before .before .put-at3 .ensures) ∙ sym (poke-word (mem l) _ _ e (start l .pre) (l .before .if1 .left) (start l .fits .a .fits) _)), sym (dropped-word (mem l) _ _ e (start l .pre) (l .before .if1 .left) (start l .fits .a .fits)))
 
 returns-5 : tie.Need-returns-5
 unfolding lost

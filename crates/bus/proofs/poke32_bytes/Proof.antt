@@ -30,7 +30,7 @@ abbrev start : Last → tie.Start
 start c = p1 c .before .before .before .before .before .before .before
 
 abbrev mem : Last → Memory
-mem c = memory (now (start c .args .dynamic)) (now (start c .args .fixed)) (now (start c .args .page))
+mem c = memory (now (start c .args .dynamic)) (now (start c .args .sram)) (now (start c .args .page))
 
 abbrev exit : Last → Memory
 exit c = memory (p4 c .poke84 .last .0) (p4 c .poke84 .last .1 .0) (p4 c .poke84 .last .1 .1 .0)
@@ -116,7 +116,7 @@ same-length : tie.Need-same-length
 same-length c = ap (λ (m : Memory). length (m .dynamic)) (stored c) ∙ kept-poke32 _ _ _ .dynamic
 
 same-length-2 : tie.Need-same-length-2
-same-length-2 c = ap (λ (m : Memory). length (m .fixed)) (stored c) ∙ kept-poke32 _ _ _ .fixed
+same-length-2 c = ap (λ (m : Memory). length (m .sram)) (stored c) ∙ kept-poke32 _ _ _ .sram
 
 same-length-3 : tie.Need-same-length-3
 same-length-3 c = ap (λ (m : Memory). length (m .page)) (stored c) ∙ kept-poke32 _ _ _ .page

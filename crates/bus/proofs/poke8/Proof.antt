@@ -12,7 +12,7 @@ abbrev start : tie.After-locate → tie.Start
 start c = c .before .before .before .before
 
 abbrev mem : tie.After-locate → Memory
-mem c = memory (now (start c .args .dynamic)) (now (start c .args .fixed)) (now (start c .args .page))
+mem c = memory (now (start c .args .dynamic)) (now (start c .args .sram)) (now (start c .args .page))
 
 -- the place that an arm knows is the address's
 led : (c : tie.After-locate) (q : Place) → c .locate .result ≡ q → at (mem c) (start c .args .a) ≡ q
@@ -33,8 +33,8 @@ slice-write-dynamic c =
 enum-known-i-2 : tie.Need-enum-known-i-2
 enum-known-i-2 c = search needs
 
-slice-write-fixed : tie.Need-slice-write-fixed
-slice-write-fixed c =
+slice-write-sram : tie.Need-slice-write-sram
+slice-write-sram c =
     let l = c .before .before .before in
     inside-at (mem l) _ _ (led l _ (c .before .i2 .given .1)) (start l .pre)
 
@@ -94,7 +94,7 @@ poke8-spec =
     enum-known-i
     slice-write-dynamic
     enum-known-i-2
-    slice-write-fixed
+    slice-write-sram
     enum-known-i-3
     slice-write-page
     enum-told
