@@ -7,3 +7,4 @@ pub mod PageWords
 pub mod Sizes
 pub mod Registers
 pub mod Edges
+pub mod Storing

@@ -1,6 +1,6 @@
 -- Words of one window by index, and that a word of the register page is the word of memory at its address, read and written.
 use Prim.Native.Nat.{ℕ, _+_, _-_, _*_, _/_, _%_, _^_, _<_, _≤_}
-use mathlib.Core.List.{List}
+use mathlib.Core.List.{List, []}
 use mathlib.Core.Logic.{_⊎_, inl, inr, ⊎-elim}
 use mathlib.Core.Path.{_≡_, refl, sym, ap, _∙_}
 use native.Mathlib.Omega.{arith}
@@ -9,9 +9,9 @@ use lib.ListN.{length, getD, set, length-set}
 use lib.Seq.{getD-set-same, getD-set-other}
 use Rattle.bus.specs.declared.Place.{Place}
 use Rattle.bus.specs.declared.Place.the-variants.{Page}
-use Rattle.bus.specs.Memory.{Memory, memory, read, write, at, after, word, peek32, poke8, poke32}
+use Rattle.bus.specs.Memory.{Memory, memory, read, write, lost, at, after, word, peek32, poke8, poke32, dropped32}
 use Rattle.bus.specs.Words.{wordAt, wordPut}
-use Rattle.bus.proofs.Places.{place-page, peek-at, poke-at}
+use Rattle.bus.proofs.Places.{place-page, peek-at, poke-at, dropped-at}
 use Rattle.bus.proofs.WordLaws.{set-lt}
 
 pub length-put : (l : List ℕ) (i v : ℕ) → length (wordPut l i v) ≡ length l
@@ -155,3 +155,13 @@ poke32-register d f p k v h =
 
     p₂ : List ℕ
     p₂ = set p₁ (k + 2) v₂
+
+-- no byte of a register is dropped
+pub dropped-register : (k : ℕ) → k + 4 ≤ 4096 → dropped32 (0xFC0B_0000 + k) ≡ 0
+unfolding dropped32 lost
+dropped-register k h =
+    omega
+    (arith, dropped-at any (0xFC0B_0000 + k) (Page k) (page-at any k (omega arith)), dropped-at any (after (0xFC0B_0000 + k) 1) (Page (k + 1)) (page-after any k 1 (omega arith)), dropped-at any (after (0xFC0B_0000 + k) 2) (Page (k + 2)) (page-after any k 2 (omega arith)), dropped-at any (after (0xFC0B_0000 + k) 3) (Page (k + 3)) (page-after any k 3 (omega arith)))
+  where
+    any : Memory
+    any = memory [] [] []

@@ -4,8 +4,10 @@ use native.Mathlib.Omega.{arith}
 use mathlib.Core.Bool.{Bool}
 use mathlib.Core.List.{List, [], _∷_, _++_}
 use mathlib.Core.Path.{_≡_}
+use Rattle.bits.specs.Pick.{pick}
 use Rattle.bus.specs.Memory.{Memory, poke8, poke32, dropped8, dropped32}
-use Rattle.bus.specs.Steps.{replay, replay-append}
+use Rattle.bus.specs.Sized.{Sized}
+use Rattle.bus.specs.Steps.{replay, replay-append, exec, andThen}
 
 -- the windows, and the interrupt line's flag (`usb_irq`)
 pub record Bus : Type 0 where
@@ -47,3 +49,34 @@ dropped-append (s ∷ ss) us = omega (arith, dropped-append ss us)
 
 pub stored-append : (ss us : List Store) (b : Bus) → stored (ss ++ us) b ≡ stored us (stored ss b)
 stored-append ss us b = replay-append store ss us b
+
+-- ---- steps
+
+-- what a step does to the bus
+abbrev pub BusStep : Type 0
+BusStep = Bus → List Store
+
+infixr 20 _then_
+abbrev pub _then_ : BusStep → BusStep → BusStep
+f then g = andThen store f g
+
+unfoldable pub nothing : BusStep
+nothing b = []
+
+-- a word at an address
+unfoldable pub putting : ℕ → ℕ → BusStep
+putting a v b = word a v ∷ []
+
+-- a value is read from memory as it stands, once, and the step goes on with it
+abbrev pub reading : {A : Type 0} → (Memory → A) → (A → BusStep) → BusStep
+reading get f b = f (get (b .memory)) b
+
+unfoldable pub when : Bool → BusStep → BusStep
+when t f b = pick t (f b) []
+
+-- what a function promises that stores on the bus: the bus it leaves is the replay of its step, the windows keep their lengths,
+-- and it answers how many bytes no window took
+pub record Does (f : BusStep) (b b′ : Bus) (lost : ℕ) : Type 0 where
+  pub is : b′ ≡ exec store f b
+  pub sized : Sized (b′ .memory)
+  pub counted : lost ≡ droppedBy (f b)

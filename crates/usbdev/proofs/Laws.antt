@@ -12,9 +12,10 @@ use Rattle.bus.specs.Memory.{Memory, memory}
 use Rattle.bus.specs.Steps.{replay, exec-then}
 use Rattle.bus.specs.Stores as S
 use Rattle.bus.specs.Words.{wordPut}
-use Rattle.bus.proofs.Registers.{poke32-register}
+use Rattle.bus.specs.Sized.{Sized}
+use Rattle.bus.proofs.Registers.{poke32-register, dropped-register}
 use Rattle.usbdev.specs.Access.{fits, refusal, clearsByOne}
-use Rattle.usbdev.specs.Registers.{Registers, registers, PageStore, put, irq, store, onBus, PageStep, done, _then_, following, lineOf}
+use Rattle.usbdev.specs.Registers.{Registers, registers, PageStore, put, irq, store, onBus, PageStep, lifted, done, _then_, following, lineOf}
 
 -- a bound on where an access ends as one on where it starts
 pub within : (off size last : ℕ) → last + size ≡ 4096 → leb (off + size) 4096 ≡ leb off last
@@ -82,3 +83,19 @@ on-bus [] d f p l h = refl
 on-bus (put o v ∷ ss) d f p l h =
     ap (λ (m : Memory). S.stored (map onBus ss) (S.bus m l)) (poke32-register d f p o v (h .0)) ∙ on-bus ss d f (wordPut p o v) l (h .1)
 on-bus (irq k ∷ ss) d f p l h = on-bus ss d f p k h
+
+none-dropped : (ss : List PageStore) → Inside ss → 0 ≡ S.droppedBy (map onBus ss)
+unfolding onBus S.droppedBy S.dropped
+none-dropped [] h = refl
+none-dropped (put o v ∷ ss) h = omega (arith, dropped-register o (h .0), none-dropped ss (h .1))
+none-dropped (irq l ∷ ss) h = omega (arith, none-dropped ss h)
+
+-- a function on the registers, as one on the bus
+pub does-page : (f : PageStep) (d s p p′ : List ℕ) (l l′ : Bool) → Inside (f (registers p l)) → registers p′ l′ ≡ done f (registers p l) → Sized (memory d s p′)
+    → S.Does (lifted f) (S.bus (memory d s p) l) (S.bus (memory d s p′) l′) 0
+does-page f d s p p′ l l′ h e z =
+    record {
+      is = ap (λ (r : Registers). S.bus (memory d s (r .page)) (r .line)) e ∙ sym (on-bus (f (registers p l)) d s p l h);
+      sized = z;
+      counted = none-dropped (f (registers p l)) h;
+    }

@@ -1,7 +1,7 @@
 -- The register page with the interrupt line's flag, what a step on them does as the list of its stores, the line and `raise`.
 use Prim.Native.Nat.{ℕ, _+_, _/_, _^_}
 use mathlib.Core.Bool.{Bool, _||_}
-use mathlib.Core.List.{List, [], _∷_}
+use mathlib.Core.List.{List, [], _∷_, map}
 use lib.Bits.{bitAnd}
 use Rattle.bits.specs.Word.{set, any}
 use Rattle.bus.specs.Stores as S
@@ -31,9 +31,12 @@ unfoldable pub onBus : PageStore → S.Store
 onBus (put o v) = S.word (BASE + o) v
 onBus (irq l) = S.irq l
 
--- what a step does to the registers
+-- what a step does to the registers, and the same step on the bus
 abbrev pub PageStep : Type 0
 PageStep = Registers → List PageStore
+
+abbrev pub lifted : PageStep → S.BusStep
+lifted f b = map onBus (f (registers (b .memory .page) (b .line)))
 
 -- the registers after a step
 abbrev pub done : PageStep → Registers → Registers
