@@ -1,14 +1,16 @@
 -- How the promises of functions that store on the bus compose.
 use Prim.Native.Nat.{ℕ, _+_}
 use mathlib.Core.Bool.{Bool, true, false}
-use mathlib.Core.List.{List}
+use mathlib.Core.List.{List, [], _∷_}
 use mathlib.Core.Path.{_≡_, refl, sym, ap, ap₂, subst, _∙_}
 use native.Mathlib.Omega.{arith}
 use Rattle.bits.specs.Pick.{pick}
 use Rattle.bus.specs.Memory.{Memory, poke8, poke32, dropped8, dropped32}
 use Rattle.bus.specs.Sized.{Sized, Left}
 use Rattle.bus.specs.Steps.{exec, andThen, exec-then}
-use Rattle.bus.specs.Stores.{Bus, bus, Store, store, dropped, droppedBy, dropped-append, BusStep, _then_, nothing, putting, reading, when, Does}
+use Rattle.bus.proofs.Places.{Kept, kept-refl, kept-trans, kept-poke8}
+use Rattle.bus.proofs.Words.{kept-poke32}
+use Rattle.bus.specs.Stores.{Bus, bus, Store, word, byte, irq, store, stored, dropped, droppedBy, dropped-append, BusStep, _then_, nothing, putting, reading, when, Does}
 
 -- one step after the other
 pub does-then : {f g : BusStep} {b b₁ b₂ : Bus} {d e : ℕ} → Does f b b₁ d → Does g b₁ b₂ e → Does (f then g) b b₂ (d + e)
@@ -56,3 +58,21 @@ does-as {f} {g} {b} {b′} {d} e p =
       sized = p .sized;
       counted = p .counted ∙ ap droppedBy e;
     }
+
+-- a list of stores keeps the windows' lengths
+kept-store : (s : Store) (b : Bus) → Kept (b .memory) (store s b .memory)
+unfolding store
+kept-store (word a v) b = kept-poke32 (b .memory) a v
+kept-store (byte a v) b = kept-poke8 (b .memory) a v
+kept-store (irq l) b = kept-refl (b .memory)
+
+pub kept-stored : (ss : List Store) (b : Bus) → Kept (b .memory) (stored ss b .memory)
+kept-stored [] b = kept-refl (b .memory)
+kept-stored (s ∷ ss) b = kept-trans (kept-store s b) (kept-stored ss (store s b))
+
+pub does-kept : {f : BusStep} {b b′ : Bus} {d : ℕ} → Does f b b′ d → Kept (b .memory) (b′ .memory)
+does-kept {f} {b} p = subst (λ (x : Bus). Kept (b .memory) (x .memory)) (sym (p .is)) (kept-stored (f b) b)
+
+-- the same count by another name
+pub does-counted : {f : BusStep} {b b′ : Bus} {d e : ℕ} → d ≡ e → Does f b b′ d → Does f b b′ e
+does-counted h p = record { is = p .is; sized = p .sized; counted = sym h ∙ p .counted }

@@ -3,7 +3,7 @@ use Prim.Native.Nat.{ℕ, zero, suc, _+_, _-_, _%_, _≤_, _<_}
 use mathlib.Core.Bool.{Bool, true, false, _&&_, _||_}
 use mathlib.Core.List.{List, [], _∷_, map}
 use mathlib.Core.Logic.{_⊎_, inl, inr, ⊎-elim}
-use mathlib.Core.Path.{_≡_, refl, sym, ap, _∙_}
+use mathlib.Core.Path.{_≡_, refl, sym, ap, subst, _∙_}
 use native.Mathlib.Omega.{arith}
 use borrow.Author.Tests.{eqb-true, ne-eqb, le-leb, lt-leb, leb-true, leb-false}
 use lib.Dec.{eqb, leb}
@@ -13,7 +13,9 @@ use Rattle.bus.specs.Steps.{replay, exec-then}
 use Rattle.bus.specs.Stores as S
 use Rattle.bus.specs.Words.{wordPut}
 use Rattle.bus.specs.Sized.{Sized}
+use Rattle.bus.proofs.Places.{sized-kept}
 use Rattle.bus.proofs.Registers.{poke32-register, dropped-register}
+use Rattle.bus.proofs.Storing.{kept-stored}
 use Rattle.usbdev.specs.Access.{fits, refusal, clearsByOne}
 use Rattle.usbdev.specs.Registers.{Registers, registers, PageStore, put, irq, store, onBus, PageStep, lifted, done, _then_, following, lineOf}
 
@@ -91,11 +93,12 @@ none-dropped (put o v ∷ ss) h = omega (arith, dropped-register o (h .0), none-
 none-dropped (irq l ∷ ss) h = omega (arith, none-dropped ss h)
 
 -- a function on the registers, as one on the bus
-pub does-page : (f : PageStep) (d s p p′ : List ℕ) (l l′ : Bool) → Inside (f (registers p l)) → registers p′ l′ ≡ done f (registers p l) → Sized (memory d s p′)
+pub does-page : (f : PageStep) (d s p p′ : List ℕ) (l l′ : Bool) → Inside (f (registers p l)) → registers p′ l′ ≡ done f (registers p l) → Sized (memory d s p)
     → S.Does (lifted f) (S.bus (memory d s p) l) (S.bus (memory d s p′) l′) 0
 does-page f d s p p′ l l′ h e z =
+    let after = ap (λ (r : Registers). S.bus (memory d s (r .page)) (r .line)) e ∙ sym (on-bus (f (registers p l)) d s p l h) in
     record {
-      is = ap (λ (r : Registers). S.bus (memory d s (r .page)) (r .line)) e ∙ sym (on-bus (f (registers p l)) d s p l h);
-      sized = z;
+      is = after;
+      sized = subst (λ (b : S.Bus). Sized (b .memory)) (sym after) (sized-kept (kept-stored (map onBus (f (registers p l))) (S.bus (memory d s p) l)) z);
       counted = none-dropped (f (registers p l)) h;
     }
