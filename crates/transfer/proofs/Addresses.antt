@@ -1,0 +1,76 @@
+-- The address of a byte: the code's form is the source's, and within a page the addresses follow each other.
+use Prim.Native.Nat.{ℕ, zero, suc, _+_, _-_, _*_, _/_, _%_, _^_, _<_, _≤_}
+use mathlib.Core.Bool.{Bool, true, false}
+use mathlib.Core.List.{List, [], _∷_}
+use mathlib.Core.Path.{_≡_, refl, sym, ap, _∙_}
+use native.Mathlib.Omega.{arith}
+use borrow.Author.Tests.{ltb-true, ltb-false}
+use lib.Bits.{bitAnd, and-mask, and-high}
+use lib.Dec.{ltb, lit<}
+use lib.ListN.{getD}
+use Rattle.bits.specs.Pick.{pick}
+use Rattle.bits.specs.Word.{clear}
+use Rattle.bus.specs.Memory.{Memory, after, peek32}
+use Rattle.bus.proofs.WordLaws.{Bytes, peek32-lt}
+use Rattle.transfer.specs.Transfer.{pointers, sourceAddr, dataAddr}
+
+-- a pointer with its low 12 bits cleared
+cleared : (p : ℕ) → p < 2 ^ 32 → clear p 0xFFF ≡ p / 4096 * 4096
+cleared p h = omega (arith, and-high p 20 12)
+
+by-test : (t : Bool) (x y z : ℕ) → (t ≡ true → x ≡ z) → (t ≡ false → y ≡ z) → pick t x y ≡ z
+by-test true x y z f g = f refl
+by-test false x y z f g = g refl
+
+-- the code's form of an address is the source's
+pub addr-source : (ps : List ℕ) (k : ℕ) → ((i : ℕ) → getD ps i 0 < 2 ^ 32) → sourceAddr ps k ≡ dataAddr ps k
+unfolding sourceAddr dataAddr
+addr-source ps k h =
+    by-test (ltb k first) _ _ _ (λ e. before (ltb-true k first e)) (λ e. behind (ltb-false k first e))
+  where
+    p0 : ℕ
+    p0 = getD ps 0 0
+
+    first : ℕ
+    first = 4096 - bitAnd p0 0xFFF
+
+    low : bitAnd p0 0xFFF ≡ p0 % 4096
+    low = and-mask p0 12
+
+    x : ℕ
+    x = p0 % 4096 + k
+
+    before : k < first → p0 + k ≡ getD ps (x / 4096) 0 / 4096 * 4096 + x % 4096
+    before less = omega (arith, low, ap (λ (i : ℕ). getD ps i 0 / 4096) here)
+      where
+        here : x / 4096 ≡ 0
+        here = omega (arith, low)
+
+    behind : first ≤ k → clear (getD ps (1 + (k - first) / 4096) 0) 0xFFF + (k - first) % 4096 ≡ getD ps (x / 4096) 0 / 4096 * 4096 + x % 4096
+    behind more =
+        omega (arith, low, cleared (getD ps (1 + (k - first) / 4096) 0) (h (1 + (k - first) / 4096)), ap (λ (i : ℕ). getD ps i 0 / 4096) there)
+      where
+        there : 1 + (k - first) / 4096 ≡ x / 4096
+        there = omega (arith, low)
+
+-- words are below 2^32, and so are the pointers of memory that holds bytes
+pub pointers-lt : {m : Memory} → Bytes m → (td i : ℕ) → getD (pointers m td) i 0 < 2 ^ 32
+unfolding pointers
+pointers-lt b td zero = peek32-lt b _
+pointers-lt b td (suc zero) = peek32-lt b _
+pointers-lt b td (suc (suc zero)) = peek32-lt b _
+pointers-lt b td (suc (suc (suc zero))) = peek32-lt b _
+pointers-lt b td (suc (suc (suc (suc zero)))) = peek32-lt b _
+pointers-lt b td (suc (suc (suc (suc (suc zero))))) = peek32-lt b _
+pointers-lt b td (suc (suc (suc (suc (suc (suc zero)))))) = peek32-lt b _
+pointers-lt b td (suc (suc (suc (suc (suc (suc (suc zero))))))) = peek32-lt b _
+pointers-lt b td (suc (suc (suc (suc (suc (suc (suc (suc zero)))))))) = peek32-lt b _
+pointers-lt b td (suc (suc (suc (suc (suc (suc (suc (suc (suc i))))))))) = lit< tt
+
+-- within a page the addresses of a transfer follow each other
+pub addr-shift : (ps : List ℕ) (i k : ℕ) → dataAddr ps i % 4096 + k < 4096 → dataAddr ps (i + k) ≡ dataAddr ps i + k
+unfolding dataAddr
+addr-shift ps i k h = omega (arith, ap (λ (x : ℕ). getD ps x 0 / 4096) same)
+  where
+    same : (getD ps 0 0 % 4096 + (i + k)) / 4096 ≡ (getD ps 0 0 % 4096 + i) / 4096
+    same = omega arith

@@ -1,0 +1,6 @@
+pub mod Laws
+pub mod Addresses
+pub mod Sending
+pub mod Fill
+pub mod Runs
+pub mod Loops
