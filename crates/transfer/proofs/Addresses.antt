@@ -4,7 +4,7 @@ use mathlib.Core.Bool.{Bool, true, false}
 use mathlib.Core.List.{List, [], _∷_}
 use mathlib.Core.Path.{_≡_, refl, sym, ap, _∙_}
 use native.Mathlib.Omega.{arith}
-use borrow.Author.Tests.{ltb-true, ltb-false}
+use borrow.Author.Tests.{le-leb, ltb-true, ltb-false}
 use lib.Bits.{bitAnd, and-mask, and-high}
 use lib.Dec.{ltb, lit<}
 use lib.ListN.{getD}
@@ -12,7 +12,8 @@ use Rattle.bits.specs.Pick.{pick}
 use Rattle.bits.specs.Word.{clear}
 use Rattle.bus.specs.Memory.{Memory, after, peek32}
 use Rattle.bus.proofs.WordLaws.{Bytes, peek32-lt}
-use Rattle.transfer.specs.Transfer.{pointers, sourceAddr, dataAddr}
+use Rattle.transfer.specs.Transfer.{pointers, pointersFor, sourceAddr, dataAddr}
+use Rattle.transfer.proofs.Laws.{getD-tabulate}
 
 -- a pointer with its low 12 bits cleared
 cleared : (p : ℕ) → p < 2 ^ 32 → clear p 0xFFF ≡ p / 4096 * 4096
@@ -74,3 +75,44 @@ addr-shift ps i k h = omega (arith, ap (λ (x : ℕ). getD ps x 0 / 4096) same)
   where
     same : (getD ps 0 0 % 4096 + (i + k)) / 4096 ≡ (getD ps 0 0 % 4096 + i) / 4096
     same = omega arith
+
+-- ---- the pointers that a total uses
+
+-- pointer i of nine
+pub pointer-at : (m : Memory) (td i : ℕ) → i < 9 → getD (pointers m td) i 0 ≡ peek32 m (after td (8 + 4 * i))
+unfolding pointers
+pointer-at m td zero h = refl
+pointer-at m td (suc zero) h = refl
+pointer-at m td (suc (suc zero)) h = refl
+pointer-at m td (suc (suc (suc zero))) h = refl
+pointer-at m td (suc (suc (suc (suc zero)))) h = refl
+pointer-at m td (suc (suc (suc (suc (suc zero))))) h = refl
+pointer-at m td (suc (suc (suc (suc (suc (suc zero)))))) h = refl
+pointer-at m td (suc (suc (suc (suc (suc (suc (suc zero))))))) h = refl
+pointer-at m td (suc (suc (suc (suc (suc (suc (suc (suc zero)))))))) h = refl
+pointer-at m td (suc (suc (suc (suc (suc (suc (suc (suc (suc i))))))))) h = absurd (omega arith)
+
+-- a pointer to a page that begins by the data's end is read
+for-at : (m : Memory) (td total i : ℕ) → i < 9 → 4096 * i ≤ peek32 m (after td 8) % 4096 + total → getD (pointersFor m td total) i 0 ≡ getD (pointers m td) i 0
+unfolding pointersFor
+for-at m td total i h used =
+    getD-tabulate 9 _ i 0 h ∙ simp (le-leb (4096 * i) (peek32 m (after td 8) % 4096 + total) used) (sym (pointer-at m td i h))
+
+-- the first total bytes have the same addresses by the pointers that the total uses
+pub addr-for : (m : Memory) (td total k : ℕ) → total ≤ 32767 → k < total → dataAddr (pointersFor m td total) k ≡ dataAddr (pointers m td) k
+unfolding dataAddr
+addr-for m td total k few less =
+    ap (λ (p : ℕ). by p (getD (pointersFor m td total) ((p % 4096 + k) / 4096) 0)) first
+    ∙ ap (λ (p : ℕ). by (getD (pointers m td) 0 0) p) (for-at m td total (x / 4096) (omega arith) (omega (arith, start)))
+  where
+    by : ℕ → ℕ → ℕ
+    by p q = q / 4096 * 4096 + (p % 4096 + k) % 4096
+
+    x : ℕ
+    x = getD (pointers m td) 0 0 % 4096 + k
+
+    start : getD (pointers m td) 0 0 ≡ peek32 m (after td 8)
+    start = pointer-at m td 0 (lit< tt)
+
+    first : getD (pointersFor m td total) 0 0 ≡ getD (pointers m td) 0 0
+    first = for-at m td total 0 (lit< tt) (omega arith)

@@ -4,3 +4,5 @@ pub mod Sending
 pub mod Fill
 pub mod Runs
 pub mod Loops
+pub mod Checked
+pub mod Few

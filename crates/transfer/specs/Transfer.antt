@@ -2,12 +2,17 @@
 use Prim.Native.Nat.{ℕ, zero, suc, _+_, _-_, _*_, _/_, _%_}
 use mathlib.Core.List.{List, [], _∷_, _++_}
 use lib.Bits.{bitAnd}
-use lib.Dec.{ltb}
+use lib.Dec.{leb, ltb}
 use lib.ListN.{getD, take, drop}
 use Rattle.bits.specs.Pick.{pick}
 use Rattle.bits.specs.Word.{clear}
 use Rattle.bus.specs.Memory.{Memory, after, peek8, peek32, poke8, dropped8}
 use Rattle.bus.specs.Stores.{Store, byte, BusStep}
+
+-- the list of f 0, f 1, .., f (n - 1)
+unfoldable pub tabulate : ℕ → (ℕ → ℕ) → List ℕ
+tabulate zero f = []
+tabulate (suc n) f = f zero ∷ tabulate n (λ k. f (suc k))
 
 -- 559, 566: the nine page pointers of the dTD at td, as many as a total of 32,767 bytes can use
 unfoldable pub pointers : Memory → ℕ → List ℕ
@@ -15,6 +20,11 @@ pointers m td =
     peek32 m (after td 8) ∷ peek32 m (after td 12) ∷ peek32 m (after td 16) ∷ peek32 m (after td 20)
     ∷ peek32 m (after td 24) ∷ peek32 m (after td 28) ∷ peek32 m (after td 32) ∷ peek32 m (after td 36)
     ∷ peek32 m (after td 40) ∷ []
+
+-- the same list without the pointers to pages that begin behind the data's end: 0 stands for those, and no byte of the first total needs one (laws addr-for, bytes-for, sending-for)
+unfoldable pub pointersFor : Memory → ℕ → ℕ → List ℕ
+pointersFor m td total =
+    tabulate 9 (λ i. pick (leb (4096 * i) (peek32 m (after td 8) % 4096 + total)) (peek32 m (after td (8 + 4 * i))) 0)
 
 -- 560-568: the address of byte k in the source's own words: up to its page's end behind the first pointer, then by whole pages
 unfoldable pub sourceAddr : List ℕ → ℕ → ℕ
@@ -28,11 +38,6 @@ unfoldable pub dataAddr : List ℕ → ℕ → ℕ
 dataAddr ps k =
     let x = getD ps 0 0 % 4096 + k in
     getD ps (x / 4096) 0 / 4096 * 4096 + x % 4096
-
--- the list of f 0, f 1, .., f (n - 1)
-unfoldable pub tabulate : ℕ → (ℕ → ℕ) → List ℕ
-tabulate zero f = []
-tabulate (suc n) f = f zero ∷ tabulate n (λ k. f (suc k))
 
 -- 571-575: the first n bytes that the device sends
 unfoldable pub bytesIn : Memory → List ℕ → ℕ → List ℕ

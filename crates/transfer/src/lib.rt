@@ -6,12 +6,16 @@ ghost use lib.ListN.{length};
 ghost use Rattle.bus.specs.Memory.{shown};
 ghost use Rattle.bus.specs.Memory as M;
 ghost use Rattle.bus.specs.Sized.{Sized, Left};
-ghost use Rattle.bus.specs.Stores.{bus, Does};
+ghost use Rattle.bus.specs.Steps.{exec};
+ghost use Rattle.bus.specs.Stores.{bus, store, Does};
 ghost use Rattle.transfer.specs.Transfer as T;
 ghost use Rattle.transfer.specs.Pages as P;
+ghost use Rattle.transfer.specs.Checked as C;
 use bus::Place;
+use bus::Poked;
 use bus::locate;
 use bus::peek32;
+use bus::sized;
 use std::num::wrapping_add_u32;
 
 // The nine page pointers of the dTD at td.
@@ -29,6 +33,30 @@ pub fn pointers(dynamic: &[u8], sram: &[u8], page: &[u8], td: u32) -> [u32; 9]
     let p7 = peek32(dynamic, sram, page, wrapping_add_u32(td, 36));
     let p8 = peek32(dynamic, sram, page, wrapping_add_u32(td, 40));
     [p0, p1, p2, p3, p4, p5, p6, p7, p8]
+}
+
+// The page pointers that the first total bytes of the dTD at td use; an entry that is not read is 0.
+pub fn pointers_for(dynamic: &[u8], sram: &[u8], page: &[u8], td: u32, total: usize) -> [u32; 9]
+    requires { ⌜ Sized (shown dynamic sram page) ⌝ }
+    requires { ⌜ total ≤ 32767 ⌝ }
+    ensures { λ r. ⌜ r ≡ T.pointersFor (shown (dynamic .entry) (sram .entry) (page .entry)) td total ⌝ }
+{
+    let p0 = peek32(dynamic, sram, page, wrapping_add_u32(td, 8));
+    let end = (p0 % 4096) as usize + total;
+    let mut ps = [0u32; 9];
+    ps[0] = p0;
+    let mut i = 1;
+    while 4096 * i <= end {
+        let p = peek32(
+            dynamic,
+            sram,
+            page,
+            wrapping_add_u32(td, 8 + 4 * (i as u32)),
+        );
+        ps[i] = p;
+        i += 1;
+    }
+    ps
 }
 
 // Byte x of the page that p points to.
@@ -183,4 +211,68 @@ pub fn copy_out(
         i += run;
     }
     lost
+}
+
+// The number that refuses a move of n bytes from index at on of an area of size bytes, 0 where it is accepted.
+fn refusal(dynamic: &[u8], sram: &[u8], page: &[u8], at: usize, n: usize, size: usize) -> u8
+    ensures { λ r. ⌜ r ≡ C.refusal (shown (dynamic .entry) (sram .entry) (page .entry)) at n size ⌝ }
+{
+    if !sized(dynamic, sram, page) {
+        return 1;
+    }
+    if 32767 < n {
+        return 2;
+    }
+    if size < n {
+        return 2;
+    }
+    if size - n < at {
+        return 2;
+    }
+    0
+}
+
+// Copies the first n bytes of a transfer to out, from index at on, for windows and an area of any lengths; answers 0 or the number of its refusal.
+pub fn checked_copy_in(
+    dynamic: &[u8],
+    sram: &[u8],
+    page: &[u8],
+    pointers: &[u32; 9],
+    n: usize,
+    out: &mut [u8],
+    at: usize,
+) -> u8
+    ensures { λ r. ⌜ (r ≡ C.refusal (shown (dynamic .entry) (sram .entry) (page .entry)) at n (length (now (out .entry)))) × (now (out .exit) ≡ C.checkedReceived (shown (dynamic .entry) (sram .entry) (page .entry)) (now (pointers .entry)) n (now (out .entry)) at) ⌝ }
+{
+    let number = refusal(dynamic, sram, page, at, n, out.len());
+    if number != 0 {
+        return number;
+    }
+    copy_in(dynamic, sram, page, pointers, n, out, at);
+    0
+}
+
+// Writes the first n bytes of source to windows of any lengths; answers how many were dropped, or the number of its refusal.
+pub fn checked_copy_out(
+    dynamic: &mut [u8],
+    sram: &mut [u8],
+    page: &mut [u8],
+    pointers: &[u32; 9],
+    source: &[u8],
+    n: usize,
+) -> Poked
+    ensures { λ r. ⌜ (r ≡ C.sent (shown (dynamic .entry) (sram .entry) (page .entry)) (now (pointers .entry)) (now (source .entry)) n) × ((l : Bool) → bus (shown (dynamic .exit) (sram .exit) (page .exit)) l ≡ exec store (C.checkedSending (now (pointers .entry)) (now (source .entry)) n) (bus (shown (dynamic .entry) (sram .entry) (page .entry)) l)) ⌝ }
+{
+    let number = refusal(&*dynamic, &*sram, &*page, 0, n, source.len());
+    if number != 0 {
+        return Poked {
+            refusal: number,
+            dropped: 0,
+        };
+    }
+    let dropped = copy_out(dynamic, sram, page, pointers, source, n);
+    Poked {
+        refusal: 0,
+        dropped,
+    }
 }
