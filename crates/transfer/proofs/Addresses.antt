@@ -11,9 +11,10 @@ use lib.ListN.{getD}
 use Rattle.bits.specs.Pick.{pick}
 use Rattle.bits.specs.Word.{clear}
 use Rattle.bus.specs.Memory.{Memory, after, peek32}
+use Rattle.bus.specs.Stores.{Bus}
 use Rattle.bus.proofs.WordLaws.{Bytes, peek32-lt}
-use Rattle.transfer.specs.Transfer.{pointers, pointersFor, sourceAddr, dataAddr}
-use Rattle.transfer.proofs.Laws.{getD-tabulate}
+use Rattle.transfer.specs.Transfer.{pointers, pointersFor, sourceAddr, dataAddr, bytesIn, bytesFrom, received, sending}
+use Rattle.transfer.proofs.Laws.{getD-tabulate, bytes-same, from-same, received-same, sending-same}
 
 -- a pointer with its low 12 bits cleared
 cleared : (p : ℕ) → p < 2 ^ 32 → clear p 0xFFF ≡ p / 4096 * 4096
@@ -116,3 +117,18 @@ addr-for m td total k few less =
 
     first : getD (pointersFor m td total) 0 0 ≡ getD (pointers m td) 0 0
     first = for-at m td total 0 (lit< tt) (omega arith)
+
+module _ (m : Memory) (td total : ℕ) (few : total ≤ 32767) where
+  pub bytes-for : (m′ : Memory) (n : ℕ) → n ≤ total → bytesIn m′ (pointersFor m td total) n ≡ bytesIn m′ (pointers m td) n
+  bytes-for m′ n h = bytes-same (pointersFor m td total) (pointers m td) total (λ k less. addr-for m td total k few less) m′ n h
+
+  pub from-for : (m′ : Memory) (s n : ℕ) → s + n ≤ total → bytesFrom m′ (pointersFor m td total) s n ≡ bytesFrom m′ (pointers m td) s n
+  from-for m′ s n h = from-same (pointersFor m td total) (pointers m td) total (λ k less. addr-for m td total k few less) m′ s n h
+
+  pub received-for : (m′ : Memory) (n : ℕ) (out : List ℕ) (at : ℕ) → n ≤ total
+      → received m′ (pointersFor m td total) n out at ≡ received m′ (pointers m td) n out at
+  received-for m′ n out at h =
+      received-same (pointersFor m td total) (pointers m td) total (λ k less. addr-for m td total k few less) m′ n out at h
+
+  pub sending-for : (s : List ℕ) (n : ℕ) (b : Bus) → n ≤ total → sending (pointersFor m td total) s n b ≡ sending (pointers m td) s n b
+  sending-for s n b h = sending-same (pointersFor m td total) (pointers m td) total (λ k less. addr-for m td total k few less) s n b h

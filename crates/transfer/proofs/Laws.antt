@@ -1,15 +1,17 @@
 -- The laws of a transfer's definitions: lengths, elements, and the bytes from one on as a part of all.
 use Prim.Native.Nat.{ℕ, zero, suc, _+_, _<_, _≤_}
-use mathlib.Core.List.{List, [], _∷_}
-use mathlib.Core.Path.{_≡_, refl, sym, ap, subst, _∙_}
+use mathlib.Core.List.{List, [], _∷_, _++_}
+use mathlib.Core.Path.{_≡_, refl, sym, ap, ap₂, subst, _∙_}
 use native.Mathlib.Nat.{not-suc-le-zero, le-of-suc-le-suc, le-refl, le-of-eq}
 use native.Mathlib.Omega.{arith}
-use lib.ListN.{length, getD, take, drop, length-drop}
+use lib.ListN.{length, getD, take, drop, length-append, length-drop}
 use lib.Seq.{ext-getD, getD-take, getD-drop, length-take-le, take-all}
 use Rattle.bus.specs.Memory.{Memory, peek8, dropped8}
 use Rattle.bus.proofs.Places.{Kept, kept-refl, kept-trans, kept-poke8}
+use Rattle.bus.specs.Stores.{Bus, Store, byte}
 use Rattle.bus.proofs.Words.{dropped8-le}
-use Rattle.transfer.specs.Transfer.{dataAddr, tabulate, bytesIn, bytesFrom, written, droppedOut}
+use Rattle.bus.proofs.WordLaws.{Bytes, peek8-lt, bytes-poke8}
+use Rattle.transfer.specs.Transfer.{dataAddr, tabulate, bytesIn, bytesFrom, received, stores, sending, written, droppedOut}
 
 pub length-tabulate : (n : ℕ) (f : ℕ → ℕ) → length (tabulate n f) ≡ n
 unfolding tabulate
@@ -67,6 +69,26 @@ module _ (m : Memory) (ps : List ℕ) where
   from-first n =
       from-in 0 n n (omega arith) ∙ take-all n (bytesIn m ps n) (le-of-eq (length-bytesIn n))
 
+  -- fewer bytes are the first of more
+  pub in-take : (n total : ℕ) → n ≤ total → bytesIn m ps n ≡ take n (bytesIn m ps total)
+  in-take n total h = sym (from-first n) ∙ from-in 0 n total (omega arith)
+
+  -- an area keeps its length
+  pub length-received : (n : ℕ) (out : List ℕ) (at : ℕ) → at + n ≤ length out → length (received m ps n out at) ≡ length out
+  unfolding received
+  length-received n out at h =
+      let room : length (take at out) ≡ at = length-take-le at out (omega arith) in
+      simp (length-append, room, length-drop, length-bytesIn) (omega arith)
+
+  -- what memory holds is bytes, and so is what is read
+  pub bytes-in-lt : Bytes m → (n i : ℕ) → i < n → getD (bytesIn m ps n) i 0 < 256
+  bytes-in-lt b n i h = subst (λ (x : ℕ). x < 256) (sym (getD-bytesIn n i h)) (peek8-lt b (dataAddr ps i))
+
+  pub bytes-written : Bytes m → (s : List ℕ) → ((i : ℕ) → getD s i 0 < 256) → (n : ℕ) → Bytes (written m ps s n)
+  unfolding written
+  bytes-written b s h zero = b
+  bytes-written b s h (suc n) = bytes-poke8 (bytes-written b s h n) (dataAddr ps n) (getD s n 0) (h n)
+
   pub kept-written : (s : List ℕ) (n : ℕ) → Kept m (written m ps s n)
   unfolding written
   kept-written s zero = kept-refl m
@@ -76,3 +98,28 @@ pub dropped-le : (ps : List ℕ) (n : ℕ) → droppedOut ps n ≤ n
 unfolding droppedOut
 dropped-le ps zero = le-refl 0
 dropped-le ps (suc n) = omega (arith, dropped-le ps n, dropped8-le (dataAddr ps n))
+
+-- ---- lists of pointers that give the same addresses give the same bytes and the same stores
+
+module _ (ps qs : List ℕ) (total : ℕ) (same : (k : ℕ) → k < total → dataAddr ps k ≡ dataAddr qs k) where
+  pub bytes-same : (m : Memory) (n : ℕ) → n ≤ total → bytesIn m ps n ≡ bytesIn m qs n
+  unfolding bytesIn
+  bytes-same m n h = tabulate-same n _ _ (λ k b. ap (peek8 m) (same k (omega arith)))
+
+  pub from-same : (m : Memory) (s n : ℕ) → s + n ≤ total → bytesFrom m ps s n ≡ bytesFrom m qs s n
+  unfolding bytesFrom
+  from-same m s n h = tabulate-same n _ _ (λ k b. ap (peek8 m) (same (s + k) (omega arith)))
+
+  pub received-same : (m : Memory) (n : ℕ) (out : List ℕ) (at : ℕ) → n ≤ total → received m ps n out at ≡ received m qs n out at
+  unfolding received
+  received-same m n out at h = ap (λ (l : List ℕ). take at out ++ l ++ drop (at + n) out) (bytes-same m n h)
+
+  stores-same : (s : List ℕ) (k n : ℕ) → k + n ≤ total → stores ps s k n ≡ stores qs s k n
+  unfolding stores
+  stores-same s k zero h = refl
+  stores-same s k (suc n) h =
+      ap₂ (λ (a : ℕ) (l : List Store). byte a (getD s k 0) ∷ l) (same k (omega arith)) (stores-same s (suc k) n (omega arith))
+
+  pub sending-same : (s : List ℕ) (n : ℕ) (b : Bus) → n ≤ total → sending ps s n b ≡ sending qs s n b
+  unfolding sending
+  sending-same s n b h = stores-same s 0 n (omega arith)

@@ -6,3 +6,4 @@ pub mod Runs
 pub mod Loops
 pub mod Checked
 pub mod Few
+pub mod Examples
