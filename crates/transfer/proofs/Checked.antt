@@ -14,8 +14,8 @@ use Rattle.bus.specs.Sized.{Sized, isSized}
 use Rattle.bus.specs.Steps.{exec}
 use Rattle.bus.specs.Stores.{Bus, bus, store, droppedBy, when, Does}
 use Rattle.bus.proofs.Sizes.{is-sized, and-true}
-use Rattle.transfer.specs.Transfer.{received, stores, sending}
-use Rattle.transfer.specs.Checked.{refusal, fits, checkedReceived, checkedSending, sent}
+use Rattle.transfer.specs.Transfer.{bytesFrom, received, stores, sending}
+use Rattle.transfer.specs.Checked.{refusal, fits, checkedReceived, checkedFrom, checkedSending, sent}
 
 -- a choice among three numbers that gives 0
 none-of : (a b : Bool) → pick {A = ℕ} a (pick b 0 2) 1 ≡ 0 → (a ≡ true) × (b ≡ true)
@@ -63,6 +63,15 @@ module _ (m : Memory) (ps : List ℕ) (n : ℕ) (out : List ℕ) (at : ℕ) wher
   pub received-done : refusal m at n (length out) ≡ 0 → checkedReceived m ps n out at ≡ received m ps n out at
   unfolding checkedReceived
   received-done e = simp (eq-eqb (refusal m at n (length out)) 0 e)
+
+module _ (m : Memory) (ps : List ℕ) (s : ℕ) (out : List ℕ) where
+  pub from-not : (refusal m s (length out) 32767 ≡ 0 → ⊥) → out ≡ checkedFrom m ps s out
+  unfolding checkedFrom
+  from-not h = simp (ne-eqb (refusal m s (length out) 32767) 0 h)
+
+  pub from-done : refusal m s (length out) 32767 ≡ 0 → checkedFrom m ps s out ≡ bytesFrom m ps s (length out)
+  unfolding checkedFrom
+  from-done e = simp (eq-eqb (refusal m s (length out) 32767) 0 e)
 
 -- ---- out
 

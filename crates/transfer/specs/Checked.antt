@@ -9,7 +9,7 @@ use Rattle.bus.specs.declared.Poked.{Poked}
 use Rattle.bus.specs.Memory.{Memory}
 use Rattle.bus.specs.Sized.{isSized}
 use Rattle.bus.specs.Stores.{BusStep, droppedBy, when}
-use Rattle.transfer.specs.Transfer.{received, stores, sending}
+use Rattle.transfer.specs.Transfer.{bytesFrom, received, stores, sending}
 
 -- a count is at most a total's largest, and an area of size bytes has that many from index at on
 abbrev pub fits : ℕ → ℕ → ℕ → Bool
@@ -22,6 +22,10 @@ refusal m at n size = pick (isSized m) (pick (fits at n size) 0 2) 1
 -- the area after a move in
 unfoldable pub checkedReceived : Memory → List ℕ → ℕ → List ℕ → ℕ → List ℕ
 checkedReceived m ps n out at = pick (eqb (refusal m at n (length out)) 0) (received m ps n out at) out
+
+-- the area after a move in of the bytes from byte s on, which lie below a total's largest
+unfoldable pub checkedFrom : Memory → List ℕ → ℕ → List ℕ → List ℕ
+checkedFrom m ps s out = pick (eqb (refusal m s (length out) 32767) 0) (bytesFrom m ps s (length out)) out
 
 -- what a move out does to the bus
 unfoldable pub checkedSending : List ℕ → List ℕ → ℕ → BusStep

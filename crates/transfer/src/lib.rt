@@ -252,6 +252,25 @@ pub fn checked_copy_in(
     0
 }
 
+// Fills out with the bytes of a transfer from byte start on, for windows and an area of any lengths; answers 0 or the number of its refusal.
+pub fn checked_copy_part(
+    dynamic: &[u8],
+    sram: &[u8],
+    page: &[u8],
+    pointers: &[u32; 9],
+    start: usize,
+    out: &mut [u8],
+) -> u8
+    ensures { λ r. ⌜ (r ≡ C.refusal (shown (dynamic .entry) (sram .entry) (page .entry)) start (length (now (out .entry))) 32767) × (now (out .exit) ≡ C.checkedFrom (shown (dynamic .entry) (sram .entry) (page .entry)) (now (pointers .entry)) start (now (out .entry))) ⌝ }
+{
+    let number = refusal(dynamic, sram, page, start, out.len(), 32767);
+    if number != 0 {
+        return number;
+    }
+    copy_part(dynamic, sram, page, pointers, start, out);
+    0
+}
+
 // Writes the first n bytes of source to windows of any lengths; answers how many were dropped, or the number of its refusal.
 pub fn checked_copy_out(
     dynamic: &mut [u8],
