@@ -1,7 +1,7 @@
 -- The address of a byte: the code's form is the source's, and within a page the addresses follow each other.
 use Prim.Native.Nat.{ℕ, zero, suc, _+_, _-_, _*_, _/_, _%_, _^_, _<_, _≤_}
 use mathlib.Core.Bool.{Bool, true, false}
-use mathlib.Core.List.{List, [], _∷_}
+use mathlib.Core.List.{List}
 use mathlib.Core.Path.{_≡_, refl, sym, ap, _∙_}
 use native.Mathlib.Omega.{arith}
 use borrow.Author.Tests.{le-leb, ltb-true, ltb-false}
@@ -55,6 +55,10 @@ addr-source ps k h =
         there : 1 + (k - first) / 4096 ≡ x / 4096
         there = omega (arith, low)
 
+-- nine pointers are enough: the page of each byte of a total of at most 32,767 is one of theirs
+pub page-lt : (p k : ℕ) → k ≤ 32766 → 1 + (k - (4096 - bitAnd p 0xFFF)) / 4096 < 9
+page-lt p k h = omega (arith, and-mask p 12)
+
 -- words are below 2^32, and so are the pointers of memory that holds bytes
 pub pointers-lt : {m : Memory} → Bytes m → (td i : ℕ) → getD (pointers m td) i 0 < 2 ^ 32
 unfolding pointers
@@ -102,7 +106,7 @@ for-at m td total i h used =
 -- the first total bytes have the same addresses by the pointers that the total uses
 pub addr-for : (m : Memory) (td total k : ℕ) → total ≤ 32767 → k < total → dataAddr (pointersFor m td total) k ≡ dataAddr (pointers m td) k
 unfolding dataAddr
-addr-for m td total k few less =
+addr-for m td total k bound less =
     ap (λ (p : ℕ). by p (getD (pointersFor m td total) ((p % 4096 + k) / 4096) 0)) first
     ∙ ap (λ (p : ℕ). by (getD (pointers m td) 0 0) p) (for-at m td total (x / 4096) (omega arith) (omega (arith, start)))
   where
@@ -118,17 +122,18 @@ addr-for m td total k few less =
     first : getD (pointersFor m td total) 0 0 ≡ getD (pointers m td) 0 0
     first = for-at m td total 0 (lit< tt) (omega arith)
 
-module _ (m : Memory) (td total : ℕ) (few : total ≤ 32767) where
+-- so what moves is the same, whatever memory it moves to or from
+module _ (m : Memory) (td total : ℕ) (bound : total ≤ 32767) where
   pub bytes-for : (m′ : Memory) (n : ℕ) → n ≤ total → bytesIn m′ (pointersFor m td total) n ≡ bytesIn m′ (pointers m td) n
-  bytes-for m′ n h = bytes-same (pointersFor m td total) (pointers m td) total (λ k less. addr-for m td total k few less) m′ n h
+  bytes-for m′ n h = bytes-same (pointersFor m td total) (pointers m td) total (λ k less. addr-for m td total k bound less) m′ n h
 
   pub from-for : (m′ : Memory) (s n : ℕ) → s + n ≤ total → bytesFrom m′ (pointersFor m td total) s n ≡ bytesFrom m′ (pointers m td) s n
-  from-for m′ s n h = from-same (pointersFor m td total) (pointers m td) total (λ k less. addr-for m td total k few less) m′ s n h
+  from-for m′ s n h = from-same (pointersFor m td total) (pointers m td) total (λ k less. addr-for m td total k bound less) m′ s n h
 
   pub received-for : (m′ : Memory) (n : ℕ) (out : List ℕ) (at : ℕ) → n ≤ total
       → received m′ (pointersFor m td total) n out at ≡ received m′ (pointers m td) n out at
   received-for m′ n out at h =
-      received-same (pointersFor m td total) (pointers m td) total (λ k less. addr-for m td total k few less) m′ n out at h
+      received-same (pointersFor m td total) (pointers m td) total (λ k less. addr-for m td total k bound less) m′ n out at h
 
   pub sending-for : (s : List ℕ) (n : ℕ) (b : Bus) → n ≤ total → sending (pointersFor m td total) s n b ≡ sending (pointers m td) s n b
-  sending-for s n b h = sending-same (pointersFor m td total) (pointers m td) total (λ k less. addr-for m td total k few less) s n b h
+  sending-for s n b h = sending-same (pointersFor m td total) (pointers m td) total (λ k less. addr-for m td total k bound less) s n b h

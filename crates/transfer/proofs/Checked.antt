@@ -1,20 +1,19 @@
 -- Which moves are accepted, and what is left of those that are not.
 use Prim.Native.Nat.{ℕ, _+_, _<_, _≤_}
-use mathlib.Core.Bool.{Bool, true, false, _&&_}
+use mathlib.Core.Bool.{Bool, true, false}
 use mathlib.Core.List.{List}
-use mathlib.Core.Path.{_≡_, refl, sym, ap, _∙_}
+use mathlib.Core.Path.{_≡_, refl}
 use native.Mathlib.Omega.{arith}
 use borrow.Author.Tests.{le-leb, lt-leb, leb-true, eq-eqb, ne-eqb}
-use lib.Dec.{eqb, leb}
+use lib.Dec.{leb}
 use lib.ListN.{length}
 use Rattle.bits.specs.Pick.{pick}
-use Rattle.bus.specs.declared.Poked.{Poked}
 use Rattle.bus.specs.Memory.{Memory}
 use Rattle.bus.specs.Sized.{Sized, isSized}
 use Rattle.bus.specs.Steps.{exec}
-use Rattle.bus.specs.Stores.{Bus, bus, store, droppedBy, when, Does}
+use Rattle.bus.specs.Stores.{bus, store, droppedBy, when, Does}
 use Rattle.bus.proofs.Sizes.{is-sized, and-true}
-use Rattle.transfer.specs.Transfer.{bytesFrom, received, stores, sending}
+use Rattle.transfer.specs.Transfer.{bytesFrom, received, sending}
 use Rattle.transfer.specs.Checked.{refusal, fits, checkedReceived, checkedFrom, checkedSending, sent}
 
 -- a choice among three numbers that gives 0

@@ -1,12 +1,12 @@
 -- The laws of a transfer's definitions: lengths, elements, and the bytes from one on as a part of all.
 use Prim.Native.Nat.{ℕ, zero, suc, _+_, _<_, _≤_}
-use mathlib.Core.List.{List, [], _∷_, _++_}
+use mathlib.Core.List.{List, _∷_, _++_}
 use mathlib.Core.Path.{_≡_, refl, sym, ap, ap₂, subst, _∙_}
 use native.Mathlib.Nat.{not-suc-le-zero, le-of-suc-le-suc, le-refl, le-of-eq}
 use native.Mathlib.Omega.{arith}
 use lib.ListN.{length, getD, take, drop, length-append, length-drop}
 use lib.Seq.{ext-getD, getD-take, getD-drop, length-take-le, take-all}
-use Rattle.bus.specs.Memory.{Memory, peek8, dropped8}
+use Rattle.bus.specs.Memory.{Memory, peek8}
 use Rattle.bus.proofs.Places.{Kept, kept-refl, kept-trans, kept-poke8}
 use Rattle.bus.specs.Stores.{Bus, Store, byte}
 use Rattle.bus.proofs.Words.{dropped8-le}

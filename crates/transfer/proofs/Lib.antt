@@ -5,5 +5,5 @@ pub mod Fill
 pub mod Runs
 pub mod Loops
 pub mod Checked
-pub mod Few
+pub mod PointerLoop
 pub mod Examples

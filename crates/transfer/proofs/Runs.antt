@@ -1,17 +1,17 @@
 -- A run of bytes within a page is a part of one window.
-use Prim.Native.Nat.{ℕ, zero, suc, _+_, _*_, _-_, _/_, _%_, _^_, _<_, _≤_}
-use mathlib.Core.List.{List, [], _∷_, _++_, append-assoc}
+use Prim.Native.Nat.{ℕ, zero, suc, _+_, _*_, _-_, _%_, _<_, _≤_}
+use mathlib.Core.List.{List, _++_, append-assoc}
 use mathlib.Core.Path.{_≡_, refl, sym, ap, subst, _∙_}
 use native.Mathlib.Nat.{mul-zero, mul-one}
 use native.Mathlib.Omega.{arith}
-use lib.ListN.{length, getD, set, take, drop, length-take, length-drop}
+use lib.ListN.{length, getD, take, drop, length-drop}
 use lib.Seq.{ext-getD, getD-take, getD-drop, length-take-le, paste, paste-zero, paste-suc, take-length}
 use borrow.Rule.Slice.PartMut.{putMid, post-is}
 use Rattle.bus.specs.declared.Place.{Place}
 use Rattle.bus.specs.declared.Place.the-variants.{Dynamic, Static, Page, Nowhere}
-use Rattle.bus.specs.Memory.{Memory, memory, place, read, write, lost, at, peek8, poke8, dropped8}
-use Rattle.bus.specs.Sized.{Power, Sized}
-use Rattle.bus.proofs.Places.{Inside, inside, peek-at, poke-at, dropped-at, Kept, kept-refl, kept-trans, kept-poke8}
+use Rattle.bus.specs.Memory.{Memory, memory, place, read, write, at, peek8}
+use Rattle.bus.specs.Sized.{Sized}
+use Rattle.bus.proofs.Places.{Inside, inside, peek-at, poke-at, Kept, kept-refl, kept-trans, kept-poke8}
 use Rattle.bus.proofs.Laws.{at-kept}
 use Rattle.transfer.specs.Transfer.{tabulate}
 use Rattle.transfer.proofs.Laws.{length-tabulate, getD-tabulate}

@@ -6,7 +6,7 @@ use mathlib.Core.Path.{_≡_, refl, sym, ap, _∙_}
 use native.Mathlib.Nat.{add-zero, zero-add}
 use native.Mathlib.Omega.{arith}
 use lib.ListN.{getD}
-use Rattle.bus.specs.Memory.{Memory, poke8, dropped8}
+use Rattle.bus.specs.Memory.{Memory}
 use Rattle.bus.specs.Sized.{Left}
 use Rattle.bus.specs.Steps.{exec}
 use Rattle.bus.specs.Stores.{Bus, bus, Store, byte, store, stored, stored-append, dropped, droppedBy, dropped-append, Does}

@@ -1,8 +1,8 @@
 -- `transfer::clear` meets its contract. The invariant: the first i bytes are 0. The measure is what is left. Assumes nothing.
-use Prim.Native.Nat.{ℕ, _-_, _≤_, zero-le}
-use mathlib.Core.Path.{_≡_, refl, _∙_}
+use Prim.Native.Nat.{_-_, _≤_, zero-le}
+use mathlib.Core.Path.{_≡_, refl}
 use borrow.Author.Needs.{needs}
-use lib.ListN.{length, getD, length-set}
+use lib.ListN.{length, length-set}
 use Rattle.transfer.proofs.Fill.{Filled, fill-none, fill-turn, fill-all}
 use Rattle.transfer.proofs.clear.Statement.{statement}
 use Rattle.transfer.proofs.clear.Tie as tie

@@ -1,5 +1,5 @@
 -- `transfer::copy` meets its contract. The invariant: the first i bytes are those of source. The measure is what is left. Assumes nothing.
-use Prim.Native.Nat.{ℕ, _-_, _≤_, zero-le}
+use Prim.Native.Nat.{_-_, _≤_, zero-le}
 use mathlib.Core.Path.{_≡_, refl, _∙_}
 use borrow.Author.Needs.{needs}
 use lib.ListN.{length, getD, length-set}

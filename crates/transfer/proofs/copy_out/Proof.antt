@@ -1,5 +1,5 @@
 -- `transfer::copy_out` meets its contract. The invariant: memory is what it was with the first i bytes written, is sized, and lost counts those that were dropped. The measure is what is left. Assumes nothing.
-use Prim.Native.Nat.{ℕ, _+_, _-_, _≤_, zero-le}
+use Prim.Native.Nat.{_+_, _-_, _≤_, zero-le}
 use mathlib.Core.Path.{_≡_, refl, ap, _∙_}
 use native.Mathlib.Omega.{arith}
 use borrow.Author.Needs.{needs}

@@ -1,5 +1,5 @@
 -- `transfer::copy_part` meets its contract. The invariant: out is what it was with its first i bytes copied in. The measure is what is left. Assumes nothing.
-use Prim.Native.Nat.{ℕ, _+_, _-_, _≤_, zero-le}
+use Prim.Native.Nat.{_-_, _≤_, zero-le}
 use mathlib.Core.Path.{_≡_, refl, ap, _∙_}
 use native.Mathlib.Omega.{arith}
 use borrow.Author.Needs.{needs}

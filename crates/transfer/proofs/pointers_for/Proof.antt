@@ -3,13 +3,13 @@ use Prim.Native.Nat.{_-_, _≤_}
 use native.Mathlib.Omega.{arith}
 use borrow.Author.Needs.{needs}
 use Rattle.bus.specs.Memory.{memory, after}
-use Rattle.transfer.proofs.Few.{Few, few-first, few-turn, few-all}
+use Rattle.transfer.proofs.PointerLoop.{Partial, partial-first, partial-turn, partial-all}
 use Rattle.transfer.proofs.pointers_for.Statement.{statement}
 use Rattle.transfer.proofs.pointers_for.Tie as tie
 
 abbrev Inv-loop : tie.InvT-loop
 Inv-loop dynamic sram page td total p0 end ps₀ i₀ ps i =
-    (1 ≤ i) × (i ≤ 9) × Few (memory dynamic sram page) td total ps i
+    (1 ≤ i) × (i ≤ 9) × Partial (memory dynamic sram page) td total ps i
 
 abbrev μ-loop : tie.MeasureT-loop
 μ-loop dynamic sram page td total p0 end ps₀ i₀ ps i = 9 - i
@@ -32,7 +32,7 @@ array-write-ps c = search needs
 loop-holds : tie.Need-loop-holds Inv-loop μ-loop
 unfolding after
 loop-holds c =
-    (omega arith, omega arith, few-first _ _ _ _ _ (c .before .wrapping-add-u32 .ensures) (c .peek32 .ensures))
+    (omega arith, omega arith, partial-first _ _ _ _ _ (c .before .wrapping-add-u32 .ensures) (c .peek32 .ensures))
 
 mul-loop : tie.Need-mul-loop Inv-loop μ-loop
 mul-loop c = search needs
@@ -68,13 +68,13 @@ loop-again : tie.Need-loop-again Inv-loop μ-loop
 unfolding after
 loop-again c =
     let l = c .before .before .before in
-    (omega arith, omega arith, few-turn _ _ _ _ _ _ _ _ _ (l .loop .inv .2) (omega arith) (l .before .before .wrapping-add-u32 .ensures) (l .before .peek32 .ensures) (c .before .before .loop-test .taken) (c .before .wrapping-add-u322 .ensures) (c .peek322 .ensures))
+    (omega arith, omega arith, partial-turn _ _ _ _ _ _ _ _ _ (l .loop .inv .2) (omega arith) (l .before .before .wrapping-add-u32 .ensures) (l .before .peek32 .ensures) (c .before .before .loop-test .taken) (c .before .wrapping-add-u322 .ensures) (c .peek322 .ensures))
 
 returns : tie.Need-returns Inv-loop μ-loop
 unfolding after
 returns c =
     let l = c .before in
-    few-all _ _ _ _ _ _ _ (l .loop .inv .2) (l .loop .inv .1) (l .before .before .wrapping-add-u32 .ensures) (l .before .peek32 .ensures) (c .loop-test .left)
+    partial-all _ _ _ _ _ _ _ (l .loop .inv .2) (l .loop .inv .1) (l .before .before .wrapping-add-u32 .ensures) (l .before .peek32 .ensures) (c .loop-test .left)
 
 pub pointers-for-spec : {M : Type 1} → statement M
 pointers-for-spec =

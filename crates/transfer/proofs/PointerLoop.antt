@@ -1,7 +1,7 @@
 -- The loop that reads the pointers which a total uses.
 use Prim.Native.Nat.{ℕ, zero, suc, _+_, _*_, _%_, _<_, _≤_}
 use mathlib.Core.List.{List}
-use mathlib.Core.Path.{_≡_, refl, sym, ap, _∙_}
+use mathlib.Core.Path.{_≡_, refl, ap, _∙_}
 use native.Mathlib.Decide.{decLt}
 use native.Mathlib.Omega.{arith}
 use borrow.Author.Tests.{le-leb, lt-leb}
@@ -18,7 +18,7 @@ abbrev entry : Memory → ℕ → ℕ → ℕ → ℕ
 entry m td total i = pick (leb (4096 * i) (peek32 m (after td 8) % 4096 + total)) (peek32 m (after td (8 + 4 * i))) 0
 
 -- nine entries of which the first i are read, and the others 0
-pub record Few (m : Memory) (td total : ℕ) (ps : List ℕ) (i : ℕ) : Type 0 where
+pub record Partial (m : Memory) (td total : ℕ) (ps : List ℕ) (i : ℕ) : Type 0 where
   pub nine : length ps ≡ 9
   pub read : Filled (entry m td total) ps i
   pub others : (k : ℕ) → i ≤ k → getD ps k 0 ≡ 0
@@ -37,8 +37,8 @@ module _ (m : Memory) (td total : ℕ) where
   end-is : (p₀ a₀ : ℕ) → a₀ ≡ after td 8 → p₀ ≡ peek32 m a₀ → p₀ % 4096 + total ≡ peek32 m (after td 8) % 4096 + total
   end-is p₀ a₀ e₀ f₀ = ap (λ (p : ℕ). p % 4096 + total) (f₀ ∙ ap (peek32 m) e₀)
 
-  read-one : (ps : List ℕ) (i p a : ℕ) → Few m td total ps i → i < 9 → 4096 * i ≤ peek32 m (after td 8) % 4096 + total → a ≡ after td (8 + 4 * i)
-      → p ≡ peek32 m a → Few m td total (set ps i p) (i + 1)
+  read-one : (ps : List ℕ) (i p a : ℕ) → Partial m td total ps i → i < 9 → 4096 * i ≤ peek32 m (after td 8) % 4096 + total → a ≡ after td (8 + 4 * i)
+      → p ≡ peek32 m a → Partial m td total (set ps i p) (i + 1)
   read-one ps i p a f less used q r =
       record {
         nine = length-set ps i p ∙ f .nine;
@@ -47,21 +47,21 @@ module _ (m : Memory) (td total : ℕ) where
       }
 
   -- the first pointer read into nine zeros
-  pub few-first : (p a : ℕ) → a ≡ after td 8 → p ≡ peek32 m a → Few m td total (set (replicate 9 0) 0 p) 1
-  few-first p a q r =
+  pub partial-first : (p a : ℕ) → a ≡ after td 8 → p ≡ peek32 m a → Partial m td total (set (replicate 9 0) 0 p) 1
+  partial-first p a q r =
       read-one (replicate 9 0) 0 p a
       (record { nine = refl; read = fill-none (entry m td total) (replicate 9 0); others = λ k h. getD-zeros 9 k }) (lit< tt) (omega arith) q r
 
   -- a turn of the loop
-  pub few-turn : (ps : List ℕ) (i p a p₀ a₀ : ℕ) → Few m td total ps i → i < 9 → a₀ ≡ after td 8 → p₀ ≡ peek32 m a₀ → 4096 * i ≤ p₀ % 4096 + total
-      → a ≡ after td (8 + 4 * i) → p ≡ peek32 m a → Few m td total (set ps i p) (i + 1)
-  few-turn ps i p a p₀ a₀ f less e₀ f₀ used q r = read-one ps i p a f less (omega (arith, end-is p₀ a₀ e₀ f₀)) q r
+  pub partial-turn : (ps : List ℕ) (i p a p₀ a₀ : ℕ) → Partial m td total ps i → i < 9 → a₀ ≡ after td 8 → p₀ ≡ peek32 m a₀ → 4096 * i ≤ p₀ % 4096 + total
+      → a ≡ after td (8 + 4 * i) → p ≡ peek32 m a → Partial m td total (set ps i p) (i + 1)
+  partial-turn ps i p a p₀ a₀ f less e₀ f₀ used q r = read-one ps i p a f less (omega (arith, end-is p₀ a₀ e₀ f₀)) q r
 
   -- its end
-  pub few-all : (ps : List ℕ) (i p₀ a₀ : ℕ) → Few m td total ps i → i ≤ 9 → a₀ ≡ after td 8 → p₀ ≡ peek32 m a₀ → p₀ % 4096 + total < 4096 * i
+  pub partial-all : (ps : List ℕ) (i p₀ a₀ : ℕ) → Partial m td total ps i → i ≤ 9 → a₀ ≡ after td 8 → p₀ ≡ peek32 m a₀ → p₀ % 4096 + total < 4096 * i
       → ps ≡ pointersFor m td total
   unfolding pointersFor
-  few-all ps i p₀ a₀ f less e₀ f₀ gone =
+  partial-all ps i p₀ a₀ f less e₀ f₀ gone =
       fill-all (entry m td total) ps 9 9 (record { below = below }) (omega arith) (f .nine)
     where
       behind : (k : ℕ) → i ≤ k → 0 ≡ entry m td total k
