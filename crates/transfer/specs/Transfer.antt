@@ -14,14 +14,14 @@ unfoldable pub tabulate : ℕ → (ℕ → ℕ) → List ℕ
 tabulate zero f = []
 tabulate (suc n) f = f zero ∷ tabulate n (λ k. f (suc k))
 
--- 559, 566: the nine page pointers of the dTD at td, as many as a total of 32,767 bytes can use
+-- usbhost.rs 559, 566: the nine page pointers of the dTD at td, as many as a total of 32,767 bytes can use (document 01)
 unfoldable pub pointers : Memory → ℕ → List ℕ
 pointers m td =
     peek32 m (after td 8) ∷ peek32 m (after td 12) ∷ peek32 m (after td 16) ∷ peek32 m (after td 20)
     ∷ peek32 m (after td 24) ∷ peek32 m (after td 28) ∷ peek32 m (after td 32) ∷ peek32 m (after td 36)
     ∷ peek32 m (after td 40) ∷ []
 
--- the same list without the pointers to pages that begin behind the data's end: 0 stands for those, and no byte of the first total needs one (laws addr-for, bytes-for, sending-for)
+-- 559, 566: the same list without the pointers to pages that begin behind the data's end: 0 stands for those, and no byte of the first total needs one (laws addr-for, bytes-for, sending-for)
 unfoldable pub pointersFor : Memory → ℕ → ℕ → List ℕ
 pointersFor m td total =
     tabulate 9 (λ i. pick (leb (4096 * i) (peek32 m (after td 8) % 4096 + total)) (peek32 m (after td (8 + 4 * i))) 0)
@@ -33,7 +33,7 @@ sourceAddr ps k =
     let first = 4096 - bitAnd p0 0xFFF in
     pick (ltb k first) (p0 + k) (clear (getD ps (1 + (k - first) / 4096) 0) 0xFFF + (k - first) % 4096)
 
--- the same address without masks and cases (law addr-source): pages of 4,096 bytes, counted from the start of the first pointer's page
+-- 560-568: the same address without masks and cases (law addr-source): pages of 4,096 bytes, counted from the start of the first pointer's page
 unfoldable pub dataAddr : List ℕ → ℕ → ℕ
 dataAddr ps k =
     let x = getD ps 0 0 % 4096 + k in
@@ -43,7 +43,7 @@ dataAddr ps k =
 unfoldable pub bytesIn : Memory → List ℕ → ℕ → List ℕ
 bytesIn m ps n = tabulate n (λ k. peek8 m (dataAddr ps k))
 
--- n of those bytes, from byte s on
+-- 571-575: n of those bytes, from byte s on (law from-in)
 unfoldable pub bytesFrom : Memory → List ℕ → ℕ → ℕ → List ℕ
 bytesFrom m ps s n = tabulate n (λ k. peek8 m (dataAddr ps (s + k)))
 
@@ -60,12 +60,12 @@ stores ps s k (suc n) = byte (dataAddr ps k) (getD s k 0) ∷ stores ps s (suc k
 unfoldable pub sending : List ℕ → List ℕ → ℕ → BusStep
 sending ps s n b = stores ps s 0 n
 
--- the memory that it leaves (law sending-is)
+-- 579-581: the memory that it leaves (law sending-is)
 unfoldable pub written : Memory → List ℕ → List ℕ → ℕ → Memory
 written m ps s zero = m
 written m ps s (suc n) = poke8 (written m ps s n) (dataAddr ps n) (getD s n 0)
 
--- how many of the n bytes no window takes (law sending-dropped)
+-- 579-581: how many of the n bytes no window takes (law sending-dropped)
 unfoldable pub droppedOut : List ℕ → ℕ → ℕ
 droppedOut ps zero = 0
 droppedOut ps (suc n) = droppedOut ps n + dropped8 (dataAddr ps n)
