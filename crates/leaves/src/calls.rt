@@ -1,0 +1,469 @@
+// The state of a run, and the answer of the leaf crates to each line.
+use crate::hash;
+use crate::parse;
+use crate::text;
+use gptimers::Timer;
+use gptimers::Timers;
+use midi::Packer;
+ghost use mathlib.Core.Path.{_≡_};
+ghost use Prim.Native.Nat.{_+_, _*_, _≤_, _<_};
+ghost use lib.ListN.{length};
+
+// The first address of the register page.
+const PAGE: u32 = 0xFC0B_0000;
+
+// What a run holds beside its register page and its MIDI queue.
+pub struct State {
+    pub run: u64,
+    pub line: bool,
+    pub timers: Timers,
+    pub packer: Packer,
+    pub queued: usize,
+}
+
+// The state after a line, and where the output's answers end.
+pub struct Next {
+    pub state: State,
+    pub at: usize,
+}
+
+// A run's state at its start.
+pub fn fresh(run: u64) -> State
+    ensures { λ r. ⌜ r .queued ≤ 4096 ⌝ }
+{
+    let zero = Timer::none();
+    let one = Timer::none();
+    State {
+        run,
+        line: false,
+        timers: Timers { zero, one },
+        packer: Packer::new(),
+        queued: 0,
+    }
+}
+
+fn clear(page: &mut [u8; 4096]) {
+    let mut i = 0;
+    while i < 4096 {
+        page[i] = 0;
+        i += 1;
+    }
+}
+
+// The place of an address on the register page, or 4,096.
+fn place(a: u32) -> usize
+    ensures { λ r. ⌜ r ≤ 4096 ⌝ }
+{
+    if a < PAGE {
+        return 4096;
+    }
+    if 0xFC0B_0FFF < a {
+        return 4096;
+    }
+    (a - PAGE) as usize
+}
+
+// The first `count` bytes from the address `a` on; those outside the page are dropped.
+fn store(page: &mut [u8; 4096], a: u32, bytes: &[u8], count: usize)
+    requires { ⌜ count ≤ length (now bytes) ⌝ }
+{
+    let mut address = a;
+    let mut i = 0;
+    while i < count {
+        let off = place(address);
+        if off < 4096 {
+            page[off] = bytes[i];
+        }
+        address = std::num::wrapping_add_u32(address, 1);
+        i += 1;
+    }
+}
+
+// The byte seen at an address: 0 outside the page.
+fn seen(page: &[u8; 4096], a: u32) -> u8 {
+    let off = place(a);
+    if off < 4096 {
+        return page[off];
+    }
+    0
+}
+
+// `count` bytes from the address `a` on.
+fn peek(page: &[u8; 4096], a: u32, count: usize, out: &mut [u8; 65536], at: usize) -> usize
+    requires { ⌜ at + 2 * count ≤ 65536 ⌝ }
+    ensures { λ r. ⌜ r ≤ at + 2 * count ⌝ }
+{
+    let mut address = a;
+    let mut end = at;
+    let mut i = 0;
+    while i < count {
+        end = text::pair(out, end, seen(page, address));
+        address = std::num::wrapping_add_u32(address, 1);
+        i += 1;
+    }
+    end
+}
+
+fn new_run(state: State, page: &mut [u8; 4096], out: &mut [u8; 65536], at: usize) -> Next
+    requires { ⌜ at ≤ 40000 ⌝ }
+    ensures { λ r. ⌜ (r .state .queued ≤ 4096) × (r .at ≤ 65536) ⌝ }
+{
+    clear(page);
+    let run = std::num::wrapping_add_u64(state.run, 1);
+    let end = text::single(out, at, b'n', run);
+    let next = fresh(run);
+    Next {
+        state: next,
+        at: end,
+    }
+}
+
+// `w ADDR BYTES`: no answer, unless the line is bad.
+fn write_bytes(line: &[u8], page: &mut [u8; 4096], out: &mut [u8; 65536], at: usize) -> usize
+    requires { ⌜ (at ≤ 40000) × ((1 ≤ length (now line)) × (length (now line) ≤ 16384)) ⌝ }
+    ensures { λ r. ⌜ r ≤ 65536 ⌝ }
+{
+    let mut bytes = [0u8; 8192];
+    let a = parse::read_word(line, 1);
+    let got = parse::read_bytes(line, a.next, &mut bytes);
+    if a.good & got.good {
+        store(page, a.value, &bytes, got.count);
+        return at;
+    }
+    text::bad_line(out, at)
+}
+
+// `r SIZE OFF`: a device read.
+fn device_read(line: &[u8], page: &[u8; 4096], out: &mut [u8; 65536], at: usize) -> usize
+    requires { ⌜ (at ≤ 40000) × (1 ≤ length (now line)) ⌝ }
+    ensures { λ r. ⌜ r ≤ 65536 ⌝ }
+{
+    let size = parse::read_word(line, 1);
+    let off = parse::read_word(line, size.next);
+    if size.good & (off.good & (off.next == line.len())) {
+        let read = usbdev::read(page, off.value, size.value);
+        if read.refusal != 0 {
+            return text::refused(out, at, read.refusal);
+        }
+        return text::single(out, at, b'r', read.value as u64);
+    }
+    text::bad_line(out, at)
+}
+
+// The state with the line's flag at `on`.
+fn with_line(state: State, on: bool) -> State
+    ensures { λ r. ⌜ r .queued ≤ state .queued ⌝ }
+{
+    let timers = state.timers;
+    let packer = state.packer;
+    State {
+        run: state.run,
+        line: on,
+        timers,
+        packer,
+        queued: state.queued,
+    }
+}
+
+// A device write.
+fn write_sized(
+    state: State,
+    size: u32,
+    off: u32,
+    value: u32,
+    page: &mut [u8; 4096],
+    out: &mut [u8; 65536],
+    at: usize,
+) -> Next
+    requires { ⌜ (at ≤ 40000) × (state .queued ≤ 4096) ⌝ }
+    ensures { λ r. ⌜ (r .state .queued ≤ 4096) × (r .at ≤ 65536) ⌝ }
+{
+    let written = usbdev::write(page, off, size, value, state.line);
+    let next = with_line(state, written.line);
+    let end = text::outcome(out, at, written.refusal);
+    Next {
+        state: next,
+        at: end,
+    }
+}
+
+// `d SIZE OFF VALUE`: a device write.
+fn device_write(
+    state: State,
+    line: &[u8],
+    page: &mut [u8; 4096],
+    out: &mut [u8; 65536],
+    at: usize,
+) -> Next
+    requires { ⌜ (at ≤ 40000) × ((1 ≤ length (now line)) × (state .queued ≤ 4096)) ⌝ }
+    ensures { λ r. ⌜ (r .state .queued ≤ 4096) × (r .at ≤ 65536) ⌝ }
+{
+    let size = parse::read_word(line, 1);
+    let off = parse::read_word(line, size.next);
+    let value = parse::read_word(line, off.next);
+    if size.good & (off.good & (value.good & (value.next == line.len()))) {
+        return write_sized(state, size.value, off.value, value.value, page, out, at);
+    }
+    let end = text::bad_line(out, at);
+    Next { state, at: end }
+}
+
+// `p ADDR COUNT`: bytes as they are seen; at most 8,192 of them, so that an answer fits the buffer.
+fn peek_bytes(line: &[u8], page: &[u8; 4096], out: &mut [u8; 65536], at: usize) -> usize
+    requires { ⌜ (at ≤ 40000) × (1 ≤ length (now line)) ⌝ }
+    ensures { λ r. ⌜ r ≤ 65536 ⌝ }
+{
+    let a = parse::read_word(line, 1);
+    let count = parse::read_word(line, a.next);
+    let n = count.value;
+    if 8192 < n {
+        return text::bad_line(out, at);
+    }
+    if a.good & (count.good & (count.next == line.len())) {
+        if n == 0 {
+            return text::append(out, at, b"p -\n");
+        }
+        let start = text::append(out, at, b"p ");
+        let end = peek(page, a.value, n as usize, out, start);
+        return text::put(out, end, b'\n');
+    }
+    text::bad_line(out, at)
+}
+
+// A MIDI send of the first `count` bytes on cable 0.
+fn send_first(
+    state: State,
+    bytes: &[u8],
+    count: usize,
+    queue: &mut [u8; 4096],
+    out: &mut [u8; 65536],
+    at: usize,
+) -> Next
+    requires { ⌜ (at ≤ 40000) × ((state .queued ≤ 4096) × (count ≤ length (now bytes))) ⌝ }
+    ensures { λ r. ⌜ (r .state .queued ≤ 4096) × (r .at ≤ 65536) ⌝ }
+{
+    let timers = state.timers;
+    let sent = midi::send(state.packer, 0, &bytes[..count], queue, state.queued);
+    let end = text::outcome(out, at, sent.refusal);
+    let packer = sent.packer;
+    let next = State {
+        run: state.run,
+        line: state.line,
+        timers,
+        packer,
+        queued: sent.held,
+    };
+    Next {
+        state: next,
+        at: end,
+    }
+}
+
+// `m BYTES`: a MIDI send.
+fn send(state: State, line: &[u8], queue: &mut [u8; 4096], out: &mut [u8; 65536], at: usize) -> Next
+    requires { ⌜ (at ≤ 40000) × ((1 ≤ length (now line)) × (length (now line) ≤ 16384)) ⌝ }
+    requires { ⌜ state .queued ≤ 4096 ⌝ }
+    ensures { λ r. ⌜ (r .state .queued ≤ 4096) × (r .at ≤ 65536) ⌝ }
+{
+    let mut bytes = [0u8; 8192];
+    let got = parse::read_bytes(line, 1, &mut bytes);
+    if got.good {
+        return send_first(state, &bytes, got.count, queue, out, at);
+    }
+    let end = text::bad_line(out, at);
+    Next { state, at: end }
+}
+
+// Whether a timer is loaded, and its count in two's complement.
+fn show_timer(timer: Timer, out: &mut [u8; 65536], at: usize) -> usize
+    requires { ⌜ at ≤ 60000 ⌝ }
+    ensures { λ r. ⌜ r ≤ at + 34 ⌝ }
+{
+    let end = text::flag(out, at, timer.set);
+    if timer.set {
+        return text::field(
+            out,
+            end,
+            std::num::wrapping_sub_u64(timer.count, gptimers::ZERO),
+        );
+    }
+    text::field(out, end, 0)
+}
+
+fn show_timers(timers: Timers, on: bool, out: &mut [u8; 65536], at: usize) -> usize
+    requires { ⌜ at ≤ 40000 ⌝ }
+    ensures { λ r. ⌜ r ≤ at + 128 ⌝ }
+{
+    let zero = timers.zero;
+    let one = timers.one;
+    let mut end = text::put(out, at, b'u');
+    end = show_timer(zero, out, end);
+    end = show_timer(one, out, end);
+    end = text::flag(out, end, on);
+    text::put(out, end, b'\n')
+}
+
+// One microframe of the timers.
+fn tick(state: State, page: &mut [u8; 4096], out: &mut [u8; 65536], at: usize) -> Next
+    requires { ⌜ (at ≤ 40000) × (state .queued ≤ 4096) ⌝ }
+    ensures { λ r. ⌜ (r .state .queued ≤ 4096) × (r .at ≤ 65536) ⌝ }
+{
+    let ticked = gptimers::checked_gptimers(page, state.timers, state.line);
+    let timers = ticked.timers;
+    let packer = state.packer;
+    let next = State {
+        run: state.run,
+        line: ticked.line,
+        timers,
+        packer,
+        queued: state.queued,
+    };
+    if ticked.refusal != 0 {
+        let end = text::refused(out, at, ticked.refusal);
+        return Next {
+            state: next,
+            at: end,
+        };
+    }
+    let end = show_timers(timers, ticked.line, out, at);
+    Next {
+        state: next,
+        at: end,
+    }
+}
+
+// `u TIME`: a microframe; the timers do not ask the time.
+fn microframe(
+    state: State,
+    line: &[u8],
+    page: &mut [u8; 4096],
+    out: &mut [u8; 65536],
+    at: usize,
+) -> Next
+    requires { ⌜ (at ≤ 40000) × ((1 ≤ length (now line)) × (state .queued ≤ 4096)) ⌝ }
+    ensures { λ r. ⌜ (r .state .queued ≤ 4096) × (r .at ≤ 65536) ⌝ }
+{
+    let time = parse::read_number(line, 1);
+    if time.good & (time.next == line.len()) {
+        return tick(state, page, out, at);
+    }
+    let end = text::bad_line(out, at);
+    Next { state, at: end }
+}
+
+// The hash of the bytes that a packer holds.
+fn held_hash(packer: Packer) -> u64 {
+    let held = packer.held;
+    match held {
+        0 => hash::START,
+        1 => hash::mixed(hash::START, packer.first),
+        _ => hash::mixed(hash::mixed(hash::START, packer.first), packer.second),
+    }
+}
+
+// The packer's status, how many bytes it holds, and whether it is inside SysEx.
+fn show_packer(packer: Packer, out: &mut [u8; 65536], at: usize) -> usize
+    requires { ⌜ at ≤ 60000 ⌝ }
+    ensures { λ r. ⌜ r ≤ at + 51 ⌝ }
+{
+    let mut end = text::field(out, at, packer.status as u64);
+    end = text::field(out, end, packer.held as u64);
+    text::flag(out, end, packer.sysex)
+}
+
+// `o`: the line, the packer and the queue.
+fn observe(state: State, queue: &[u8; 4096], out: &mut [u8; 65536], at: usize) -> usize
+    requires { ⌜ (at ≤ 40000) × (state .queued ≤ 4096) ⌝ }
+    ensures { λ r. ⌜ r ≤ 65536 ⌝ }
+{
+    let packer = state.packer;
+    let queued = state.queued;
+    let mut end = text::put(out, at, b'o');
+    end = text::flag(out, end, state.line);
+    end = show_packer(packer, out, end);
+    end = text::field(out, end, queued as u64);
+    end = text::field(out, end, hash::hash_first(queue, queued));
+    end = text::field(out, end, held_hash(packer));
+    text::put(out, end, b'\n')
+}
+
+// A line whose answer leaves the state as it is, and a bad line.
+fn ask(
+    state: State,
+    line: &[u8],
+    page: &mut [u8; 4096],
+    queue: &[u8; 4096],
+    out: &mut [u8; 65536],
+    at: usize,
+) -> usize
+    requires { ⌜ (at ≤ 40000) × ((1 ≤ length (now line)) × (length (now line) ≤ 16384)) ⌝ }
+    requires { ⌜ state .queued ≤ 4096 ⌝ }
+    ensures { λ r. ⌜ r ≤ 65536 ⌝ }
+{
+    let letter = parse::letter(line);
+    if letter == b'w' {
+        return write_bytes(line, page, out, at);
+    }
+    if letter == b'r' {
+        return device_read(line, page, out, at);
+    }
+    if letter == b'p' {
+        return peek_bytes(line, page, out, at);
+    }
+    if (letter == b'o') & (line.len() == 1) {
+        return observe(state, queue, out, at);
+    }
+    text::bad_line(out, at)
+}
+
+// The answer to a line that is not empty and no comment.
+fn call(
+    state: State,
+    line: &[u8],
+    page: &mut [u8; 4096],
+    queue: &mut [u8; 4096],
+    out: &mut [u8; 65536],
+    at: usize,
+) -> Next
+    requires { ⌜ (at ≤ 40000) × ((1 ≤ length (now line)) × (length (now line) ≤ 16384)) ⌝ }
+    requires { ⌜ state .queued ≤ 4096 ⌝ }
+    ensures { λ r. ⌜ (r .state .queued ≤ 4096) × (r .at ≤ 65536) ⌝ }
+{
+    let letter = parse::letter(line);
+    if letter == b'n' {
+        return new_run(state, page, out, at);
+    }
+    if letter == b'd' {
+        return device_write(state, line, page, out, at);
+    }
+    if letter == b'm' {
+        return send(state, line, queue, out, at);
+    }
+    if letter == b'u' {
+        return microframe(state, line, page, out, at);
+    }
+    let end = ask(state, line, page, queue, out, at);
+    Next { state, at: end }
+}
+
+// The answer to a line; an empty one and a comment have none.
+pub fn answer(
+    state: State,
+    line: &[u8],
+    page: &mut [u8; 4096],
+    queue: &mut [u8; 4096],
+    out: &mut [u8; 65536],
+    at: usize,
+) -> Next
+    requires { ⌜ (at ≤ 40000) × (length (now line) ≤ 16384) ⌝ }
+    requires { ⌜ state .queued ≤ 4096 ⌝ }
+    ensures { λ r. ⌜ (r .state .queued ≤ 4096) × (r .at ≤ 65536) ⌝ }
+{
+    if line.len() == 0 {
+        return Next { state, at };
+    }
+    if line[0] == b'#' {
+        return Next { state, at };
+    }
+    call(state, line, page, queue, out, at)
+}

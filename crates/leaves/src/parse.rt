@@ -1,0 +1,176 @@
+// The words of a line: numbers and byte strings in lower-case hexadecimal.
+ghost use Prim.Native.Nat.{_*_, _≤_};
+ghost use lib.ListN.{length};
+
+// A number behind a space: whether one stands there, and the place behind it.
+pub struct Number {
+    pub good: bool,
+    pub value: u64,
+    pub next: usize,
+}
+
+// The same of 32 bits.
+pub struct Word {
+    pub good: bool,
+    pub value: u32,
+    pub next: usize,
+}
+
+// A byte string at the end of a line: whether one stands there, and how many bytes it has.
+pub struct Bytes {
+    pub good: bool,
+    pub count: usize,
+}
+
+// The letter that a line begins with, where a space or the end follows it, or 0.
+pub fn letter(text: &[u8]) -> u8 {
+    if text.len() == 0 {
+        return 0;
+    }
+    if text.len() == 1 {
+        return text[0];
+    }
+    if text[1] == b' ' {
+        return text[0];
+    }
+    0
+}
+
+// The value of a digit, or 16.
+fn digit(b: u8) -> u8
+    ensures { λ r. ⌜ r ≤ 16 ⌝ }
+{
+    match b {
+        b'0'..=b'9' => b - b'0',
+        b'a'..=b'f' => b - 87,
+        _ => 16,
+    }
+}
+
+fn wide(b: u8) -> u64 {
+    b as u64
+}
+
+// The number whose digits stand from `start` to `end`.
+fn ended(value: u64, start: usize, end: usize) -> Number
+    ensures { λ r. ⌜ r .next ≤ end ⌝ }
+{
+    Number {
+        good: (start < end) & (end <= std::num::wrapping_add_usize(start, 16)),
+        value,
+        next: end,
+    }
+}
+
+// The digits from `start` on.
+fn digits(text: &[u8], start: usize) -> Number
+    requires { ⌜ start ≤ length (now text) ⌝ }
+    ensures { λ r. ⌜ r .next ≤ length (now (text .entry)) ⌝ }
+{
+    let mut value: u64 = 0;
+    let mut i = start;
+    while i < text.len() {
+        let d = digit(text[i]);
+        if d == 16 {
+            return ended(value, start, i);
+        }
+        value = (value << 4) | wide(d);
+        i += 1;
+    }
+    ended(value, start, i)
+}
+
+// A space and a number.
+pub fn read_number(text: &[u8], at: usize) -> Number
+    requires { ⌜ at ≤ length (now text) ⌝ }
+    ensures { λ r. ⌜ r .next ≤ length (now (text .entry)) ⌝ }
+{
+    if at < text.len() {
+        if text[at] == b' ' {
+            return digits(text, at + 1);
+        }
+    }
+    Number {
+        good: false,
+        value: 0,
+        next: at,
+    }
+}
+
+// A space and a number of 32 bits.
+pub fn read_word(text: &[u8], at: usize) -> Word
+    requires { ⌜ at ≤ length (now text) ⌝ }
+    ensures { λ r. ⌜ r .next ≤ length (now (text .entry)) ⌝ }
+{
+    let n = read_number(text, at);
+    let value = n.value;
+    if value <= 0xFFFF_FFFF {
+        return Word {
+            good: n.good,
+            value: value as u32,
+            next: n.next,
+        };
+    }
+    Word {
+        good: false,
+        value: 0,
+        next: n.next,
+    }
+}
+
+fn no_bytes(good: bool) -> Bytes
+    ensures { λ r. ⌜ r .count ≤ 0 ⌝ }
+{
+    Bytes { good, count: 0 }
+}
+
+// The pairs of digits from `start` to the end of the line.
+fn pairs(text: &[u8], start: usize, into: &mut [u8]) -> Bytes
+    requires { ⌜ (start ≤ length (now text)) × (length (now text) ≤ 2 * length (now into)) ⌝ }
+    ensures { λ r. ⌜ r .count ≤ length (now (into .exit)) ⌝ }
+{
+    let left = text.len() - start;
+    let count = left / 2;
+    if (left == 0) | (left % 2 != 0) {
+        return no_bytes(false);
+    }
+    let mut k = 0;
+    while k < count {
+        let high = digit(text[start + 2 * k]);
+        let low = digit(text[start + 2 * k + 1]);
+        if high == 16 {
+            return no_bytes(false);
+        }
+        if low == 16 {
+            return no_bytes(false);
+        }
+        into[k] = high * 16 + low;
+        k += 1;
+    }
+    Bytes { good: true, count }
+}
+
+// A space and a byte string, which ends the line.
+pub fn read_bytes(text: &[u8], at: usize, into: &mut [u8]) -> Bytes
+    requires { ⌜ (at ≤ length (now text)) × (length (now text) ≤ 2 * length (now into)) ⌝ }
+    ensures { λ r. ⌜ r .count ≤ length (now (into .exit)) ⌝ }
+{
+    if at < text.len() {
+        if text[at] == b' ' {
+            let start = at + 1;
+            if is_dash(text, start) {
+                return no_bytes(true);
+            }
+            return pairs(text, start, into);
+        }
+    }
+    no_bytes(false)
+}
+
+// Whether one dash is all that stands from `start` on: no bytes.
+fn is_dash(text: &[u8], start: usize) -> bool {
+    if start < text.len() {
+        return (text[start] == b'-') & (text.len() - start == 1);
+    }
+    false
+}
