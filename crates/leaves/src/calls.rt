@@ -1,4 +1,5 @@
 // The state of a run, and the answer of the leaf crates to each line.
+// An answer has at most 16,387 bytes, so that one that starts at 40,000 or before is inside the output's buffer.
 use crate::hash;
 use crate::parse;
 use crate::text;
@@ -6,8 +7,10 @@ use gptimers::Timer;
 use gptimers::Timers;
 use midi::Packer;
 ghost use mathlib.Core.Path.{_≡_};
-ghost use Prim.Native.Nat.{_+_, _*_, _≤_, _<_};
+ghost use Prim.Native.Nat.{_+_, _*_, _≤_};
 ghost use lib.ListN.{length};
+ghost use Rattle.leaves.specs.Fnv.{START, mixedAll};
+ghost use Rattle.midi.specs.Packer.{heldBytes};
 
 // The first address of the register page.
 const PAGE: u32 = 0xFC0B_0000;
@@ -352,7 +355,9 @@ fn microframe(
 }
 
 // The hash of the bytes that a packer holds.
-fn held_hash(packer: Packer) -> u64 {
+fn held_hash(packer: Packer) -> u64
+    ensures { λ r. ⌜ r ≡ mixedAll START (heldBytes packer) ⌝ }
+{
     let held = packer.held;
     match held {
         0 => hash::START,

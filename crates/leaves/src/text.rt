@@ -1,6 +1,6 @@
 // Answers as text, put into the output's buffer behind what it holds.
 ghost use mathlib.Core.Path.{_≡_};
-ghost use Prim.Native.Nat.{_+_, _*_, _≤_, _<_};
+ghost use Prim.Native.Nat.{_+_, _≤_, _<_};
 ghost use lib.ListN.{length};
 
 // The output's buffer has 65,536 bytes.
