@@ -1,15 +1,15 @@
 // The state of a run, and the answer of the leaf crates to each line.
 // An answer has at most 16,387 bytes, so that one that starts at 40,000 or before is inside the output's buffer.
-use crate::hash;
-use crate::parse;
-use crate::text;
 use gptimers::Timer;
 use gptimers::Timers;
 use midi::Packer;
+use script::hash;
+use script::parse;
+use script::text;
 ghost use mathlib.Core.Path.{_≡_};
 ghost use Prim.Native.Nat.{_+_, _*_, _≤_};
 ghost use lib.ListN.{length};
-ghost use Rattle.leaves.specs.Fnv.{START, mixedAll};
+ghost use Rattle.script.specs.Fnv.{START, mixedAll};
 ghost use Rattle.midi.specs.Packer.{heldBytes};
 
 // The first address of the register page.

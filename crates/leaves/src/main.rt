@@ -1,12 +1,10 @@
 // Answers a script of lines from standard input by the calls of the leaf crates: registers, timers and MIDI sends.
 mod calls;
-mod hash;
-mod parse;
-mod text;
 
 use calls::State;
 use libc::STDIN_FILENO;
 use libc::STDOUT_FILENO;
+use script::text;
 ghost use mathlib.Core.Path.{_≡_};
 ghost use Prim.Native.Nat.{_≤_};
 ghost use lib.ListN.{length};

@@ -1,6 +1,6 @@
 -- By how many bytes are held.
 use borrow.Author.Tests.{ne-eqb}
-use Rattle.leaves.specs.Fnv.{mixedAll}
+use Rattle.script.specs.Fnv.{mixedAll}
 use borrow.Author.Needs.{needs}
 use Rattle.leaves.proofs.calls.held_hash.Statement.{statement}
 use Rattle.leaves.proofs.calls.held_hash.Tie as tie

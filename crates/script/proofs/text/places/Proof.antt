@@ -1,8 +1,8 @@
 -- The loop keeps: from 1 to 16 digits.
 use Prim.Native.Nat.{_≤_, _-_}
 use borrow.Author.Needs.{needs}
-use Rattle.leaves.proofs.text.places.Statement.{statement}
-use Rattle.leaves.proofs.text.places.Tie as tie
+use Rattle.script.proofs.text.places.Statement.{statement}
+use Rattle.script.proofs.text.places.Tie as tie
 
 abbrev Inv-loop : tie.InvT-loop
 Inv-loop n k₀ rest₀ k rest = (1 ≤ k) × (k ≤ 16)

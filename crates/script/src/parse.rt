@@ -1,5 +1,5 @@
 // The words of a line: numbers and byte strings in lower-case hexadecimal.
-ghost use Prim.Native.Nat.{_*_, _≤_};
+ghost use Prim.Native.Nat.{_/_, _≤_};
 ghost use lib.ListN.{length};
 
 // A number behind a space: whether one stands there, and the place behind it.
@@ -80,9 +80,8 @@ fn digits(text: &[u8], start: usize) -> Number
     ended(value, start, i)
 }
 
-// A space and a number.
+// A space and a number; `next` is inside the line, also where no number stands at `at`.
 pub fn read_number(text: &[u8], at: usize) -> Number
-    requires { ⌜ at ≤ length (now text) ⌝ }
     ensures { λ r. ⌜ r .next ≤ length (now (text .entry)) ⌝ }
 {
     if at < text.len() {
@@ -93,13 +92,12 @@ pub fn read_number(text: &[u8], at: usize) -> Number
     Number {
         good: false,
         value: 0,
-        next: at,
+        next: text.len(),
     }
 }
 
 // A space and a number of 32 bits.
 pub fn read_word(text: &[u8], at: usize) -> Word
-    requires { ⌜ at ≤ length (now text) ⌝ }
     ensures { λ r. ⌜ r .next ≤ length (now (text .entry)) ⌝ }
 {
     let n = read_number(text, at);
@@ -126,7 +124,7 @@ fn no_bytes(good: bool) -> Bytes
 
 // The pairs of digits from `start` to the end of the line.
 fn pairs(text: &[u8], start: usize, into: &mut [u8]) -> Bytes
-    requires { ⌜ (start ≤ length (now text)) × (length (now text) ≤ 2 * length (now into)) ⌝ }
+    requires { ⌜ (start ≤ length (now text)) × (length (now text) / 2 ≤ length (now into)) ⌝ }
     ensures { λ r. ⌜ r .count ≤ length (now (into .exit)) ⌝ }
 {
     let left = text.len() - start;
@@ -150,11 +148,13 @@ fn pairs(text: &[u8], start: usize, into: &mut [u8]) -> Bytes
     Bytes { good: true, count }
 }
 
-// A space and a byte string, which ends the line.
+// A space and a byte string, which ends the line; none is read where half the line's length does not fit.
 pub fn read_bytes(text: &[u8], at: usize, into: &mut [u8]) -> Bytes
-    requires { ⌜ (at ≤ length (now text)) × (length (now text) ≤ 2 * length (now into)) ⌝ }
     ensures { λ r. ⌜ r .count ≤ length (now (into .exit)) ⌝ }
 {
+    if into.len() < text.len() / 2 {
+        return no_bytes(false);
+    }
     if at < text.len() {
         if text[at] == b' ' {
             let start = at + 1;

@@ -2,8 +2,8 @@
 use Prim.Native.Nat.{_≤_, _-_}
 use lib.ListN.{length}
 use borrow.Author.Needs.{needs}
-use Rattle.leaves.proofs.parse.digits.Statement.{statement}
-use Rattle.leaves.proofs.parse.digits.Tie as tie
+use Rattle.script.proofs.parse.digits.Statement.{statement}
+use Rattle.script.proofs.parse.digits.Tie as tie
 
 abbrev Inv-loop : tie.InvT-loop
 Inv-loop text start value₀ i₀ value i = i ≤ length text

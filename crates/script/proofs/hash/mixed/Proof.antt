@@ -2,10 +2,10 @@
 use mathlib.Core.Path.{_∙_, ap}
 use Prim.Native.Nat.{ℕ, _*_, _%_, _^_}
 use lib.Bits.{bitXor}
-use Rattle.leaves.specs.Fnv.{PRIME, mixed}
+use Rattle.script.specs.Fnv.{PRIME, mixed}
 use borrow.Author.Needs.{needs}
-use Rattle.leaves.proofs.hash.mixed.Statement.{statement}
-use Rattle.leaves.proofs.hash.mixed.Tie as tie
+use Rattle.script.proofs.hash.mixed.Statement.{statement}
+use Rattle.script.proofs.hash.mixed.Tie as tie
 
 wide-requires : tie.Need-wide-requires
 wide-requires c κs = search needs

@@ -1,8 +1,8 @@
 -- The loop keeps: the space, and the digits put, are at most 17 bytes with those left.
 use Prim.Native.Nat.{_≤_, _+_}
 use borrow.Author.Needs.{needs}
-use Rattle.leaves.proofs.text.field.Statement.{statement}
-use Rattle.leaves.proofs.text.field.Tie as tie
+use Rattle.script.proofs.text.field.Statement.{statement}
+use Rattle.script.proofs.text.field.Tie as tie
 
 abbrev Inv-loop : tie.InvT-loop
 Inv-loop out₀ at n end₀ k₀ out end k = (k ≤ 16) × (end + k ≤ at + 17)

@@ -5,7 +5,7 @@ use Prim.Native.Nat.{ℕ, _+_, _≤_, _<_}
 use native.Mathlib.Numerals.{add-one}
 use lib.ListN.{length, getD, drop, drop-of-length-le}
 use lib.Seq.{drop-cons}
-use Rattle.leaves.specs.Fnv.{mixed, mixedAll}
+use Rattle.script.specs.Fnv.{mixed, mixedAll}
 
 -- one byte at a place
 pub mixed-at : (h : ℕ) (bs : List ℕ) (i : ℕ) → i < length bs → mixedAll h (drop i bs) ≡ mixedAll (mixed h (getD bs i 0)) (drop (i + 1) bs)

@@ -2,8 +2,8 @@
 use mathlib.Core.Path.{sym}
 use lib.Seq.{length-take-le}
 use borrow.Author.Needs.{needs}
-use Rattle.leaves.proofs.hash.hash_first.Statement.{statement}
-use Rattle.leaves.proofs.hash.hash_first.Tie as tie
+use Rattle.script.proofs.hash.hash_first.Statement.{statement}
+use Rattle.script.proofs.hash.hash_first.Tie as tie
 
 slice-aggregate-hash-all : tie.Need-slice-aggregate-hash-all
 slice-aggregate-hash-all c = sym (length-take-le (c .before .before .args .count) (c .before .before .args .bytes .now) (c .before .before .pre))

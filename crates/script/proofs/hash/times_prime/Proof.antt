@@ -2,11 +2,11 @@
 use mathlib.Core.Path.{_≡_, _∙_, ap}
 use Prim.Native.Nat.{ℕ, _+_, _*_, _%_, _^_}
 use native.Mathlib.Omega.{arith}
-use Rattle.leaves.specs.Fnv.{PRIME}
-use Rattle.leaves.proofs.Sums.{first, further}
+use Rattle.script.specs.Fnv.{PRIME}
+use Rattle.script.proofs.Sums.{first, further}
 use borrow.Author.Needs.{needs}
-use Rattle.leaves.proofs.hash.times_prime.Statement.{statement}
-use Rattle.leaves.proofs.hash.times_prime.Tie as tie
+use Rattle.script.proofs.hash.times_prime.Statement.{statement}
+use Rattle.script.proofs.hash.times_prime.Tie as tie
 
 wrapping-add-u64-requires : tie.Need-wrapping-add-u64-requires
 wrapping-add-u64-requires c κs = search needs

@@ -2,8 +2,8 @@
 use Prim.Native.Nat.{_≤_, _-_}
 use lib.ListN.{length}
 use borrow.Author.Needs.{needs}
-use Rattle.leaves.proofs.text.append.Statement.{statement}
-use Rattle.leaves.proofs.text.append.Tie as tie
+use Rattle.script.proofs.text.append.Statement.{statement}
+use Rattle.script.proofs.text.append.Tie as tie
 
 abbrev Inv-loop : tie.InvT-loop
 Inv-loop out₀ at text i₀ out i = i ≤ length text

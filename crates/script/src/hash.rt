@@ -1,7 +1,7 @@
 // FNV-1a hashes of 64 bits.
 ghost use mathlib.Core.Path.{_≡_};
 ghost use Prim.Native.Nat.{_*_, _%_, _^_, _≤_};
-ghost use Rattle.leaves.specs.Fnv as F;
+ghost use Rattle.script.specs.Fnv as F;
 ghost use lib.ListN.{length, take};
 
 // The hash of no bytes.
@@ -32,7 +32,8 @@ pub fn mixed(h: u64, b: u8) -> u64
     times_prime(h ^ wide(b))
 }
 
-fn hash_all(bytes: &[u8]) -> u64
+// The hash of all bytes of a slice.
+pub fn hash_all(bytes: &[u8]) -> u64
     ensures { λ r. ⌜ r ≡ F.mixedAll F.START (now (bytes .entry)) ⌝ }
 {
     let mut h = START;

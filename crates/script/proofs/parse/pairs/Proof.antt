@@ -3,8 +3,8 @@ use Prim.Native.Nat.{_≤_, _-_}
 use mathlib.Core.Path.{_≡_}
 use lib.ListN.{length}
 use borrow.Author.Needs.{needs}
-use Rattle.leaves.proofs.parse.pairs.Statement.{statement}
-use Rattle.leaves.proofs.parse.pairs.Tie as tie
+use Rattle.script.proofs.parse.pairs.Statement.{statement}
+use Rattle.script.proofs.parse.pairs.Tie as tie
 
 abbrev Inv-loop : tie.InvT-loop
 Inv-loop text start into₀ left count k₀ into k = (k ≤ count) × (length into ≡ length into₀)

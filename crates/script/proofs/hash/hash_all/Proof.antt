@@ -3,11 +3,11 @@ use Prim.Native.Nat.{ℕ, _+_, _-_, _≤_}
 use mathlib.Core.Path.{_≡_, _∙_, sym, ap}
 use lib.ListN.{length, drop}
 use native.Mathlib.Omega.{arith}
-use Rattle.leaves.specs.Fnv.{START, mixedAll}
-use Rattle.leaves.proofs.Bytewise.{mixed-at, mixed-past}
+use Rattle.script.specs.Fnv.{START, mixedAll}
+use Rattle.script.proofs.Bytewise.{mixed-at, mixed-past}
 use borrow.Author.Needs.{needs}
-use Rattle.leaves.proofs.hash.hash_all.Statement.{statement}
-use Rattle.leaves.proofs.hash.hash_all.Tie as tie
+use Rattle.script.proofs.hash.hash_all.Statement.{statement}
+use Rattle.script.proofs.hash.hash_all.Tie as tie
 
 abbrev Inv-loop : tie.InvT-loop
 Inv-loop bytes h₀ i₀ h i = (i ≤ length bytes) × (mixedAll h (drop i bytes) ≡ mixedAll START bytes)
