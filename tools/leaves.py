@@ -1,5 +1,5 @@
 #!/usr/bin/env python3
-"""Compares the port's registers, timers and MIDI sends with the Rust's over scripts of calls.
+"""Compares the port's registers, timers, MIDI sends and memory windows with the Rust's over scripts of calls.
 
     leaves.py ORACLE PORT [--cases N] [--seed S]   compare N generated runs; exit 1 at the first difference, with the run's lines that led to it
     leaves.py ORACLE --answers FILE                write the Rust's answers to a script (crates/leaves/stdout)
@@ -8,7 +8,8 @@
 ORACLE is the Rust's program of that name, PORT the port's `leaves`; both read the same script, once.
 A run of the Rust has its host gone from the first microframe on, so that a microframe does nothing but its timers.
 That first microframe also does the going, which stores to OTGSC, PORTSC1 and USBSTS and leaves the line low. So each run
-begins with `u 0` on a page of zeros, whose answer is the same on both sides, and then writes the page, whose bytes are not."""
+begins with `u 0` on a page of zeros, whose answer is the same on both sides, and then writes the page, whose bytes are not.
+A run of the windows has no microframe; its dynamic memory is of each length that the port takes."""
 import argparse
 import random
 import subprocess
@@ -21,6 +22,8 @@ EPSETUPSR, EPPRIME, EPFLUSH, EPSR, EPCOMPLETE, EPCR0 = 0x1AC, 0x1B0, 0x1B4, 0x1B
 LOAD, CONTROL = (0x80, 0x88), (0x84, 0x8C)
 REGISTERS = [USBCMD, USBSTS, USBINTR, FRINDEX, EPLISTADDR, EPNAK, PORTSC1, OTGSC, EPSETUPSR, EPPRIME, EPFLUSH, EPSR, EPCOMPLETE, EPCR0, 0x80, 0x84, 0x88, 0x8C]
 OUTSIDE = [0xFFC, 0xFFD, 0xFFE, 0xFFF, 0x1000, 0x1001, 0x1002, 0x1004, 0x1144, 0x4140, 0x7FFFFFFC, 0xFFFFFFFC, 0xFFFFFFFE, 0xFFFFFFFF]
+LENGTHS = (0x1000, 0x2000, 0x4000, 0x8000, 0x10000)
+DYNAMIC, STATIC, STATIC_END = 0x40000000, 0x80000000, 0x8C000000
 RUN, RESET, REPEAT = 1 << 31, 1 << 30, 1 << 24
 WHOLE = 'p fc0b0000 1000'
 
@@ -173,8 +176,45 @@ def chosen_sends():
     return lines
 
 
+def new_run(length):
+    return NEW.replace('1000', f'{length:x}', 1)
+
+
+def put(address, data):
+    return f'w {address % 2**32:x} {text(data)}'
+
+
+def fill(address, count, byte):
+    return f'f {address % 2**32:x} {count:x} {byte:x}'
+
+
+def look(address, count):
+    return f'p {address % 2**32:x} {count:x}'
+
+
+def chosen_windows():
+    lines = []
+    for length in LENGTHS:
+        last = DYNAMIC + length - 1
+        lines += [f'# dynamic memory of {length:x}: zeros, its first and last bytes, and their mirrors', new_run(length)]
+        lines += [look(DYNAMIC, 4), look(last - 1, 4), put(DYNAMIC, [0xA1]), put(last, [0xA2]), look(DYNAMIC - 2, 4), look(last - 1, 4), look(DYNAMIC + length, 2), look(DYNAMIC + 3 * length - 1, 2), look(STATIC - 2, 4)]
+        lines += [put(last + length, [0xB1, 0xB2, 0xB3]), look(DYNAMIC, 4), look(last - 1, 4)]
+        lines += ['# from the last address of dynamic memory into static memory, and its mirrors']
+        lines += [put(STATIC - 3, range(1, 7)), look(STATIC - 4, 8), look(last - 3, 8), look(STATIC + 0x10000, 4), look(STATIC_END - 0x10000, 4)]
+    lines += ['# static memory\'s last addresses: its last byte, and nothing behind it']
+    lines += [put(STATIC_END - 2, range(0x11, 0x15)), look(STATIC_END - 3, 6), look(STATIC + 0xFFFD, 4), look(STATIC + 0x1FFFE, 4)]
+    lines += ['# the page, and nothing on either side']
+    lines += [put(PAGE - 2, range(0x21, 0x26)), look(PAGE - 2, 6), put(PAGE + 0xFFE, range(0x31, 0x36)), look(PAGE + 0xFFD, 6), fill(PAGE - 4, 0x1008, 0x5A), look(PAGE - 4, 8), look(PAGE + 0xFFC, 8), look(PAGE + 0x7FE, 4)]
+    lines += ['# around address 0, below dynamic memory, and between the windows']
+    lines += [put(-2, range(0x41, 0x45)), look(-2, 4), put(DYNAMIC - 2, range(0x51, 0x55)), look(DYNAMIC - 2, 4), put(0xA0000000, [0x61]), look(0xA0000000, 1), fill(-0x10, 0x20, 0xFF), look(-0x10, 0x20)]
+    lines += ['# fills: of no byte, over a whole memory and round it, the last byte of which wins']
+    lines += [fill(DYNAMIC, 0, 0x77), look(DYNAMIC, 2), fill(DYNAMIC + 0x100, 0x10001, 0x77), fill(DYNAMIC + 0x100, 1, 0x78), look(DYNAMIC + 0xFE, 4), look(DYNAMIC, 2), fill(STATIC - 2, 0x10002, 0x79), look(STATIC - 3, 5), look(STATIC + 0xFFFF, 2)]
+    lines += ['# a new run is zeros again', new_run(0x2000), look(DYNAMIC, 0x10), look(STATIC, 0x10), look(STATIC + 0xFFF0, 0x10), look(PAGE, 0x10), look(PAGE + 0xFF0, 0x10)]
+    return lines
+
+
 def chosen():
-    return chosen_accesses() + chosen_registers() + chosen_line() + chosen_timers() + chosen_sends()
+    return chosen_accesses() + chosen_registers() + chosen_line() + chosen_timers() + chosen_sends() + chosen_windows()
 
 
 # ---- generated runs
@@ -332,7 +372,62 @@ def sends_run(rng):
     return lines + [WHOLE]
 
 
-KINDS = [accesses_run, timers_run, sends_run, accesses_run, timers_run, sends_run, accesses_run]
+def edge(rng, length):
+    """An address at or near the end of a window, of one of its mirrors, or anywhere."""
+    kind = rng.randrange(12)
+    if kind < 2:
+        at = DYNAMIC + rng.choice([0, length, length * rng.randrange(DYNAMIC // length + 1), DYNAMIC])
+    elif kind < 4:
+        at = STATIC + rng.choice([0, 0x10000, 0x10000 * rng.randrange(0xC01), 0xC000000])
+    elif kind < 6:
+        at = rng.choice([PAGE, PAGE + 0x1000])
+    elif kind < 7:
+        at = 0
+    elif kind < 8:
+        return DYNAMIC + rng.randrange(DYNAMIC)
+    elif kind < 9:
+        return STATIC + rng.randrange(STATIC_END - STATIC)
+    elif kind < 10:
+        return PAGE + rng.randrange(0x1000)
+    elif kind < 11:
+        return rng.getrandbits(32)
+    else:
+        at = rng.choice([DYNAMIC, STATIC, STATIC_END])
+    return at + rng.choice([-1, 0, -2, 1, rng.randrange(-40, 40)])
+
+
+def mirror(rng, length, address):
+    """The address of the same byte in another mirror, or the address itself."""
+    address %= 2**32
+    if DYNAMIC <= address < STATIC:
+        return DYNAMIC + address % length + length * rng.randrange(DYNAMIC // length)
+    if STATIC <= address < STATIC_END:
+        return STATIC + address % 0x10000 + 0x10000 * rng.randrange(0xC00)
+    return address
+
+
+def windows_run(rng):
+    length = rng.choice(LENGTHS)
+    lines = [new_run(length)]
+    for _ in range(100):
+        address = edge(rng, length)
+        kind = rng.random()
+        if kind < 0.75:
+            count = rng.choice([1, 2, 3, 4, rng.randrange(1, 60)])
+            lines.append(put(address, rng.randbytes(count)))
+        elif kind < 0.78:
+            count = rng.randrange(2000, 4200)
+            lines.append(put(address, rng.randbytes(count)))
+        else:
+            count = rng.choice([0, 1, 5, rng.randrange(200), 0x1000, length, length + 1, rng.randrange(0x20000)])
+            lines.append(fill(address, count, rng.randrange(256)))
+        lines += [look(address - 2, min(count, 60) + 4), look(mirror(rng, length, address + count - 2) - 1, 6), look(edge(rng, length), rng.choice([1, 2, 4, 30]))]
+    if rng.random() < 0.2:
+        lines += [look(start + at, 0x2000) for start, size in ((DYNAMIC, length), (STATIC, 0x10000), (PAGE, 0x1000)) for at in range(0, size, 0x2000)]
+    return lines
+
+
+KINDS = [accesses_run, timers_run, sends_run, windows_run, accesses_run, timers_run, sends_run, accesses_run]
 
 
 # ---- both programs
@@ -358,7 +453,8 @@ def rust(oracle, script):
 
 BAD = ['x', 'r', 'r ', 'r 4', 'r 4 ', 'r  4 140', 'r 4 140 ', 'r 4 140 0', ' r 4 140', 'r 4 0x140', 'r 4 14g', 'r 4 100000000', 'r 4 00000000000000140', 'R 4 140', 'rr 4 140', 'r4 140',
        'd 4 140', 'd 4 140 100000000', 'd 4 140 0 0', 'w', 'w fc0b0000', 'w fc0b0000 ', 'w fc0b0000 0', 'w fc0b0000 0g', 'w fc0b0000 00 00', 'w 100000000 00', 'w fc0b0000 --',
-       'p fc0b0000', 'p fc0b0000 1 1', 'p - 1', 'm', 'm ', 'm 9', 'm 90 3c', 'm 903c4', 'm zz', 'm -0', 'u', 'u ', 'u 10000000000000000', 'u 1 1', 'u g', 'o ', 'o 1', 'oo', '1', '-']
+       'p fc0b0000', 'p fc0b0000 1 1', 'p - 1', 'm', 'm ', 'm 9', 'm 90 3c', 'm 903c4', 'm zz', 'm -0', 'u', 'u ', 'u 10000000000000000', 'u 1 1', 'u g', 'n', 'n ', 'n 800 7 0 1 0 0 0 0 0', 'n 1001 7 0 1 0 0 0 0 0', 'n 3000 7 0 1 0 0 0 0 0', 'n 10001 7 0 1 0 0 0 0 0',
+       'f', 'f 40000000', 'f 40000000 1', 'f 40000000 1 ', 'f 40000000 1 100', 'f 40000000 1 g', 'f 40000000 1 1 1', 'f 100000000 1 1', 'f 40000000 100000000 1', 'o ', 'o 1', 'oo', '1', '-']
 
 
 def compare_bad(oracle, port):
@@ -378,7 +474,7 @@ def compare(oracle, port, runs):
     """The place of the first difference: run, line, and both answers; or None."""
     script = ''.join(line + '\n' for lines in runs for line in lines)
     want, got = rust(oracle, script), run(port, script)
-    asked = [(i, j) for i, lines in enumerate(runs) for j, line in enumerate(lines) if line[:1] not in ('w', '#', '')]
+    asked = [(i, j) for i, lines in enumerate(runs) for j, line in enumerate(lines) if line[:1] not in ('w', 'f', '#', '')]
     if len(want) != len(asked):
         sys.exit(f'the Rust gave {len(want)} answers to {len(asked)} lines')
     for k, (i, j) in enumerate(asked):
@@ -395,7 +491,7 @@ def main():
     parser.add_argument('port', nargs='?')
     parser.add_argument('--answers', metavar='FILE')
     parser.add_argument('--script', action='store_true')
-    parser.add_argument('--cases', type=int, default=1400)
+    parser.add_argument('--cases', type=int, default=1600)
     parser.add_argument('--seed', type=int, default=1)
     options = parser.parse_args()
     if options.script:
@@ -416,7 +512,8 @@ def main():
         return 1
     compare_bad(options.oracle, options.port)
     letters = [line[:1] for lines in runs for line in lines]
-    print(f'{letters.count("n")} runs: {letters.count("r") + letters.count("d")} accesses, {letters.count("m")} sends and {letters.count("u")} timer microframes, {letters.count("o")} observations and {letters.count("p")} looks at the page, all alike; {len(BAD)} bad lines refused by both')
+    through = sum(line[:1] == 'p' for lines in runs[1:] if not any(line[:1] == 'u' for line in lines) for line in lines)
+    print(f'{letters.count("n")} runs: {letters.count("r") + letters.count("d")} accesses, {letters.count("m")} sends and {letters.count("u")} timer microframes, {letters.count("o")} observations and {letters.count("p") - through} looks at memory, and {through} looks in runs of the windows, all alike; {len(BAD)} bad lines refused by both')
     return 0
 
 

@@ -6,18 +6,17 @@ use midi::Packer;
 use script::hash;
 use script::parse;
 use script::text;
+use script::windows;
 ghost use mathlib.Core.Path.{_≡_};
 ghost use Prim.Native.Nat.{_+_, _*_, _≤_};
 ghost use lib.ListN.{length};
 ghost use Rattle.script.specs.Fnv.{START, mixedAll};
 ghost use Rattle.midi.specs.Packer.{heldBytes};
 
-// The first address of the register page.
-const PAGE: u32 = 0xFC0B_0000;
-
-// What a run holds beside its register page and its MIDI queue.
+// What a run holds beside its memory and its MIDI queue; `length` is how much of dynamic memory's array it has.
 pub struct State {
     pub run: u64,
+    pub length: usize,
     pub line: bool,
     pub timers: Timers,
     pub packer: Packer,
@@ -31,13 +30,15 @@ pub struct Next {
 }
 
 // A run's state at its start.
-pub fn fresh(run: u64) -> State
-    ensures { λ r. ⌜ r .queued ≤ 4096 ⌝ }
+pub fn fresh(run: u64, length: usize) -> State
+    requires { ⌜ length ≤ 65536 ⌝ }
+    ensures { λ r. ⌜ (r .queued ≤ 4096) × (r .length ≤ 65536) ⌝ }
 {
     let zero = Timer::none();
     let one = Timer::none();
     State {
         run,
+        length,
         line: false,
         timers: Timers { zero, one },
         packer: Packer::new(),
@@ -45,100 +46,58 @@ pub fn fresh(run: u64) -> State
     }
 }
 
-fn clear(page: &mut [u8; 4096]) {
-    let mut i = 0;
-    while i < 4096 {
-        page[i] = 0;
-        i += 1;
-    }
-}
-
-// The place of an address on the register page, or 4,096.
-fn place(a: u32) -> usize
-    ensures { λ r. ⌜ r ≤ 4096 ⌝ }
+// A run's start, with memory of zeros.
+fn start_run(
+    run: u64,
+    length: usize,
+    dynamic: &mut [u8; 65536],
+    sram: &mut [u8; 65536],
+    page: &mut [u8; 4096],
+    out: &mut [u8; 65536],
+    at: usize,
+) -> Next
+    requires { ⌜ (at ≤ 40000) × (length ≤ 65536) ⌝ }
+    ensures { λ r. ⌜ ((r .state .queued ≤ 4096) × (r .state .length ≤ 65536)) × (r .at ≤ 65536) ⌝ }
 {
-    if a < PAGE {
-        return 4096;
-    }
-    if 0xFC0B_0FFF < a {
-        return 4096;
-    }
-    (a - PAGE) as usize
-}
-
-// The first `count` bytes from the address `a` on; those outside the page are dropped.
-fn store(page: &mut [u8; 4096], a: u32, bytes: &[u8], count: usize)
-    requires { ⌜ count ≤ length (now bytes) ⌝ }
-{
-    let mut address = a;
-    let mut i = 0;
-    while i < count {
-        let off = place(address);
-        if off < 4096 {
-            page[off] = bytes[i];
-        }
-        address = std::num::wrapping_add_u32(address, 1);
-        i += 1;
-    }
-}
-
-// The byte seen at an address: 0 outside the page.
-fn seen(page: &[u8; 4096], a: u32) -> u8 {
-    let off = place(a);
-    if off < 4096 {
-        return page[off];
-    }
-    0
-}
-
-// `count` bytes from the address `a` on.
-fn peek(page: &[u8; 4096], a: u32, count: usize, out: &mut [u8; 65536], at: usize) -> usize
-    requires { ⌜ at + 2 * count ≤ 65536 ⌝ }
-    ensures { λ r. ⌜ r ≤ at + 2 * count ⌝ }
-{
-    let mut address = a;
-    let mut end = at;
-    let mut i = 0;
-    while i < count {
-        end = text::pair(out, end, seen(page, address));
-        address = std::num::wrapping_add_u32(address, 1);
-        i += 1;
-    }
-    end
-}
-
-fn new_run(state: State, page: &mut [u8; 4096], out: &mut [u8; 65536], at: usize) -> Next
-    requires { ⌜ at ≤ 40000 ⌝ }
-    ensures { λ r. ⌜ (r .state .queued ≤ 4096) × (r .at ≤ 65536) ⌝ }
-{
-    clear(page);
-    let run = std::num::wrapping_add_u64(state.run, 1);
     let end = text::single(out, at, b'n', run);
-    let next = fresh(run);
+    let next = fresh(run, length);
+    windows::clear(dynamic);
+    windows::clear(sram);
+    windows::clear(page);
     Next {
         state: next,
         at: end,
     }
 }
 
-// `w ADDR BYTES`: no answer, unless the line is bad.
-fn write_bytes(line: &[u8], page: &mut [u8; 4096], out: &mut [u8; 65536], at: usize) -> usize
-    requires { ⌜ (at ≤ 40000) × ((1 ≤ length (now line)) × (length (now line) ≤ 16384)) ⌝ }
-    ensures { λ r. ⌜ r ≤ 65536 ⌝ }
+// `n LEN ..`: a new run; lengths above that of dynamic memory's array are bad here.
+fn new_run(
+    state: State,
+    line: &[u8],
+    dynamic: &mut [u8; 65536],
+    sram: &mut [u8; 65536],
+    page: &mut [u8; 4096],
+    out: &mut [u8; 65536],
+    at: usize,
+) -> Next
+    requires { ⌜ (at ≤ 40000) × ((state .queued ≤ 4096) × (state .length ≤ 65536)) ⌝ }
+    ensures { λ r. ⌜ ((r .state .queued ≤ 4096) × (r .state .length ≤ 65536)) × (r .at ≤ 65536) ⌝ }
 {
-    let mut bytes = [0u8; 8192];
-    let a = parse::read_word(line, 1);
-    let got = parse::read_bytes(line, a.next, &mut bytes);
-    if a.good & got.good {
-        store(page, a.value, &bytes, got.count);
-        return at;
+    let number = parse::read_word(line, 1);
+    let length = number.value as usize;
+    if length <= 65536 {
+        if number.good & bus::power(length) {
+            let run = std::num::wrapping_add_u64(state.run, 1);
+            return start_run(run, length, dynamic, sram, page, out, at);
+        }
     }
-    text::bad_line(out, at)
+    let end = text::bad_line(out, at);
+    Next { state, at: end }
 }
 
 // `r SIZE OFF`: a device read.
 fn device_read(line: &[u8], page: &[u8; 4096], out: &mut [u8; 65536], at: usize) -> usize
-    requires { ⌜ (at ≤ 40000) × (1 ≤ length (now line)) ⌝ }
+    requires { ⌜ at ≤ 40000 ⌝ }
     ensures { λ r. ⌜ r ≤ 65536 ⌝ }
 {
     let size = parse::read_word(line, 1);
@@ -155,12 +114,13 @@ fn device_read(line: &[u8], page: &[u8; 4096], out: &mut [u8; 65536], at: usize)
 
 // The state with the line's flag at `on`.
 fn with_line(state: State, on: bool) -> State
-    ensures { λ r. ⌜ r .queued ≤ state .queued ⌝ }
+    ensures { λ r. ⌜ (r .queued ≤ state .queued) × (r .length ≤ state .length) ⌝ }
 {
     let timers = state.timers;
     let packer = state.packer;
     State {
         run: state.run,
+        length: state.length,
         line: on,
         timers,
         packer,
@@ -178,8 +138,8 @@ fn write_sized(
     out: &mut [u8; 65536],
     at: usize,
 ) -> Next
-    requires { ⌜ (at ≤ 40000) × (state .queued ≤ 4096) ⌝ }
-    ensures { λ r. ⌜ (r .state .queued ≤ 4096) × (r .at ≤ 65536) ⌝ }
+    requires { ⌜ (at ≤ 40000) × ((state .queued ≤ 4096) × (state .length ≤ 65536)) ⌝ }
+    ensures { λ r. ⌜ ((r .state .queued ≤ 4096) × (r .state .length ≤ 65536)) × (r .at ≤ 65536) ⌝ }
 {
     let written = usbdev::write(page, off, size, value, state.line);
     let next = with_line(state, written.line);
@@ -198,8 +158,8 @@ fn device_write(
     out: &mut [u8; 65536],
     at: usize,
 ) -> Next
-    requires { ⌜ (at ≤ 40000) × ((1 ≤ length (now line)) × (state .queued ≤ 4096)) ⌝ }
-    ensures { λ r. ⌜ (r .state .queued ≤ 4096) × (r .at ≤ 65536) ⌝ }
+    requires { ⌜ (at ≤ 40000) × ((state .queued ≤ 4096) × (state .length ≤ 65536)) ⌝ }
+    ensures { λ r. ⌜ ((r .state .queued ≤ 4096) × (r .state .length ≤ 65536)) × (r .at ≤ 65536) ⌝ }
 {
     let size = parse::read_word(line, 1);
     let off = parse::read_word(line, size.next);
@@ -211,28 +171,6 @@ fn device_write(
     Next { state, at: end }
 }
 
-// `p ADDR COUNT`: bytes as they are seen; at most 8,192 of them, so that an answer fits the buffer.
-fn peek_bytes(line: &[u8], page: &[u8; 4096], out: &mut [u8; 65536], at: usize) -> usize
-    requires { ⌜ (at ≤ 40000) × (1 ≤ length (now line)) ⌝ }
-    ensures { λ r. ⌜ r ≤ 65536 ⌝ }
-{
-    let a = parse::read_word(line, 1);
-    let count = parse::read_word(line, a.next);
-    let n = count.value;
-    if 8192 < n {
-        return text::bad_line(out, at);
-    }
-    if a.good & (count.good & (count.next == line.len())) {
-        if n == 0 {
-            return text::append(out, at, b"p -\n");
-        }
-        let start = text::append(out, at, b"p ");
-        let end = peek(page, a.value, n as usize, out, start);
-        return text::put(out, end, b'\n');
-    }
-    text::bad_line(out, at)
-}
-
 // A MIDI send of the first `count` bytes on cable 0.
 fn send_first(
     state: State,
@@ -242,8 +180,8 @@ fn send_first(
     out: &mut [u8; 65536],
     at: usize,
 ) -> Next
-    requires { ⌜ (at ≤ 40000) × ((state .queued ≤ 4096) × (count ≤ length (now bytes))) ⌝ }
-    ensures { λ r. ⌜ (r .state .queued ≤ 4096) × (r .at ≤ 65536) ⌝ }
+    requires { ⌜ (at ≤ 40000) × (((state .queued ≤ 4096) × (state .length ≤ 65536)) × (count ≤ length (now bytes))) ⌝ }
+    ensures { λ r. ⌜ ((r .state .queued ≤ 4096) × (r .state .length ≤ 65536)) × (r .at ≤ 65536) ⌝ }
 {
     let timers = state.timers;
     let sent = midi::send(state.packer, 0, &bytes[..count], queue, state.queued);
@@ -251,6 +189,7 @@ fn send_first(
     let packer = sent.packer;
     let next = State {
         run: state.run,
+        length: state.length,
         line: state.line,
         timers,
         packer,
@@ -264,9 +203,9 @@ fn send_first(
 
 // `m BYTES`: a MIDI send.
 fn send(state: State, line: &[u8], queue: &mut [u8; 4096], out: &mut [u8; 65536], at: usize) -> Next
-    requires { ⌜ (at ≤ 40000) × ((1 ≤ length (now line)) × (length (now line) ≤ 16384)) ⌝ }
-    requires { ⌜ state .queued ≤ 4096 ⌝ }
-    ensures { λ r. ⌜ (r .state .queued ≤ 4096) × (r .at ≤ 65536) ⌝ }
+    requires { ⌜ at ≤ 40000 ⌝ }
+    requires { ⌜ (state .queued ≤ 4096) × (state .length ≤ 65536) ⌝ }
+    ensures { λ r. ⌜ ((r .state .queued ≤ 4096) × (r .state .length ≤ 65536)) × (r .at ≤ 65536) ⌝ }
 {
     let mut bytes = [0u8; 8192];
     let got = parse::read_bytes(line, 1, &mut bytes);
@@ -308,14 +247,15 @@ fn show_timers(timers: Timers, on: bool, out: &mut [u8; 65536], at: usize) -> us
 
 // One microframe of the timers.
 fn tick(state: State, page: &mut [u8; 4096], out: &mut [u8; 65536], at: usize) -> Next
-    requires { ⌜ (at ≤ 40000) × (state .queued ≤ 4096) ⌝ }
-    ensures { λ r. ⌜ (r .state .queued ≤ 4096) × (r .at ≤ 65536) ⌝ }
+    requires { ⌜ (at ≤ 40000) × ((state .queued ≤ 4096) × (state .length ≤ 65536)) ⌝ }
+    ensures { λ r. ⌜ ((r .state .queued ≤ 4096) × (r .state .length ≤ 65536)) × (r .at ≤ 65536) ⌝ }
 {
     let ticked = gptimers::checked_gptimers(page, state.timers, state.line);
     let timers = ticked.timers;
     let packer = state.packer;
     let next = State {
         run: state.run,
+        length: state.length,
         line: ticked.line,
         timers,
         packer,
@@ -343,8 +283,8 @@ fn microframe(
     out: &mut [u8; 65536],
     at: usize,
 ) -> Next
-    requires { ⌜ (at ≤ 40000) × ((1 ≤ length (now line)) × (state .queued ≤ 4096)) ⌝ }
-    ensures { λ r. ⌜ (r .state .queued ≤ 4096) × (r .at ≤ 65536) ⌝ }
+    requires { ⌜ (at ≤ 40000) × ((state .queued ≤ 4096) × (state .length ≤ 65536)) ⌝ }
+    ensures { λ r. ⌜ ((r .state .queued ≤ 4096) × (r .state .length ≤ 65536)) × (r .at ≤ 65536) ⌝ }
 {
     let time = parse::read_number(line, 1);
     if time.good & (time.next == line.len()) {
@@ -378,7 +318,7 @@ fn show_packer(packer: Packer, out: &mut [u8; 65536], at: usize) -> usize
 
 // `o`: the line, the packer and the queue.
 fn observe(state: State, queue: &[u8; 4096], out: &mut [u8; 65536], at: usize) -> usize
-    requires { ⌜ (at ≤ 40000) × (state .queued ≤ 4096) ⌝ }
+    requires { ⌜ (at ≤ 40000) × ((state .queued ≤ 4096) × (state .length ≤ 65536)) ⌝ }
     ensures { λ r. ⌜ r ≤ 65536 ⌝ }
 {
     let packer = state.packer;
@@ -392,51 +332,75 @@ fn observe(state: State, queue: &[u8; 4096], out: &mut [u8; 65536], at: usize) -
     text::put(out, end, b'\n')
 }
 
+// A line that goes through the memory windows, of which dynamic memory has the first `used` bytes of its array; or a bad line.
+fn reach(
+    letter: u8,
+    line: &[u8],
+    used: usize,
+    dynamic: &mut [u8],
+    sram: &mut [u8; 65536],
+    page: &mut [u8; 4096],
+    out: &mut [u8; 65536],
+    at: usize,
+) -> usize
+    requires { ⌜ (at ≤ 40000) × (used ≤ length (now dynamic)) ⌝ }
+    ensures { λ r. ⌜ r ≤ 65536 ⌝ }
+{
+    if letter == b'w' {
+        return windows::write_line(line, &mut dynamic[..used], sram, page, out, at);
+    }
+    if letter == b'f' {
+        return windows::fill_line(line, &mut dynamic[..used], sram, page, out, at);
+    }
+    if letter == b'p' {
+        return windows::look_line(line, &dynamic[..used], sram, page, out, at);
+    }
+    text::bad_line(out, at)
+}
+
 // A line whose answer leaves the state as it is, and a bad line.
 fn ask(
     state: State,
     line: &[u8],
+    dynamic: &mut [u8; 65536],
+    sram: &mut [u8; 65536],
     page: &mut [u8; 4096],
     queue: &[u8; 4096],
     out: &mut [u8; 65536],
     at: usize,
 ) -> usize
-    requires { ⌜ (at ≤ 40000) × ((1 ≤ length (now line)) × (length (now line) ≤ 16384)) ⌝ }
-    requires { ⌜ state .queued ≤ 4096 ⌝ }
+    requires { ⌜ at ≤ 40000 ⌝ }
+    requires { ⌜ (state .queued ≤ 4096) × (state .length ≤ 65536) ⌝ }
     ensures { λ r. ⌜ r ≤ 65536 ⌝ }
 {
     let letter = parse::letter(line);
-    if letter == b'w' {
-        return write_bytes(line, page, out, at);
-    }
     if letter == b'r' {
         return device_read(line, page, out, at);
-    }
-    if letter == b'p' {
-        return peek_bytes(line, page, out, at);
     }
     if (letter == b'o') & (line.len() == 1) {
         return observe(state, queue, out, at);
     }
-    text::bad_line(out, at)
+    reach(letter, line, state.length, dynamic, sram, page, out, at)
 }
 
 // The answer to a line that is not empty and no comment.
 fn call(
     state: State,
     line: &[u8],
+    dynamic: &mut [u8; 65536],
+    sram: &mut [u8; 65536],
     page: &mut [u8; 4096],
     queue: &mut [u8; 4096],
     out: &mut [u8; 65536],
     at: usize,
 ) -> Next
-    requires { ⌜ (at ≤ 40000) × ((1 ≤ length (now line)) × (length (now line) ≤ 16384)) ⌝ }
-    requires { ⌜ state .queued ≤ 4096 ⌝ }
-    ensures { λ r. ⌜ (r .state .queued ≤ 4096) × (r .at ≤ 65536) ⌝ }
+    requires { ⌜ at ≤ 40000 ⌝ }
+    requires { ⌜ (state .queued ≤ 4096) × (state .length ≤ 65536) ⌝ }
+    ensures { λ r. ⌜ ((r .state .queued ≤ 4096) × (r .state .length ≤ 65536)) × (r .at ≤ 65536) ⌝ }
 {
     let letter = parse::letter(line);
     if letter == b'n' {
-        return new_run(state, page, out, at);
+        return new_run(state, line, dynamic, sram, page, out, at);
     }
     if letter == b'd' {
         return device_write(state, line, page, out, at);
@@ -447,7 +411,7 @@ fn call(
     if letter == b'u' {
         return microframe(state, line, page, out, at);
     }
-    let end = ask(state, line, page, queue, out, at);
+    let end = ask(state, line, dynamic, sram, page, queue, out, at);
     Next { state, at: end }
 }
 
@@ -455,14 +419,16 @@ fn call(
 pub fn answer(
     state: State,
     line: &[u8],
+    dynamic: &mut [u8; 65536],
+    sram: &mut [u8; 65536],
     page: &mut [u8; 4096],
     queue: &mut [u8; 4096],
     out: &mut [u8; 65536],
     at: usize,
 ) -> Next
-    requires { ⌜ (at ≤ 40000) × (length (now line) ≤ 16384) ⌝ }
-    requires { ⌜ state .queued ≤ 4096 ⌝ }
-    ensures { λ r. ⌜ (r .state .queued ≤ 4096) × (r .at ≤ 65536) ⌝ }
+    requires { ⌜ at ≤ 40000 ⌝ }
+    requires { ⌜ (state .queued ≤ 4096) × (state .length ≤ 65536) ⌝ }
+    ensures { λ r. ⌜ ((r .state .queued ≤ 4096) × (r .state .length ≤ 65536)) × (r .at ≤ 65536) ⌝ }
 {
     if line.len() == 0 {
         return Next { state, at };
@@ -470,5 +436,5 @@ pub fn answer(
     if line[0] == b'#' {
         return Next { state, at };
     }
-    call(state, line, page, queue, out, at)
+    call(state, line, dynamic, sram, page, queue, out, at)
 }

@@ -1,4 +1,4 @@
-// Answers a script of lines from standard input by the calls of the leaf crates: registers, timers and MIDI sends.
+// Answers a script of lines from standard input by the calls of the leaf crates: registers, timers, MIDI sends and the memory windows.
 mod calls;
 
 use calls::State;
@@ -70,13 +70,15 @@ fn room(out: &[u8; 65536], at: usize) -> usize
 fn end_line(
     reading: Reading,
     bytes: &[u8],
+    dynamic: &mut [u8; 65536],
+    sram: &mut [u8; 65536],
     page: &mut [u8; 4096],
     queue: &mut [u8; 4096],
     out: &mut [u8; 65536],
 ) -> Reading
-    requires { ⌜ (reading .line .held ≤ 16384) × ((reading .state .queued ≤ 4096) × (reading .at ≤ 65536)) ⌝ }
+    requires { ⌜ (reading .line .held ≤ 16384) × (((reading .state .queued ≤ 4096) × (reading .state .length ≤ 65536)) × (reading .at ≤ 65536)) ⌝ }
     requires { ⌜ length (now bytes) ≡ 16384 ⌝ }
-    ensures { λ r. ⌜ (r .line .held ≤ 16384) × ((r .state .queued ≤ 4096) × (r .at ≤ 65536)) ⌝ }
+    ensures { λ r. ⌜ (r .line .held ≤ 16384) × (((r .state .queued ≤ 4096) × (r .state .length ≤ 65536)) × (r .at ≤ 65536)) ⌝ }
 {
     let line = reading.line;
     let state = reading.state;
@@ -90,7 +92,7 @@ fn end_line(
         };
     }
     let held = line.held;
-    let next = calls::answer(state, &bytes[..held], page, queue, out, at);
+    let next = calls::answer(state, &bytes[..held], dynamic, sram, page, queue, out, at);
     let after = next.state;
     Reading {
         line: empty_line(),
@@ -104,15 +106,17 @@ fn take_byte(
     reading: Reading,
     b: u8,
     bytes: &mut [u8; 16384],
+    dynamic: &mut [u8; 65536],
+    sram: &mut [u8; 65536],
     page: &mut [u8; 4096],
     queue: &mut [u8; 4096],
     out: &mut [u8; 65536],
 ) -> Reading
-    requires { ⌜ (reading .line .held ≤ 16384) × ((reading .state .queued ≤ 4096) × (reading .at ≤ 65536)) ⌝ }
-    ensures { λ r. ⌜ (r .line .held ≤ 16384) × ((r .state .queued ≤ 4096) × (r .at ≤ 65536)) ⌝ }
+    requires { ⌜ (reading .line .held ≤ 16384) × (((reading .state .queued ≤ 4096) × (reading .state .length ≤ 65536)) × (reading .at ≤ 65536)) ⌝ }
+    ensures { λ r. ⌜ (r .line .held ≤ 16384) × (((r .state .queued ≤ 4096) × (r .state .length ≤ 65536)) × (r .at ≤ 65536)) ⌝ }
 {
     if b == b'\n' {
-        return end_line(reading, bytes, page, queue, out);
+        return end_line(reading, bytes, dynamic, sram, page, queue, out);
     }
     let line = longer(reading.line, bytes, b);
     let state = reading.state;
@@ -128,17 +132,19 @@ fn take_bytes(
     reading: Reading,
     piece: &[u8],
     bytes: &mut [u8; 16384],
+    dynamic: &mut [u8; 65536],
+    sram: &mut [u8; 65536],
     page: &mut [u8; 4096],
     queue: &mut [u8; 4096],
     out: &mut [u8; 65536],
 ) -> Reading
-    requires { ⌜ (reading .line .held ≤ 16384) × ((reading .state .queued ≤ 4096) × (reading .at ≤ 65536)) ⌝ }
-    ensures { λ r. ⌜ (r .line .held ≤ 16384) × ((r .state .queued ≤ 4096) × (r .at ≤ 65536)) ⌝ }
+    requires { ⌜ (reading .line .held ≤ 16384) × (((reading .state .queued ≤ 4096) × (reading .state .length ≤ 65536)) × (reading .at ≤ 65536)) ⌝ }
+    ensures { λ r. ⌜ (r .line .held ≤ 16384) × (((r .state .queued ≤ 4096) × (r .state .length ≤ 65536)) × (r .at ≤ 65536)) ⌝ }
 {
     let mut next = reading;
     let mut i = 0;
     while i < piece.len() {
-        next = take_byte(next, piece[i], bytes, page, queue, out);
+        next = take_byte(next, piece[i], bytes, dynamic, sram, page, queue, out);
         i += 1;
     }
     next
@@ -154,12 +160,14 @@ struct Piece {
 fn take_piece(
     reading: Reading,
     bytes: &mut [u8; 16384],
+    dynamic: &mut [u8; 65536],
+    sram: &mut [u8; 65536],
     page: &mut [u8; 4096],
     queue: &mut [u8; 4096],
     out: &mut [u8; 65536],
 ) -> Piece
-    requires { ⌜ (reading .line .held ≤ 16384) × ((reading .state .queued ≤ 4096) × (reading .at ≤ 65536)) ⌝ }
-    ensures { λ r. ⌜ (r .reading .line .held ≤ 16384) × ((r .reading .state .queued ≤ 4096) × (r .reading .at ≤ 65536)) ⌝ }
+    requires { ⌜ (reading .line .held ≤ 16384) × (((reading .state .queued ≤ 4096) × (reading .state .length ≤ 65536)) × (reading .at ≤ 65536)) ⌝ }
+    ensures { λ r. ⌜ (r .reading .line .held ≤ 16384) × (((r .reading .state .queued ≤ 4096) × (r .reading .state .length ≤ 65536)) × (r .reading .at ≤ 65536)) ⌝ }
 {
     let mut buffer = io::large_buffer();
     let got = libc::read(STDIN_FILENO, &mut buffer);
@@ -170,7 +178,16 @@ fn take_piece(
         };
     }
     let n = io::count(got, &buffer);
-    let next = take_bytes(reading, &buffer[..n], bytes, page, queue, out);
+    let next = take_bytes(
+        reading,
+        &buffer[..n],
+        bytes,
+        dynamic,
+        sram,
+        page,
+        queue,
+        out,
+    );
     Piece {
         reading: next,
         more: true,
@@ -180,21 +197,23 @@ fn take_piece(
 // Every piece.
 fn take_all(
     bytes: &mut [u8; 16384],
+    dynamic: &mut [u8; 65536],
+    sram: &mut [u8; 65536],
     page: &mut [u8; 4096],
     queue: &mut [u8; 4096],
     out: &mut [u8; 65536],
 ) -> Reading
-    ensures { λ r. ⌜ (r .line .held ≤ 16384) × ((r .state .queued ≤ 4096) × (r .at ≤ 65536)) ⌝ }
+    ensures { λ r. ⌜ (r .line .held ≤ 16384) × (((r .state .queued ≤ 4096) × (r .state .length ≤ 65536)) × (r .at ≤ 65536)) ⌝ }
 {
     let mut reading = Reading {
         line: empty_line(),
-        state: calls::fresh(0),
+        state: calls::fresh(0, 4096),
         at: 0,
     };
     let mut more = true;
     let mut turns = u64::MAX;
     while turns > 0 && more {
-        let piece = take_piece(reading, bytes, page, queue, out);
+        let piece = take_piece(reading, bytes, dynamic, sram, page, queue, out);
         reading = piece.reading;
         more = piece.more;
         turns -= 1;
@@ -205,24 +224,35 @@ fn take_all(
 // The whole script; at its end a last line that no line end follows is answered too.
 fn run(
     bytes: &mut [u8; 16384],
+    dynamic: &mut [u8; 65536],
+    sram: &mut [u8; 65536],
     page: &mut [u8; 4096],
     queue: &mut [u8; 4096],
     out: &mut [u8; 65536],
 ) {
-    let reading = take_all(bytes, page, queue, out);
+    let reading = take_all(bytes, dynamic, sram, page, queue, out);
     let line = reading.line;
     if line.held == 0 {
         write_first(out, reading.at);
         return;
     }
-    let last = end_line(reading, bytes, page, queue, out);
+    let last = end_line(reading, bytes, dynamic, sram, page, queue, out);
     write_first(out, last.at);
 }
 
 fn main() {
     let mut bytes = [0u8; 16384];
+    let mut dynamic = [0u8; 65536];
+    let mut sram = [0u8; 65536];
     let mut page = [0u8; 4096];
     let mut queue = [0u8; 4096];
     let mut out = [0u8; 65536];
-    run(&mut bytes, &mut page, &mut queue, &mut out);
+    run(
+        &mut bytes,
+        &mut dynamic,
+        &mut sram,
+        &mut page,
+        &mut queue,
+        &mut out,
+    );
 }

@@ -22,7 +22,7 @@ slice-aggregate-answer : tie.Need-slice-aggregate-answer
 slice-aggregate-answer c = sym (length-take-le (c .before .before .before .before .before .before .before .args .reading .line .held) (c .before .before .before .before .before .before .before .args .bytes .now) (omega arith))
 
 answer-requires : tie.Need-answer-requires
-answer-requires c κs = let a = c .before .before .before .before .before .before .before .before .before .before .args in rw (length-take-le (a .reading .line .held) (a .bytes .now) (omega arith)) (search needs)
+answer-requires c κs = search needs
 
 empty-line-requires-2 : tie.Need-empty-line-requires-2
 empty-line-requires-2 c κs = search needs

@@ -5,10 +5,10 @@ use Rattle.leaves.proofs.take_all.Statement.{statement}
 use Rattle.leaves.proofs.take_all.Tie as tie
 
 abbrev Inv-loop : tie.InvT-loop
-Inv-loop bytes₀ page₀ queue₀ out₀ reading₀ more₀ turns₀ bytes page queue out reading more turns = (reading .line .held ≤ 16384) × ((reading .state .queued ≤ 4096) × (reading .at ≤ 65536))
+Inv-loop bytes₀ dynamic₀ sram₀ page₀ queue₀ out₀ reading₀ more₀ turns₀ bytes dynamic sram page queue out reading more turns = (reading .line .held ≤ 16384) × (((reading .state .queued ≤ 4096) × (reading .state .length ≤ 65536)) × (reading .at ≤ 65536))
 
 abbrev μ-loop : tie.MeasureT-loop
-μ-loop bytes₀ page₀ queue₀ out₀ reading₀ more₀ turns₀ bytes page queue out reading more turns = turns
+μ-loop bytes₀ dynamic₀ sram₀ page₀ queue₀ out₀ reading₀ more₀ turns₀ bytes dynamic sram page queue out reading more turns = turns
 
 empty-line-requires : tie.Need-empty-line-requires Inv-loop μ-loop
 empty-line-requires c κs = search needs

@@ -6,10 +6,10 @@ use Rattle.leaves.proofs.take_bytes.Statement.{statement}
 use Rattle.leaves.proofs.take_bytes.Tie as tie
 
 abbrev Inv-loop : tie.InvT-loop
-Inv-loop piece bytes₀ page₀ queue₀ out₀ next₀ i₀ bytes page queue out next i = (i ≤ length piece) × ((next .line .held ≤ 16384) × ((next .state .queued ≤ 4096) × (next .at ≤ 65536)))
+Inv-loop piece bytes₀ dynamic₀ sram₀ page₀ queue₀ out₀ next₀ i₀ bytes dynamic sram page queue out next i = (i ≤ length piece) × ((next .line .held ≤ 16384) × (((next .state .queued ≤ 4096) × (next .state .length ≤ 65536)) × (next .at ≤ 65536)))
 
 abbrev μ-loop : tie.MeasureT-loop
-μ-loop piece bytes₀ page₀ queue₀ out₀ next₀ i₀ bytes page queue out next i = length piece - i
+μ-loop piece bytes₀ dynamic₀ sram₀ page₀ queue₀ out₀ next₀ i₀ bytes dynamic sram page queue out next i = length piece - i
 
 loop-holds : tie.Need-loop-holds Inv-loop μ-loop
 loop-holds c = search needs

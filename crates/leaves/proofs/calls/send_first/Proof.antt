@@ -20,7 +20,7 @@ outcome-requires c κs = search needs
 returns : tie.Need-returns
 returns c =
     let a = c .before .before .before .before .before .before .before .before .args in
-    (rw (c .before .before .before .send .ensures .answer) (sent-most (a .state .packer) (take (a .count) (a .bytes .now)) (a .state .queued) (omega arith)), search needs)
+    ((rw (c .before .before .before .send .ensures .answer) (sent-most (a .state .packer) (take (a .count) (a .bytes .now)) (a .state .queued) (omega arith)), search needs), search needs)
 
 pub send-first-spec : {M : Type 1} → statement M
 send-first-spec = tie.close (tie.spec slice-aggregate-send send-requires outcome-requires returns)

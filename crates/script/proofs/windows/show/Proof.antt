@@ -2,14 +2,14 @@
 use Prim.Native.Nat.{_≤_, _+_, _*_, _-_}
 use mathlib.Core.Path.{_≡_}
 use borrow.Author.Needs.{needs}
-use Rattle.leaves.proofs.calls.peek.Statement.{statement}
-use Rattle.leaves.proofs.calls.peek.Tie as tie
+use Rattle.script.proofs.windows.show.Statement.{statement}
+use Rattle.script.proofs.windows.show.Tie as tie
 
 abbrev Inv-loop : tie.InvT-loop
-Inv-loop page a count out₀ at address₀ end₀ i₀ out address end i = (i ≤ count) × (end ≡ at + 2 * i)
+Inv-loop dynamic sram page a count out₀ at address₀ end₀ i₀ out address end i = (i ≤ count) × (end ≡ at + 2 * i)
 
 abbrev μ-loop : tie.MeasureT-loop
-μ-loop page a count out₀ at address₀ end₀ i₀ out address end i = count - i
+μ-loop dynamic sram page a count out₀ at address₀ end₀ i₀ out address end i = count - i
 
 loop-holds : tie.Need-loop-holds Inv-loop μ-loop
 loop-holds c = search needs
@@ -35,8 +35,8 @@ loop-again c = search needs
 returns : tie.Need-returns Inv-loop μ-loop
 returns c = search needs
 
-pub peek-spec : {M : Type 1} → statement M
-peek-spec =
+pub show-spec : {M : Type 1} → statement M
+show-spec =
     tie.close
     (tie.spec
     Inv-loop
