@@ -1,0 +1,2 @@
+pub mod Dtd
+pub mod Promises
