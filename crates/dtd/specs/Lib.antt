@@ -1,2 +1,3 @@
 pub mod Dtd
 pub mod Promises
+pub mod Where
