@@ -214,7 +214,7 @@ pub fn copy_out(
 }
 
 // The number that refuses a move of n bytes from index at on of an area of size bytes, 0 where it is accepted.
-fn refusal(dynamic: &[u8], sram: &[u8], page: &[u8], at: usize, n: usize, size: usize) -> u8
+pub fn refusal(dynamic: &[u8], sram: &[u8], page: &[u8], at: usize, n: usize, size: usize) -> u8
     ensures { λ r. ⌜ r ≡ C.refusal (shown (dynamic .entry) (sram .entry) (page .entry)) at n size ⌝ }
 {
     if !sized(dynamic, sram, page) {
