@@ -1,0 +1,384 @@
+// The state of a run, and the answer to each line of its script.
+// An answer has at most 16,387 bytes, so that one that starts at 40,000 or before is inside the output's buffer.
+use crate::frames;
+use crate::frames::Served;
+use script::hash;
+use script::parse;
+use script::text;
+use script::windows;
+ghost use Prim.Native.Nat.{_+_, _≤_};
+ghost use lib.ListN.{length};
+
+// What a run holds beside its memory and its serial queue; a run that is not live ignores lines up to the next `n`.
+pub struct State {
+    pub run: u64,
+    pub length: usize,
+    pub live: bool,
+    pub line: bool,
+    pub queued: usize,
+}
+
+// The state after a line, and where the output's answers end.
+pub struct Next {
+    pub state: State,
+    pub at: usize,
+}
+
+// A run's state at its start.
+pub fn fresh(run: u64, length: usize, live: bool) -> State
+    requires { ⌜ length ≤ 65536 ⌝ }
+    ensures { λ r. ⌜ (r .queued ≤ 4096) × (r .length ≤ 65536) ⌝ }
+{
+    State {
+        run,
+        length,
+        live,
+        line: false,
+        queued: 0,
+    }
+}
+
+// A run's start, with memory of zeros.
+fn start_run(
+    run: u64,
+    length: usize,
+    dynamic: &mut [u8; 65536],
+    sram: &mut [u8; 65536],
+    page: &mut [u8; 4096],
+    out: &mut [u8; 65536],
+    at: usize,
+) -> Next
+    requires { ⌜ (at ≤ 40000) × (length ≤ 65536) ⌝ }
+    ensures { λ r. ⌜ ((r .state .queued ≤ 4096) × (r .state .length ≤ 65536)) × (r .at ≤ 65536) ⌝ }
+{
+    let end = text::single(out, at, b'n', run);
+    let next = fresh(run, length, true);
+    windows::clear(dynamic);
+    windows::clear(sram);
+    windows::clear(page);
+    Next {
+        state: next,
+        at: end,
+    }
+}
+
+// `n LEN ..`: a new run; lengths above that of dynamic memory's array are bad here.
+fn new_run(
+    state: State,
+    line: &[u8],
+    dynamic: &mut [u8; 65536],
+    sram: &mut [u8; 65536],
+    page: &mut [u8; 4096],
+    out: &mut [u8; 65536],
+    at: usize,
+) -> Next
+    requires { ⌜ (at ≤ 40000) × ((state .queued ≤ 4096) × (state .length ≤ 65536)) ⌝ }
+    ensures { λ r. ⌜ ((r .state .queued ≤ 4096) × (r .state .length ≤ 65536)) × (r .at ≤ 65536) ⌝ }
+{
+    let number = parse::read_word(line, 1);
+    let length = number.value as usize;
+    if length <= 65536 {
+        if number.good & bus::power(length) {
+            let run = std::num::wrapping_add_u64(state.run, 1);
+            return start_run(run, length, dynamic, sram, page, out, at);
+        }
+    }
+    let end = text::bad_line(out, at);
+    Next { state, at: end }
+}
+
+// The first `count` bytes go behind the `held` bytes of the queue.
+fn enqueue(queue: &mut [u8; 4096], held: usize, bytes: &[u8; 4096], count: usize)
+    requires { ⌜ held + count ≤ 4096 ⌝ }
+{
+    let mut i = 0;
+    while i < count {
+        queue[held + i] = bytes[i];
+        i += 1;
+    }
+}
+
+// The queue without its first `count` bytes.
+fn dequeue(queue: &mut [u8; 4096], held: usize, count: usize)
+    requires { ⌜ (count ≤ held) × (held ≤ 4096) ⌝ }
+{
+    let mut i = count;
+    while i < held {
+        queue[i - count] = queue[i];
+        i += 1;
+    }
+}
+
+// The state with `queued` bytes in its queue.
+fn with_queued(state: State, queued: usize) -> State
+    requires { ⌜ queued ≤ 4096 ⌝ }
+    ensures { λ r. ⌜ (r .queued ≤ 4096) × (r .length ≤ state .length) ⌝ }
+{
+    State {
+        run: state.run,
+        length: state.length,
+        live: state.live,
+        line: state.line,
+        queued,
+    }
+}
+
+// `s BYTES`: a serial send, refused where the queue has no room.
+fn serial_send(
+    state: State,
+    line: &[u8],
+    queue: &mut [u8; 4096],
+    out: &mut [u8; 65536],
+    at: usize,
+) -> Next
+    requires { ⌜ (at ≤ 40000) × ((state .queued ≤ 4096) × (state .length ≤ 65536)) ⌝ }
+    ensures { λ r. ⌜ ((r .state .queued ≤ 4096) × (r .state .length ≤ 65536)) × (r .at ≤ 65536) ⌝ }
+{
+    let mut bytes = [0u8; 4096];
+    let queued = state.queued;
+    if 2 * (4096 - queued) + 3 < line.len() {
+        let end = text::refused(out, at, 7);
+        return Next { state, at: end };
+    }
+    let got = parse::read_bytes(line, 1, &mut bytes);
+    let count = got.count;
+    if got.good {
+        if count <= 4096 - queued {
+            enqueue(queue, queued, &bytes, count);
+            let end = text::outcome(out, at, 0);
+            let next = with_queued(state, queued + count);
+            return Next {
+                state: next,
+                at: end,
+            };
+        }
+    }
+    let end = text::bad_line(out, at);
+    Next { state, at: end }
+}
+
+// The hashes of the three windows.
+fn show_windows(dynamic: &[u8], sram: &[u8], page: &[u8], out: &mut [u8; 65536], at: usize) -> usize
+    requires { ⌜ at ≤ 60000 ⌝ }
+    ensures { λ r. ⌜ r ≤ at + 52 ⌝ }
+{
+    let mut end = text::field(out, at, hash::hash_all(dynamic));
+    end = text::field(out, end, hash::hash_all(sram));
+    end = text::field(out, end, hash::hash_all(page));
+    text::put(out, end, b'\n')
+}
+
+// A microframe's answer: the line's flag, bytes received and their hash, and bytes still queued; the windows' hashes follow.
+fn show_served(
+    served: Served,
+    queued: usize,
+    input: &[u8; 32768],
+    out: &mut [u8; 65536],
+    at: usize,
+) -> usize
+    requires { ⌜ (at ≤ 40000) × (served .received ≤ 32767) ⌝ }
+    ensures { λ r. ⌜ r ≤ at + 69 ⌝ }
+{
+    let received = served.received;
+    let mut end = text::put(out, at, b'u');
+    end = text::flag(out, end, served.line);
+    end = text::field(out, end, received as u64);
+    end = text::field(out, end, hash::hash_first(input, received));
+    text::field(out, end, queued as u64)
+}
+
+// The state after a microframe.
+fn after(state: State, live: bool, line: bool, queued: usize) -> State
+    requires { ⌜ queued ≤ 4096 ⌝ }
+    ensures { λ r. ⌜ (r .queued ≤ 4096) × (r .length ≤ state .length) ⌝ }
+{
+    State {
+        run: state.run,
+        length: state.length,
+        live,
+        line,
+        queued,
+    }
+}
+
+// A microframe's answer and state; a dropped byte ends the run.
+fn answer_served(
+    state: State,
+    served: Served,
+    dynamic: &[u8],
+    sram: &[u8],
+    page: &[u8],
+    queue: &mut [u8; 4096],
+    input: &[u8; 32768],
+    out: &mut [u8; 65536],
+    at: usize,
+) -> Next
+    requires { ⌜ (at ≤ 40000) × ((state .queued ≤ 4096) × (state .length ≤ 65536)) ⌝ }
+    requires { ⌜ (served .received ≤ 32767) × (served .sent ≤ state .queued) ⌝ }
+    ensures { λ r. ⌜ ((r .state .queued ≤ 4096) × (r .state .length ≤ 65536)) × (r .at ≤ 65536) ⌝ }
+{
+    let sent = served.sent;
+    let queued = state.queued;
+    let left = queued - sent;
+    if served.dropped {
+        let end = text::append(out, at, b"outside\n");
+        let next = after(state, false, served.line, left);
+        return Next {
+            state: next,
+            at: end,
+        };
+    }
+    dequeue(queue, queued, sent);
+    let shown = show_served(served, left, input, out, at);
+    let end = show_windows(dynamic, sram, page, out, shown);
+    let next = after(state, true, served.line, left);
+    Next {
+        state: next,
+        at: end,
+    }
+}
+
+// A microframe over windows of the right lengths.
+fn serve(
+    state: State,
+    dynamic: &mut [u8],
+    sram: &mut [u8],
+    page: &mut [u8],
+    queue: &mut [u8; 4096],
+    out: &mut [u8; 65536],
+    at: usize,
+) -> Next
+    requires { ⌜ (at ≤ 40000) × ((state .queued ≤ 4096) × (state .length ≤ 65536)) ⌝ }
+    ensures { λ r. ⌜ ((r .state .queued ≤ 4096) × (r .state .length ≤ 65536)) × (r .at ≤ 65536) ⌝ }
+{
+    if bus::sized(&*dynamic, &*sram, &*page) {
+        let mut input = [0u8; 32768];
+        let served = frames::serial(
+            dynamic,
+            sram,
+            page,
+            queue,
+            state.queued,
+            &mut input,
+            state.line,
+        );
+        return answer_served(
+            state,
+            served,
+            &*dynamic,
+            &*sram,
+            &*page,
+            queue,
+            &input,
+            out,
+            at,
+        );
+    }
+    let end = text::refused(out, at, 1);
+    Next { state, at: end }
+}
+
+// `u TIME`: a microframe; a serial host does not ask the time.
+fn microframe(
+    state: State,
+    line: &[u8],
+    dynamic: &mut [u8],
+    sram: &mut [u8; 65536],
+    page: &mut [u8; 4096],
+    queue: &mut [u8; 4096],
+    out: &mut [u8; 65536],
+    at: usize,
+) -> Next
+    requires { ⌜ (at ≤ 40000) × ((state .queued ≤ 4096) × (state .length ≤ 65536)) ⌝ }
+    requires { ⌜ state .length ≤ length (now dynamic) ⌝ }
+    ensures { λ r. ⌜ ((r .state .queued ≤ 4096) × (r .state .length ≤ 65536)) × (r .at ≤ 65536) ⌝ }
+{
+    let time = parse::read_number(line, 1);
+    let used = state.length;
+    if time.good & (time.next == line.len()) {
+        return serve(state, &mut dynamic[..used], sram, page, queue, out, at);
+    }
+    let end = text::bad_line(out, at);
+    Next { state, at: end }
+}
+
+// A line that goes through the memory windows, of which dynamic memory has the first `used` bytes of its array; or a bad line.
+fn reach(
+    letter: u8,
+    line: &[u8],
+    used: usize,
+    dynamic: &mut [u8],
+    sram: &mut [u8; 65536],
+    page: &mut [u8; 4096],
+    out: &mut [u8; 65536],
+    at: usize,
+) -> usize
+    requires { ⌜ (at ≤ 40000) × (used ≤ length (now dynamic)) ⌝ }
+    ensures { λ r. ⌜ r ≤ 65536 ⌝ }
+{
+    if letter == b'w' {
+        return windows::write_line(line, &mut dynamic[..used], sram, page, out, at);
+    }
+    if letter == b'f' {
+        return windows::fill_line(line, &mut dynamic[..used], sram, page, out, at);
+    }
+    if letter == b'p' {
+        return windows::look_line(line, &dynamic[..used], sram, page, out, at);
+    }
+    text::bad_line(out, at)
+}
+
+// The answer to a line of a live run.
+fn call(
+    state: State,
+    letter: u8,
+    line: &[u8],
+    dynamic: &mut [u8; 65536],
+    sram: &mut [u8; 65536],
+    page: &mut [u8; 4096],
+    queue: &mut [u8; 4096],
+    out: &mut [u8; 65536],
+    at: usize,
+) -> Next
+    requires { ⌜ (at ≤ 40000) × ((state .queued ≤ 4096) × (state .length ≤ 65536)) ⌝ }
+    ensures { λ r. ⌜ ((r .state .queued ≤ 4096) × (r .state .length ≤ 65536)) × (r .at ≤ 65536) ⌝ }
+{
+    if letter == b'u' {
+        return microframe(state, line, dynamic, sram, page, queue, out, at);
+    }
+    if letter == b's' {
+        return serial_send(state, line, queue, out, at);
+    }
+    let end = reach(letter, line, state.length, dynamic, sram, page, out, at);
+    Next { state, at: end }
+}
+
+// The answer to a line; an empty one and a comment have none, nor any but `n` where the run is not live.
+pub fn answer(
+    state: State,
+    line: &[u8],
+    dynamic: &mut [u8; 65536],
+    sram: &mut [u8; 65536],
+    page: &mut [u8; 4096],
+    queue: &mut [u8; 4096],
+    out: &mut [u8; 65536],
+    at: usize,
+) -> Next
+    requires { ⌜ (at ≤ 40000) × ((state .queued ≤ 4096) × (state .length ≤ 65536)) ⌝ }
+    ensures { λ r. ⌜ ((r .state .queued ≤ 4096) × (r .state .length ≤ 65536)) × (r .at ≤ 65536) ⌝ }
+{
+    if line.len() == 0 {
+        return Next { state, at };
+    }
+    if line[0] == b'#' {
+        return Next { state, at };
+    }
+    let letter = parse::letter(line);
+    if letter == b'n' {
+        return new_run(state, line, dynamic, sram, page, out, at);
+    }
+    if state.live {
+        return call(state, letter, line, dynamic, sram, page, queue, out, at);
+    }
+    Next { state, at }
+}
