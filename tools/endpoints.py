@@ -7,8 +7,10 @@
 
 ORACLE is the Rust's program of that name, PORT the port's `endpoints`. The Rust runs whole microframes, so each of its runs is
 first brought to where a microframe does nothing but a run: a serial host that streams runs endpoint 2, input and then
-output. Those first lines are the Rust's alone; then both clear the windows and read the same lines.
-A run ends where a byte is stored outside the windows: both answer `outside` and go on at the next `n`."""
+output; a host that has just asked for 64 bytes of a descriptor runs endpoint 0, input and, once that is done or 64 bytes are
+there, output of nothing. Those first lines are the Rust's alone; then both clear the windows and read the same lines.
+What a request's microframe answers is the Rust's `o` line behind it, since only that has the reply's hash.
+A run ends where a byte is stored outside the windows, and where the request ends: both go on at the next `n`."""
 import argparse
 import random
 import subprocess
@@ -20,6 +22,7 @@ LENGTHS = (0x1000, 0x2000, 0x4000, 0x10000)
 ACTIVE, IOC = 0x80, 0x8000
 TOTALS = [0, 1, 2, 3, 4, 31, 32, 64, 511, 512, 513, 4095, 4096, 4097, 20480, 32767]
 SERIAL_IN, SERIAL_OUT = (0x140, 0x40000), (0x100, 4)
+CONTROL_IN, CONTROL_OUT = (0x40, 0x10000), (0, 1)
 # EPLISTADDR for the setups of the first lines; the reset is over once URI is clear
 FIRST = ['h 0', f'w {USBCMD:x} 00000001', f'w {EPLISTADDR:x} 40000000', 'U 1a0 0 1', f'w {USBSTS:x} 00000000', 'U 60 0 1']
 # a stall drops each of the four setups
@@ -46,8 +49,14 @@ def cleared(length):
     return [fill(DYNAMIC, length, 0), fill(STATIC, 0x10000, 0), fill(PAGE, 0x1000, 0)]
 
 
-def serial_run(length, lines):
+def control_run(length, lines):
     """The run as the Rust reads it, and as the port does."""
+    new = f'n {length:x} 7 0 0 0 0 0 0 0'
+    asked = [part for line in lines for part in ((line, 'o') if line[:1] == 'u' else (line,))]
+    return [new] + FIRST + cleared(length) + asked, [new] + cleared(length) + lines
+
+
+def serial_run(length, lines):
     new = f'n {length:x} 7 0 0 1 0 0 0 0'
     return [new] + STREAM + cleared(length) + lines, [new] + cleared(length) + lines
 
@@ -103,8 +112,32 @@ def chosen_serial():
     return lines
 
 
+def chain(base, totals, flags, last=1):
+    """Descriptors one behind another, from an address on; the last one's pointer is given."""
+    return [descriptor(base + 32 * k, base + 32 * (k + 1) if k + 1 < len(totals) else last, total, [DYNAMIC + 0x3000 + k], flags) for k, total in enumerate(totals)]
+
+
+def chosen_control():
+    """Lists of a request's cases: each is a run of its own."""
+    head_in, head_out, td = DYNAMIC + 0x40, DYNAMIC, DYNAMIC + 0x1000
+    start = [put(DYNAMIC + 0x3000, range(256))] + registers(EPLISTADDR=DYNAMIC, EPSR=0x10001, USBINTR=1) + [queue_head(head_in, 0, td), queue_head(head_out, 0, td + 0x1000)]
+    given = [descriptor(td + 0x1000, 1, 0, [])]
+    runs = [['# 18 bytes that ask for an interrupt, and the status at once'] + start + given + chain(td, [18], ACTIVE | IOC) + ['u 0']]
+    runs.append(['# the same with no status yet: the next microframe is status only'] + start + chain(td, [18], ACTIVE | IOC) + ['u 0', word(EPSR, 0x10001)] + chain(td, [18], ACTIVE | IOC) + given + ['u 0'])
+    runs.append(['# a status that asks for no interrupt is not the end'] + start + [descriptor(td + 0x1000, 1, 0, [], ACTIVE)] + chain(td, [18], ACTIVE | IOC) + ['u 0'])
+    runs.append(['# 60 bytes without an interrupt stay in the data stage; 4 more are enough'] + start + given + chain(td, [20, 40], ACTIVE) + ['u 0', word(EPSR, 0x10001), queue_head(head_in, 0, td)] + chain(td, [4], ACTIVE) + ['u 0'])
+    runs.append(['# more than 64 bytes are cut'] + start + chain(td, [63, 2, 1, 0, 5], ACTIVE) + ['u 0'])
+    runs.append(['# 66 descriptors: a microframe runs 64 of them, and the endpoint stays primed'] + start + chain(td, [0] * 66, ACTIVE) + ['u 0', 'u 0'])
+    runs.append(['# 64 descriptors in a ring'] + start + chain(td, [0] * 64, ACTIVE, td) + ['u 0'])
+    runs.append(['# 66 descriptors that the status stage retires, though they move nothing'] + start + chain(td, [1], ACTIVE | IOC) + chain(td + 0x1000, [7] * 66, ACTIVE) + ['u 0', 'u 0'])
+    runs.append(['# an inactive descriptor ends the list'] + start + chain(td, [3, 4], ACTIVE) + [word(td + 0x24, 4 << 16), 'u 0'])
+    runs.append(['# one descriptor, its own next'] + start + chain(td, [3], ACTIVE, td) + ['u 0'])
+    runs.append(['# queue heads on the register page'] + registers(EPLISTADDR=PAGE, EPSR=0x10001) + [queue_head(PAGE + 0x40, 0, td), queue_head(PAGE, 0, td + 0x1000)] + given + chain(td, [9, 9], ACTIVE | IOC) + ['u 0'])
+    return [control_run(0x10000, lines) for lines in runs]
+
+
 def chosen():
-    return [serial_run(0x10000, chosen_serial()), serial_run(0x1000, ['# the same after a run that ended'] + registers() + ['u 0'])]
+    return chosen_control() + [serial_run(0x10000, chosen_serial()), serial_run(0x1000, ['# the same after a run that ended'] + registers() + ['u 0'])]
 
 
 # ---- generated cases
@@ -256,9 +289,36 @@ def serial_case(rng, length, inside=True):
     return lines
 
 
+def control_case(rng, length):
+    base = list_address(rng, length)
+    lines, last = page_words(rng, base, rng.choice([0x10000, 0x10001, 0x10001]))
+    base &= ~0x7FF
+    lines.append(put(mirrored(rng, length, DYNAMIC + rng.randrange(length)), rng.randbytes(rng.randrange(1, 600))))
+    for offset, _ in (CONTROL_IN, CONTROL_OUT):
+        head = base + offset
+        kind = rng.random()
+        if kind < 0.45:
+            count = rng.choice([1, 2, 2, 3, 4, 10, 63, 64, 65, 70])
+            at = rng.choice([DYNAMIC, STATIC, STATIC + 0x8000]) + 32 * rng.randrange(16)
+            flags = ACTIVE | (IOC if rng.random() < 0.3 else 0)
+            totals = [rng.choice([0, 0, 1, 2, 8, 20, 63, 64, 65] + TOTALS) if count < 5 else rng.choice([0, 0, 0, 1, 2]) for _ in range(count)]
+            lines += chain(at, totals, flags, rng.choice([1, at, at + 32 * rng.randrange(count), rng.getrandbits(32)])) + [queue_head(head, 0, at)]
+            if rng.random() < 0.5:
+                lines.append(word(at + 32 * rng.randrange(count) + 4, token(rng)))
+        else:
+            lines += direction(rng, length, base, offset, True)
+    lines += last + ['u 0']
+    while rng.random() < 0.4:
+        lines += direction(rng, length, base, rng.choice([0, 0x40]), True) + last + ['u 1']
+    return lines
+
+
 def generated(rng, cases):
-    """Runs of some hundred cases, the last of which may store outside the windows."""
-    runs, done = [], 0
+    """Half of the cases are of requests, each a run; the others are runs of some serial cases, the last of which may store outside the windows."""
+    runs, done = [], cases // 2
+    for _ in range(cases // 2):
+        length = rng.choice(LENGTHS)
+        runs.append(control_run(length, control_case(rng, length)))
     while done < cases:
         length = rng.choice(LENGTHS)
         count = min(rng.choice([2, 5, 20, 40]), cases - done)
@@ -270,29 +330,9 @@ def generated(rng, cases):
 
 # ---- both programs
 
-def answered(line):
-    """A line of the oracle's log as the port answers it."""
-    words = line.split(' ')
-    if words[0] == 'u':
-        words = ['u'] + [words[i] for i in (44, 47, 48, 14, 49, 50, 51)]
-    return ' '.join(words)
-
-
 def run(program, script):
     done = subprocess.run([program], input=script.encode(), stdout=subprocess.PIPE, check=True)
     return done.stdout.decode().splitlines()
-
-
-def rust(oracle, runs):
-    return [answered(line) for line in run(oracle, ''.join(line + '\n' for lines, _ in runs for line in lines))]
-
-
-def port_script(runs):
-    return [line for _, lines in runs for line in lines]
-
-
-def asks(lines):
-    return [j for j, line in enumerate(lines) if line[:1] not in ('w', 'f', '#', '')]
 
 
 def by_run(answers):
@@ -305,9 +345,42 @@ def by_run(answers):
     return parts
 
 
+def serial_answer(line):
+    words = line.split(' ')
+    return ' '.join(['u'] + [words[i] for i in (44, 47, 48, 14, 49, 50, 51)]) if words[0] == 'u' else line
+
+
+def control_answers(part):
+    """A request's answers, up to its end."""
+    answers = []
+    for line in part:
+        words = line.split(' ')
+        if words[0] == 'o':
+            answers.append(' '.join(['u'] + [words[i] for i in (44, 7, 8, 10, 59, 49, 50, 51)]))
+            if words[7] == '0':
+                break
+        else:
+            answers.append(line)
+    return answers
+
+
+def rust(oracle, runs):
+    """The Rust's answers to each run, as the port gives them."""
+    parts = by_run(run(oracle, ''.join(line + '\n' for lines, _ in runs for line in lines)))
+    return [control_answers(part) if ' 7 0 0 0 ' in lines[0] else [serial_answer(line) for line in part] for (_, lines), part in zip(runs, parts)]
+
+
+def port_script(runs):
+    return [line for _, lines in runs for line in lines]
+
+
+def asks(lines):
+    return [j for j, line in enumerate(lines) if line[:1] not in ('w', 'f', '#', '')]
+
+
 def compare(oracle, port, runs):
     """The first difference: the lines of the run that led to it, and both answers; or None."""
-    want, got = by_run(rust(oracle, runs)), by_run(run(port, '\n'.join(port_script(runs)) + '\n'))
+    want, got = rust(oracle, runs), by_run(run(port, '\n'.join(port_script(runs)) + '\n'))
     for (_, lines), right, left in zip(runs, want, got):
         if right != left:
             k = next((k for k, (a, b) in enumerate(zip(right, left)) if a != b), min(len(right), len(left)))
@@ -315,8 +388,9 @@ def compare(oracle, port, runs):
             return lines[:places[min(k, len(places) - 1)] + 1], (right + ['(no answer)'])[min(k, len(right))], (left + ['(no answer)'])[min(k, len(left))]
     if not len(want) == len(got) == len(runs):
         sys.exit(f'{len(runs)} runs: the Rust answers {len(want)} and the port {len(got)}')
-    answers = [line for part in want for line in part]
-    print(f'{len(runs)} runs: {sum(a[:1] == "u" for a in answers)} microframes on endpoint 2, {sum(a[:2] == "u " and a.split(" ")[2] != "0" for a in answers)} with bytes received, and {sum(a == "outside" for a in answers)} that ended outside the windows, all alike')
+    control = [a.split(' ') for (_, lines), part in zip(runs, want) if ' 7 0 0 0 ' in lines[0] for a in part if a[:1] == 'u']
+    serial = [a.split(' ') for (_, lines), part in zip(runs, want) if ' 7 0 0 1 ' in lines[0] for a in part if a[:1] == 'u']
+    print(f'{len(runs)} runs: {len(serial)} microframes on endpoint 2, {sum(a[2] != "0" for a in serial)} with bytes received; {len(control)} on endpoint 0, {sum(a[2] == "0" for a in control)} that ended the request and {sum(a[4] != "0" for a in control)} that left a reply; {sum("outside" in part for part in want)} runs ended outside the windows; all alike')
     return None
 
 
@@ -333,7 +407,7 @@ def main():
         print('\n'.join(port_script(chosen())))
         return 0
     if options.answers:
-        print('\n'.join(rust(options.oracle, chosen())))
+        print('\n'.join(line for part in rust(options.oracle, chosen()) for line in part))
         return 0
     rng = random.Random(options.seed)
     different = compare(options.oracle, options.port, chosen() + generated(rng, options.cases))

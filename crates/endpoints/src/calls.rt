@@ -1,5 +1,8 @@
 // The state of a run, and the answer to each line of its script.
 // An answer has at most 16,387 bytes, so that one that starts at 40,000 or before is inside the output's buffer.
+use crate::control;
+use crate::control::Request;
+use crate::control::Step;
 use crate::frames;
 use crate::frames::Served;
 use script::hash;
@@ -8,14 +11,19 @@ use script::text;
 use script::windows;
 ghost use Prim.Native.Nat.{_+_, _≤_};
 ghost use lib.ListN.{length};
+ghost use Rattle.bus.specs.Memory.{shown};
+ghost use Rattle.bus.specs.Sized.{Sized};
 
-// What a run holds beside its memory and its serial queue; a run that is not live ignores lines up to the next `n`.
+// What a run holds beside its memory and its serial queue: a run is of a control request or of a serial host.
+// A run that is not live ignores lines up to the next `n`.
 pub struct State {
     pub run: u64,
     pub length: usize,
     pub live: bool,
     pub line: bool,
     pub queued: usize,
+    pub control: bool,
+    pub request: Request,
 }
 
 // The state after a line, and where the output's answers end.
@@ -25,16 +33,19 @@ pub struct Next {
 }
 
 // A run's state at its start.
-pub fn fresh(run: u64, length: usize, live: bool) -> State
+pub fn fresh(run: u64, length: usize, live: bool, control: bool) -> State
     requires { ⌜ length ≤ 65536 ⌝ }
     ensures { λ r. ⌜ (r .queued ≤ 4096) × (r .length ≤ 65536) ⌝ }
 {
+    let request = control::posted();
     State {
         run,
         length,
         live,
         line: false,
         queued: 0,
+        control,
+        request,
     }
 }
 
@@ -42,6 +53,7 @@ pub fn fresh(run: u64, length: usize, live: bool) -> State
 fn start_run(
     run: u64,
     length: usize,
+    control: bool,
     dynamic: &mut [u8; 65536],
     sram: &mut [u8; 65536],
     page: &mut [u8; 4096],
@@ -52,7 +64,7 @@ fn start_run(
     ensures { λ r. ⌜ ((r .state .queued ≤ 4096) × (r .state .length ≤ 65536)) × (r .at ≤ 65536) ⌝ }
 {
     let end = text::single(out, at, b'n', run);
-    let next = fresh(run, length, true);
+    let next = fresh(run, length, true, control);
     windows::clear(dynamic);
     windows::clear(sram);
     windows::clear(page);
@@ -62,7 +74,17 @@ fn start_run(
     }
 }
 
-// `n LEN ..`: a new run; lengths above that of dynamic memory's array are bad here.
+// Whether the fifth number of a line is 0: that of an `n` line says whether the host is a serial one.
+fn fifth_zero(line: &[u8]) -> bool {
+    let first = parse::read_word(line, 1);
+    let second = parse::read_word(line, first.next);
+    let third = parse::read_word(line, second.next);
+    let fourth = parse::read_word(line, third.next);
+    let fifth = parse::read_word(line, fourth.next);
+    fifth.good & (fifth.value == 0)
+}
+
+// `n LEN SPACE DS MI CDC ..`: a new run; lengths above that of dynamic memory's array are bad here.
 fn new_run(
     state: State,
     line: &[u8],
@@ -80,7 +102,8 @@ fn new_run(
     if length <= 65536 {
         if number.good & bus::power(length) {
             let run = std::num::wrapping_add_u64(state.run, 1);
-            return start_run(run, length, dynamic, sram, page, out, at);
+            let control = fifth_zero(line);
+            return start_run(run, length, control, dynamic, sram, page, out, at);
         }
     }
     let end = text::bad_line(out, at);
@@ -114,12 +137,15 @@ fn with_queued(state: State, queued: usize) -> State
     requires { ⌜ queued ≤ 4096 ⌝ }
     ensures { λ r. ⌜ (r .queued ≤ 4096) × (r .length ≤ state .length) ⌝ }
 {
+    let request = state.request;
     State {
         run: state.run,
         length: state.length,
         live: state.live,
         line: state.line,
         queued,
+        control: state.control,
+        request,
     }
 }
 
@@ -168,27 +194,31 @@ fn show_windows(dynamic: &[u8], sram: &[u8], page: &[u8], out: &mut [u8; 65536],
     text::put(out, end, b'\n')
 }
 
-// A microframe's answer: the line's flag, bytes received and their hash, and bytes still queued; the windows' hashes follow.
+// A microframe's answer: the line's flag, bytes received and their hash, bytes still queued, and the windows' hashes.
 fn show_served(
     served: Served,
     queued: usize,
+    dynamic: &[u8],
+    sram: &[u8],
+    page: &[u8],
     input: &[u8; 32768],
     out: &mut [u8; 65536],
     at: usize,
 ) -> usize
     requires { ⌜ (at ≤ 40000) × (served .received ≤ 32767) ⌝ }
-    ensures { λ r. ⌜ r ≤ at + 69 ⌝ }
+    ensures { λ r. ⌜ r ≤ 65536 ⌝ }
 {
     let received = served.received;
     let mut end = text::put(out, at, b'u');
     end = text::flag(out, end, served.line);
     end = text::field(out, end, received as u64);
     end = text::field(out, end, hash::hash_first(input, received));
-    text::field(out, end, queued as u64)
+    end = text::field(out, end, queued as u64);
+    show_windows(dynamic, sram, page, out, end)
 }
 
 // The state after a microframe.
-fn after(state: State, live: bool, line: bool, queued: usize) -> State
+fn after(state: State, live: bool, line: bool, queued: usize, request: Request) -> State
     requires { ⌜ queued ≤ 4096 ⌝ }
     ensures { λ r. ⌜ (r .queued ≤ 4096) × (r .length ≤ state .length) ⌝ }
 {
@@ -198,6 +228,8 @@ fn after(state: State, live: bool, line: bool, queued: usize) -> State
         live,
         line,
         queued,
+        control: state.control,
+        request,
     }
 }
 
@@ -220,22 +252,146 @@ fn answer_served(
     let sent = served.sent;
     let queued = state.queued;
     let left = queued - sent;
+    let request = state.request;
     if served.dropped {
         let end = text::append(out, at, b"outside\n");
-        let next = after(state, false, served.line, left);
+        let next = after(state, false, served.line, left, request);
         return Next {
             state: next,
             at: end,
         };
     }
     dequeue(queue, queued, sent);
-    let shown = show_served(served, left, input, out, at);
-    let end = show_windows(dynamic, sram, page, out, shown);
-    let next = after(state, true, served.line, left);
+    let end = show_served(served, left, dynamic, sram, page, input, out, at);
+    let next = after(state, true, served.line, left, request);
     Next {
         state: next,
         at: end,
     }
+}
+
+// A request that has ended shows as an empty one.
+fn shown_request(request: Request, running: bool) -> Request {
+    if running {
+        return request;
+    }
+    control::posted()
+}
+
+// The hash of a reply so far.
+fn reply_hash(reply: &[u8; 64], filled: usize) -> u64
+    requires { ⌜ filled ≤ 64 ⌝ }
+{
+    hash::hash_first(reply, filled)
+}
+
+// A request's answer: the line's flag, whether it runs, its stage, its reply's length and hash, and the windows' hashes.
+fn show_step(
+    step: Step,
+    dynamic: &[u8],
+    sram: &[u8],
+    page: &[u8],
+    out: &mut [u8; 65536],
+    at: usize,
+) -> usize
+    requires { ⌜ at ≤ 40000 ⌝ }
+    ensures { λ r. ⌜ r ≤ 65536 ⌝ }
+{
+    let request = shown_request(step.request, step.running);
+    let reply = request.reply;
+    let filled = frames::least(request.filled, 64);
+    let mut end = text::put(out, at, b'u');
+    end = text::flag(out, end, step.line);
+    end = text::flag(out, end, step.running);
+    end = text::flag(out, end, request.status);
+    end = text::field(out, end, filled as u64);
+    end = text::field(out, end, reply_hash(&reply, filled));
+    show_windows(dynamic, sram, page, out, end)
+}
+
+// The answer and state after a request's microframe; its end, or a dropped byte, ends the run.
+fn answer_step(
+    state: State,
+    step: Step,
+    dynamic: &[u8],
+    sram: &[u8],
+    page: &[u8],
+    out: &mut [u8; 65536],
+    at: usize,
+) -> Next
+    requires { ⌜ (at ≤ 40000) × ((state .queued ≤ 4096) × (state .length ≤ 65536)) ⌝ }
+    ensures { λ r. ⌜ ((r .state .queued ≤ 4096) × (r .state .length ≤ 65536)) × (r .at ≤ 65536) ⌝ }
+{
+    let request = step.request;
+    if step.dropped {
+        let end = text::append(out, at, b"outside\n");
+        let next = after(state, false, step.line, state.queued, request);
+        return Next {
+            state: next,
+            at: end,
+        };
+    }
+    let end = show_step(step, dynamic, sram, page, out, at);
+    let next = after(state, step.running, step.line, state.queued, request);
+    Next {
+        state: next,
+        at: end,
+    }
+}
+
+// A microframe of a control request.
+fn serve_control(
+    state: State,
+    dynamic: &mut [u8],
+    sram: &mut [u8],
+    page: &mut [u8],
+    out: &mut [u8; 65536],
+    at: usize,
+) -> Next
+    requires { ⌜ Sized (shown dynamic sram page) ⌝ }
+    requires { ⌜ (at ≤ 40000) × ((state .queued ≤ 4096) × (state .length ≤ 65536)) ⌝ }
+    ensures { λ r. ⌜ ((r .state .queued ≤ 4096) × (r .state .length ≤ 65536)) × (r .at ≤ 65536) ⌝ }
+{
+    let request = state.request;
+    let step = control::microframe(dynamic, sram, page, request, state.line);
+    answer_step(state, step, &*dynamic, &*sram, &*page, out, at)
+}
+
+// A microframe of a serial host.
+fn serve_serial(
+    state: State,
+    dynamic: &mut [u8],
+    sram: &mut [u8],
+    page: &mut [u8],
+    queue: &mut [u8; 4096],
+    out: &mut [u8; 65536],
+    at: usize,
+) -> Next
+    requires { ⌜ Sized (shown dynamic sram page) ⌝ }
+    requires { ⌜ (at ≤ 40000) × ((state .queued ≤ 4096) × (state .length ≤ 65536)) ⌝ }
+    ensures { λ r. ⌜ ((r .state .queued ≤ 4096) × (r .state .length ≤ 65536)) × (r .at ≤ 65536) ⌝ }
+{
+    let mut input = [0u8; 32768];
+    let served = frames::serial(
+        dynamic,
+        sram,
+        page,
+        queue,
+        state.queued,
+        &mut input,
+        state.line,
+    );
+    answer_served(
+        state,
+        served,
+        &*dynamic,
+        &*sram,
+        &*page,
+        queue,
+        &input,
+        out,
+        at,
+    )
 }
 
 // A microframe over windows of the right lengths.
@@ -252,33 +408,16 @@ fn serve(
     ensures { λ r. ⌜ ((r .state .queued ≤ 4096) × (r .state .length ≤ 65536)) × (r .at ≤ 65536) ⌝ }
 {
     if bus::sized(&*dynamic, &*sram, &*page) {
-        let mut input = [0u8; 32768];
-        let served = frames::serial(
-            dynamic,
-            sram,
-            page,
-            queue,
-            state.queued,
-            &mut input,
-            state.line,
-        );
-        return answer_served(
-            state,
-            served,
-            &*dynamic,
-            &*sram,
-            &*page,
-            queue,
-            &input,
-            out,
-            at,
-        );
+        if state.control {
+            return serve_control(state, dynamic, sram, page, out, at);
+        }
+        return serve_serial(state, dynamic, sram, page, queue, out, at);
     }
     let end = text::refused(out, at, 1);
     Next { state, at: end }
 }
 
-// `u TIME`: a microframe; a serial host does not ask the time.
+// `u TIME`: a microframe; neither kind of run asks the time.
 fn microframe(
     state: State,
     line: &[u8],

@@ -17,7 +17,8 @@ pub struct Served {
     pub dropped: bool,
 }
 
-fn least(a: usize, b: usize) -> usize
+// The smaller of two counts.
+pub fn least(a: usize, b: usize) -> usize
     ensures { λ r. ⌜ (r ≤ a) × (r ≤ b) ⌝ }
 {
     if a < b {
@@ -27,7 +28,7 @@ fn least(a: usize, b: usize) -> usize
 }
 
 // A microframe's start: FRINDEX counts, and SRI is raised.
-fn begin(page: &mut [u8], flag: bool) -> bool
+pub fn begin(page: &mut [u8], flag: bool) -> bool
     requires { ⌜ length (now page) ≡ 4096 ⌝ }
 {
     let frame = usbdev::next_frindex(word_at(&*page, FRINDEX), 1);

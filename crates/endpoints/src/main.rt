@@ -1,5 +1,6 @@
-// Answers a script of lines from standard input by single runs over the transfer descriptors of an endpoint.
+// Answers a script of lines from standard input by single runs over the transfer descriptors of endpoints 0 and 2.
 mod calls;
+mod control;
 mod frames;
 
 use calls::State;
@@ -208,7 +209,7 @@ fn take_all(
 {
     let mut reading = Reading {
         line: empty_line(),
-        state: calls::fresh(0, 4096, false),
+        state: calls::fresh(0, 4096, false, false),
         at: 0,
     };
     let mut more = true;
