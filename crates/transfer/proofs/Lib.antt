@@ -6,4 +6,3 @@ pub mod Runs
 pub mod Loops
 pub mod Checked
 pub mod PointerLoop
-pub mod Examples
