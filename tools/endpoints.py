@@ -104,8 +104,11 @@ def chosen_serial():
         lines += ['s ' + text(range(0x10, 0x34))] + registers(EPLISTADDR=DYNAMIC, EPSR=4) + [queue_head(head_out, 0, DYNAMIC + 0x400), descriptor(DYNAMIC + 0x400, DYNAMIC + 0x440, 36, [at] + pages), 'u 0', 'p 40000100 10', 'p 40000400 20']
     lines += ['# output whose second page is that of its own descriptor: all pointers are read before the first store']
     lines += ['s ' + text(range(0x40, 0x80))] + registers(EPLISTADDR=DYNAMIC, EPSR=4) + [queue_head(head_out, 0, DYNAMIC), descriptor(DYNAMIC, 1, 64, [pages[0] + 0xFF8, DYNAMIC, pages[2]]), 'u 0', 'p 40000000 40']
-    lines += ['# queue heads and a descriptor on the register page: USBINTR is the pointer of the input\'s queue head, EPSR a descriptor\'s token']
-    lines += registers(EPLISTADDR=PAGE, EPSR=0x400C4, USBINTR=PAGE + 0x1A0, USBSTS=0, FRINDEX=0x4440) + ['u 0', 'p fc0b0140 90']
+    lines += ['# queue heads and a descriptor on the register page: USBINTR is the pointer of the input\'s queue head, OTGSC a token that is not active, then one that is']
+    for otg in (0, 5 << 16 | ACTIVE | IOC):
+        lines += registers(EPLISTADDR=PAGE, EPSR=0x400C4, USBINTR=PAGE + 0x1A0, USBSTS=0, FRINDEX=0x4440, OTGSC=otg) + ['u 0', 'p fc0b0140 90']
+    lines += ['# a descriptor whose token is USBSTS, whose second pointer is FRINDEX and whose fifth is EPLISTADDR']
+    lines += registers(EPLISTADDR=DYNAMIC, EPSR=0x40000, USBSTS=20480 << 16 | ACTIVE | IOC, USBINTR=pages[0] + 0xFFE, FRINDEX=pages[2]) + [queue_head(head_in, 0, PAGE + 0x140), 'u 0', 'p fc0b0140 90', 'p 40000140 10']
     lines += registers(EPLISTADDR=PAGE, EPSR=0x40000, USBINTR=STATIC + 0x20) + [descriptor(STATIC + 0x20, 1, 9, [STATIC + 0xFFFC, STATIC]), 'u 0', 'p fc0b0140 90']
     lines += ['# input from no window is zeros'] + registers(EPLISTADDR=STATIC, EPSR=0x40000) + [queue_head(STATIC + 0x140, 0, STATIC + 0x400), descriptor(STATIC + 0x400, 1, 9, [0x10, 0x20]), 'u 0']
     lines += ['# output to no window ends the run', 's 010203'] + registers(EPLISTADDR=STATIC, EPSR=4) + [queue_head(STATIC + 0x100, 0, STATIC + 0x400), descriptor(STATIC + 0x400, 1, 9, [0x10, 0x20]), 'u 0', 'u 0', 'p 40000000 4']
