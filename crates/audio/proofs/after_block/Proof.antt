@@ -1,0 +1,52 @@
+-- `audio::after_block` meets its contract.
+use Rattle.audio.proofs.Laws.{sent-as}
+use borrow.Author.Needs.{needs}
+use Rattle.audio.proofs.after_block.Statement.{statement}
+use Rattle.audio.proofs.after_block.Tie as tie
+
+fewer-requires : tie.Need-fewer-requires
+fewer-requires c κs = search needs
+
+sub-missing : tie.Need-sub-missing
+sub-missing c = search needs
+
+place-requires : tie.Need-place-requires
+place-requires c κs = search needs
+
+wrapping-add-u16-requires : tie.Need-wrapping-add-u16-requires
+wrapping-add-u16-requires c κs = search needs
+
+wrapping-add-u64-requires : tie.Need-wrapping-add-u64-requires
+wrapping-add-u64-requires c κs = search needs
+
+wrapping-add-u64-requires-2 : tie.Need-wrapping-add-u64-requires-2
+wrapping-add-u64-requires-2 c κs = search needs
+
+wrapping-add-u64-requires-3 : tie.Need-wrapping-add-u64-requires-3
+wrapping-add-u64-requires-3 c κs = search needs
+
+sub-credit : tie.Need-sub-credit
+sub-credit c = search needs
+
+sub-len : tie.Need-sub-len
+sub-len c = search needs
+
+returns : tie.Need-returns
+returns c =
+    let a = c .before .before .before .before .before .before .before .before .before .before .before .before .before .before .before .before .args in
+    sent-as (a .s) (a .capacity) _ _ _ _ _ _ (c .before .before .before .before .before .before .before .before .before .before .before .before .before .before .fewer .ensures) (c .before .before .before .before .before .before .before .before .before .before .before .before .before .place .ensures) (c .before .before .before .before .before .before .before .before .before .before .before .before .wrapping-add-u16 .ensures) (c .before .before .before .before .before .before .before .before .before .before .before .wrapping-add-u64 .ensures) (c .before .before .before .before .before .before .before .before .before .before .wrapping-add-u642 .ensures) (c .before .before .before .before .before .before .before .before .before .wrapping-add-u643 .ensures)
+
+pub after-block-spec : {M : Type 1} → statement M
+after-block-spec =
+    tie.close
+    (tie.spec
+    fewer-requires
+    sub-missing
+    place-requires
+    wrapping-add-u16-requires
+    wrapping-add-u64-requires
+    wrapping-add-u64-requires-2
+    wrapping-add-u64-requires-3
+    sub-credit
+    sub-len
+    returns)

@@ -1,0 +1,48 @@
+-- What the decoding of blocks promises: what it leaves of ring, credit and counts, with whatever else the World holds, is what the step leaves.
+use Prim.Native.Nat.{ℕ, _+_, _<_, _≤_}
+use mathlib.Core.List.{List}
+use Rattle.record.specs.declared.Ring.{Ring}
+use Rattle.record.specs.declared.Stats.{Stats}
+use Rattle.record.specs.declared.State.{State}
+use Rattle.record.specs.Record.{wrapped, withReceived, withCredit, withAudio, withStats}
+use Rattle.record.specs.World.{World}
+use Rattle.record.specs.Change.{Step}
+use Rattle.record.specs.Did.{Leads}
+use Rattle.model.specs.Audio.{keepsFrames}
+use Rattle.blocks.specs.declared.Decoded.{Decoded}
+
+-- a place and a length of the received ring
+pub record InRing (r : Ring) : Type 0 where
+  pub start : r .start < 48000
+  pub len : r .len ≤ 48000
+
+-- a World with the received ring in it
+abbrev pub atRing : World → Ring → List ℕ → World
+atRing r x l = record { settings = r .settings; packer = r .packer; state = withAudio (r .state) (withReceived (r .state .audio) x); memory = r .memory; setups = r .setups; midi = r .midi; serial = r .serial; device = r .device; reply = r .reply; config = r .config; receive = r .receive; received = l; sending = r .sending }
+
+-- seven frames from bs on
+pub record KeepsFrames (bs : List ℕ) (r : Ring) (l : List ℕ) (r′ : Ring) (l′ : List ℕ) : Type 0 where
+  pub leads : (w : World) → Leads (keepsFrames 7 bs) (atRing w r l) (atRing w r′ l′)
+  pub inside : InRing r′
+
+-- counts of frames and of bad blocks
+abbrev pub withBlocks : Stats → ℕ → ℕ → Stats
+withBlocks r f b = record { microframes = r .microframes; «in_transfers» = r .«in_transfers»; «out_transfers» = r .«out_transfers»; «in_frames» = f; «out_frames» = r .«out_frames»; «bad_blocks» = b; «midi_dtds» = r .«midi_dtds»; «midi_asleep» = r .«midi_asleep»; «out_underruns» = r .«out_underruns»; «midi_packets_out» = r .«midi_packets_out»; «vendor_in_bytes» = r .«vendor_in_bytes»; restarts = r .restarts; enumerations = r .enumerations }
+
+-- a state with what blocks change in it, and a World with that and the received ring
+abbrev pub withDecoded : State → Decoded → State
+withDecoded s d = withStats (withAudio s (withReceived (withCredit (s .audio) (d .credit)) (d .ring))) (withBlocks (s .stats) (d .frames) (d .bad))
+
+abbrev pub atBlocks : World → Decoded → List ℕ → World
+atBlocks r d l = record { settings = r .settings; packer = r .packer; state = withDecoded (r .state) d; memory = r .memory; setups = r .setups; midi = r .midi; serial = r .serial; device = r .device; reply = r .reply; config = r .config; receive = r .receive; received = l; sending = r .sending }
+
+pub record Keeps (f : Step) (d : Decoded) (l : List ℕ) (d′ : Decoded) (l′ : List ℕ) : Type 0 where
+  pub leads : (w : World) → Leads f (atBlocks w d l) (atBlocks w d′ l′)
+  pub inside : InRing (d′ .ring)
+
+-- one more bad block, and one more good one with its frames in the ring
+abbrev pub oneBad : Decoded → Decoded
+oneBad d = record { ring = d .ring; credit = d .credit; frames = d .frames; bad = wrapped (d .bad + 1) }
+
+abbrev pub oneGood : Decoded → Ring → Decoded
+oneGood d r = record { ring = r; credit = wrapped (d .credit + 7); frames = wrapped (d .frames + 7); bad = d .bad }

@@ -1,0 +1,12 @@
+-- `bounds::made` meets its contract.
+use mathlib.Core.Path.{refl}
+use Rattle.bounds.specs.Bounds.{made}
+use Rattle.bounds.proofs.made.Statement.{statement}
+use Rattle.bounds.proofs.made.Tie as tie
+
+returns : tie.Need-returns
+unfolding made
+returns c = refl
+
+pub made-spec : {M : Type 1} → statement M
+made-spec = tie.close (tie.spec returns)

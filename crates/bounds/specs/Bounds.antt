@@ -1,0 +1,152 @@
+-- The bounds of a host record (document 01, "Numbers of refusal", 5), a named part for each clause, in the order of that text.
+use Prim.Native.Nat.{ℕ, zero, suc, _+_, _-_, _*_, _/_, _%_, _^_, min}
+use mathlib.Core.Bool.{Bool, true, false, not, _&&_, _||_}
+use mathlib.Core.List.{List}
+use lib.Dec.{eqb, leb, ltb}
+use lib.ListN.{length}
+use Rattle.midi.specs.declared.Packer.{Packer}
+use Rattle.midi.specs.Packer.{messageLength}
+use Rattle.gptimers.specs.declared.Timer.{Timer}
+use Rattle.gptimers.specs.declared.Timers.{Timers}
+use Rattle.gptimers.specs.Timer.{ZERO}
+use Rattle.record.specs.declared.Ring.{Ring}
+use Rattle.record.specs.declared.Audio.{Audio}
+use Rattle.record.specs.declared.Control.{Control}
+use Rattle.record.specs.declared.Stats.{Stats}
+use Rattle.record.specs.declared.Lengths.{Lengths}
+use Rattle.record.specs.declared.State.{State}
+use Rattle.record.specs.Change.{FRAMES, WORDS}
+use Rattle.record.specs.Setups.{little}
+use Rattle.model.specs.Control.{wLength, enumerating}
+
+-- ---- setups that the source makes (usbhost.rs 474-479, 715, 724-735)
+
+-- four bytes as the little-endian word that is kept for them
+abbrev pub le : ℕ → ℕ → ℕ → ℕ → ℕ
+le a b c d = a + 2 ^ 8 * b + 2 ^ 16 * c + 2 ^ 24 * d
+
+-- 479, 715: a configuration request, of any length
+abbrev pub asksConfiguration : ℕ → Bool
+asksConfiguration first = eqb first (le 0x80 6 0 2)
+
+-- device descriptor of 64 or of 18 bytes; address 7; configuration of any length; set configuration 1; set interface with an alternate that is not 0
+unfoldable pub made : ℕ → ℕ → Bool
+made first second =
+    (eqb first (le 0x80 6 0 1) && (eqb second (le 0 0 64 0) || eqb second (le 0 0 18 0)))
+    || ((eqb first (le 0 5 7 0) && eqb second 0)
+    || ((asksConfiguration first && eqb (second % 2 ^ 16) 0)
+    || ((eqb first (le 0 9 1 0) && eqb second 0)
+    || (eqb (first % 2 ^ 16) (le 1 11 0 0) && (ltb 0 (first / 2 ^ 16) && (ltb (first / 2 ^ 16) 256 && ltb second 256))))))
+
+-- each of the first n setups that wait is one that the source makes, and none of the first n is a configuration request
+unfoldable pub madeAt : List ℕ → ℕ → Bool
+madeAt q n = made (little q (8 * n)) (little q (8 * n + 4))
+
+unfoldable pub allMade : List ℕ → ℕ → Bool
+allMade q zero = true
+allMade q (suc n) = allMade q n && madeAt q n
+
+unfoldable pub other : List ℕ → ℕ → Bool
+other q n = not (asksConfiguration (little q (8 * n)))
+
+unfoldable pub noneAsks : List ℕ → ℕ → Bool
+noneAsks q zero = true
+noneAsks q (suc n) = noneAsks q n && other q n
+
+-- at most 257, each made by the source, and a configuration request only as the last
+unfoldable pub setupsOk : ℕ → List ℕ → Bool
+setupsOk n q = leb n 257 && (allMade q n && noneAsks q (n - 1))
+
+-- none waits and none runs outside enumeration
+unfoldable pub enumeratingOk : State → Bool
+enumeratingOk s = enumerating (s .phase) || (eqb (s .lengths .setups) 0 && not (s .control .on))
+
+-- a running request: one that the source makes, a configuration request with none waiting behind it, begun no later than now,
+-- and its reply no longer than it asks
+unfoldable pub requestOk : Control → ℕ → ℕ → Bool
+requestOk c waiting uf =
+    not (c .on)
+    || (made (c .first) (c .second)
+    && ((not (asksConfiguration (c .first)) || eqb waiting 0)
+    && (leb (c .t0) uf && leb (c .got) (wLength c))))
+
+-- ---- queues, descriptors, packer
+
+unfoldable pub queuesOk : Lengths → Bool
+queuesOk l = leb (l .midi) 4096 && (eqb (l .midi % 4) 0 && (leb (l .serial) 4096 && leb (l .device) 64))
+
+-- over two held MIDI bytes, or any with a two-byte status outside SysEx
+unfoldable pub packerOk : Packer → Bool
+packerOk p = leb (p .held) 2 && (p .sysex || (eqb (p .held) 0 || not (eqb (messageLength (p .status)) 2)))
+
+-- ---- counts
+
+abbrev pub MOST : ℕ
+MOST = 2 ^ 40
+
+-- the two microframe counts are equal and not above 2^40, and no phase began after them
+unfoldable pub countsOk : State → Bool
+countsOk s =
+    eqb (s .stats .microframes) (s .port .uf) && (leb (s .port .uf) MOST && leb (s .port .t) (s .port .uf))
+
+-- a bound that grows with the microframes, of which there are at most 2^40
+abbrev pub times : ℕ → ℕ → ℕ
+times k n = k * min n MOST
+
+-- every other counter
+unfoldable pub countersOk : Stats → Bool
+countersOk r =
+    (leb (r .«in_transfers») (times 32767 (r .microframes)) && (leb (r .«out_transfers») (times 32767 (r .microframes)) && (leb (r .«in_frames») (times 32767 (r .microframes)) && (leb (r .«out_frames») (times 32767 (r .microframes)) && leb (r .«bad_blocks») (times 32767 (r .microframes))))))
+    && (leb (r .«midi_dtds») (times 32767 (r .microframes)) && (leb (r .«midi_asleep») (times 32767 (r .microframes)) && (leb (r .«out_underruns») (times 32767 (r .microframes)) && (leb (r .«midi_packets_out») (times 32767 (r .microframes)) && (leb (r .«vendor_in_bytes») (times 32767 (r .microframes)) && (leb (r .restarts) (times 32767 (r .microframes)) && leb (r .enumerations) (times 32767 (r .microframes))))))))
+
+-- credit: a multiple of seven, at most 623 a microframe
+unfoldable pub creditOk : ℕ → ℕ → Bool
+creditOk credit n = eqb (credit % 7) 0 && leb credit (times 623 n)
+
+-- a timer that counts: not below -125 a microframe, nor above 2^24
+unfoldable pub timerOk : Timer → ℕ → Bool
+timerOk t n = not (t .set) || (leb (ZERO - times 125 n) (t .count) && leb (t .count) (ZERO + 2 ^ 24))
+
+unfoldable pub timersOk : Timers → ℕ → Bool
+timersOk ts n = timerOk (ts .zero) n && timerOk (ts .one) n
+
+-- input budget, block and channels
+unfoldable pub audioOk : Audio → Bool
+audioOk a =
+    leb 33 (a .block)
+    && (leb (a .budget) 32766 && (leb (a .block) 2047 && eqb (a .channels) ((a .block - 32) / 28)))
+
+-- ---- the whole record, but for what an area bounds
+
+-- setups waiting and running
+abbrev pub askedOk : State → List ℕ → Bool
+askedOk s setups =
+    setupsOk (s .lengths .setups) setups && (enumeratingOk s && requestOk (s .control) (s .lengths .setups) (s .port .uf))
+
+abbrev pub heldOk : State → Packer → Bool
+heldOk s p = queuesOk (s .lengths) && packerOk p
+
+abbrev pub countedOk : State → Bool
+countedOk s =
+    countsOk s
+    && (countersOk (s .stats) && (creditOk (s .audio .credit) (s .stats .microframes) && timersOk (s .timers) (s .stats .microframes)))
+
+unfoldable pub inBounds : State → Packer → List ℕ → Bool
+inBounds s p setups = askedOk s setups && (heldOk s p && (countedOk s && audioOk (s .audio)))
+
+-- ---- what an area bounds, in calls that are lent it
+
+-- a ring of so many frames: it holds no more, and its start lies in it
+unfoldable pub ringOk : Ring → ℕ → Bool
+ringOk r capacity = ltb (r .start) capacity && leb (r .len) capacity
+
+-- the received ring has 48,000 frames, the sending ring as many as the lent words make
+abbrev pub receivedOk : State → Bool
+receivedOk s = ringOk (s .audio .received) FRAMES
+
+abbrev pub sendingOk : State → ℕ → Bool
+sendingOk s words = ringOk (s .audio .sending) (words / WORDS)
+
+-- the configuration and the reply of a running request lie in their areas
+unfoldable pub areasOk : State → ℕ → ℕ → Bool
+areasOk s reply config = leb (s .lengths .config) config && (not (s .control .on) || leb (s .control .got) reply)

@@ -1,0 +1,274 @@
+// The bounds of a host record (number 5), decided: a test for each clause, and all of them.
+ghost use mathlib.Core.Path.{_≡_};
+ghost use mathlib.Core.Bool.{Bool};
+ghost use Prim.Native.Nat.{_+_, _-_, _≤_, _<_, min};
+ghost use Rattle.record.specs.Setups.{little};
+ghost use Rattle.model.specs.Control.{enumerating as Control·enumerating};
+ghost use Rattle.bounds.specs.Bounds as B;
+use gptimers::Timer;
+use gptimers::Timers;
+use midi::Packer;
+use record::Audio;
+use record::Control;
+use record::Lengths;
+use record::Phase;
+use record::Ring;
+use record::State;
+use record::Stats;
+
+// A configuration request's first word: 80 06 00 02.
+const ASKS_CONFIGURATION: u32 = 0x0200_0680;
+
+// The most microframes of a host.
+const MOST: u64 = 0x100_0000_0000;
+
+// The count that stands for 0 in a timer.
+const ZERO: u64 = 0x4_0000_0000_0000;
+
+// The little-endian word at index `at`.
+fn word_from(setups: &[u8; 2056], at: usize) -> u32
+    requires { ⌜ at + 4 ≤ 2056 ⌝ }
+    ensures { λ r. ⌜ r ≡ little (now (setups .entry)) at ⌝ }
+{
+    bus::word(setups[at + 3], setups[at + 2], setups[at + 1], setups[at])
+}
+
+// Whether the source makes a setup with these two words.
+pub fn made(first: u32, second: u32) -> bool
+    ensures { λ r. ⌜ r ≡ B.made first second ⌝ }
+{
+    let device = (first == 0x0100_0680) & ((second == 0x0040_0000) | (second == 0x0012_0000));
+    let address = (first == 0x0007_0500) & (second == 0);
+    let configuration = (first == ASKS_CONFIGURATION) & (second % 0x1_0000 == 0);
+    let set = (first == 0x0001_0900) & (second == 0);
+    let alternate = first / 0x1_0000;
+    let interface = (first % 0x1_0000 == 0x0B01)
+        & ((0 < alternate) & ((alternate < 256) & (second < 256)));
+    device | (address | (configuration | (set | interface)))
+}
+
+// Whether the source makes setup i of the queue.
+fn made_at(setups: &[u8; 2056], i: usize) -> bool
+    requires { ⌜ i < 257 ⌝ }
+    ensures { λ r. ⌜ r ≡ B.madeAt (now (setups .entry)) i ⌝ }
+{
+    let first = word_from(setups, 8 * i);
+    let second = word_from(setups, 8 * i + 4);
+    made(first, second)
+}
+
+// Whether the source makes each of the first n setups.
+fn all_made(setups: &[u8; 2056], n: usize) -> bool
+    requires { ⌜ n ≤ 257 ⌝ }
+    ensures { λ r. ⌜ r ≡ B.allMade (now (setups .entry)) n ⌝ }
+{
+    let mut ok = true;
+    let mut i: usize = 0;
+    while i < n {
+        let one = made_at(setups, i);
+        ok = ok & one;
+        i += 1;
+    }
+    ok
+}
+
+// Whether setup i of the queue asks for something else than the configuration.
+fn other_at(setups: &[u8; 2056], i: usize) -> bool
+    requires { ⌜ i < 257 ⌝ }
+    ensures { λ r. ⌜ r ≡ B.other (now (setups .entry)) i ⌝ }
+{
+    let first = word_from(setups, 8 * i);
+    !(first == ASKS_CONFIGURATION)
+}
+
+// Whether none of the first n setups is a configuration request.
+fn none_asks(setups: &[u8; 2056], n: usize) -> bool
+    requires { ⌜ n ≤ 257 ⌝ }
+    ensures { λ r. ⌜ r ≡ B.noneAsks (now (setups .entry)) n ⌝ }
+{
+    let mut ok = true;
+    let mut i: usize = 0;
+    while i < n {
+        let one = other_at(setups, i);
+        ok = ok & one;
+        i += 1;
+    }
+    ok
+}
+
+// The number before n, or 0.
+fn before(n: usize) -> usize
+    ensures { λ r. ⌜ r ≡ n - 1 ⌝ }
+{
+    if n == 0 {
+        return 0;
+    }
+    n - 1
+}
+
+// The setups that wait.
+pub fn setups_ok(n: usize, setups: &[u8; 2056]) -> bool
+    ensures { λ r. ⌜ r ≡ B.setupsOk n (now (setups .entry)) ⌝ }
+{
+    if 257 < n {
+        return false;
+    }
+    let each = all_made(setups, n);
+    let last = none_asks(setups, before(n));
+    each & last
+}
+
+// Whether the phase is enumeration.
+fn enumerating(p: Phase) -> bool
+    ensures { λ r. ⌜ r ≡ Control·enumerating p ⌝ }
+{
+    match p {
+        Phase::Idle => false,
+        Phase::Vbus => false,
+        Phase::Reset => false,
+        Phase::Enumerate => true,
+        Phase::Stream => false,
+    }
+}
+
+// No setup waits and none runs outside enumeration.
+pub fn enumerating_ok(s: State) -> bool
+    ensures { λ r. ⌜ r ≡ B.enumeratingOk s ⌝ }
+{
+    let phase = s.phase;
+    let inside = enumerating(phase);
+    inside | ((s.lengths.setups == 0) & !s.control.on)
+}
+
+// A running request.
+pub fn request_ok(c: Control, waiting: usize, uf: u64) -> bool
+    ensures { λ r. ⌜ r ≡ B.requestOk c waiting uf ⌝ }
+{
+    let known = made(c.first, c.second);
+    let alone = !(c.first == ASKS_CONFIGURATION) | (waiting == 0);
+    let asked = (c.second / 0x1_0000) as usize;
+    !c.on | (known & (alone & ((c.t0 <= uf) & (c.got <= asked))))
+}
+
+// The queues and the device descriptor.
+pub fn queues_ok(l: Lengths) -> bool
+    ensures { λ r. ⌜ r ≡ B.queuesOk l ⌝ }
+{
+    (l.midi <= 4096) & ((l.midi % 4 == 0) & ((l.serial <= 4096) & (l.device <= 64)))
+}
+
+// The bytes that the packer holds.
+pub fn packer_ok(p: Packer) -> bool
+    ensures { λ r. ⌜ r ≡ B.packerOk p ⌝ }
+{
+    let two = midi::message_length(p.status) == 2;
+    (p.held <= 2) & (p.sysex | ((p.held == 0) | !two))
+}
+
+// The two microframe counts and the phase's start.
+pub fn counts_ok(s: State) -> bool
+    ensures { λ r. ⌜ r ≡ B.countsOk s ⌝ }
+{
+    (s.stats.microframes == s.port.uf) & ((s.port.uf <= MOST) & (s.port.t <= s.port.uf))
+}
+
+// The smaller of n and the most microframes.
+fn at_most(n: u64) -> u64
+    ensures { λ r. ⌜ (r ≡ min n B.MOST) × (r ≤ B.MOST) ⌝ }
+{
+    if n < MOST {
+        return n;
+    }
+    MOST
+}
+
+// The counters but that of microframes.
+pub fn counters_ok(r: Stats) -> bool
+    ensures { λ ok. ⌜ ok ≡ B.countersOk r ⌝ }
+{
+    let most = 32767 * at_most(r.microframes);
+    let audio = (r.in_transfers <= most)
+        & ((r.out_transfers <= most)
+            & ((r.in_frames <= most) & ((r.out_frames <= most) & (r.bad_blocks <= most))));
+    let others = (r.midi_dtds <= most)
+        & ((r.midi_asleep <= most)
+            & ((r.out_underruns <= most)
+                & ((r.midi_packets_out <= most)
+                    & ((r.vendor_in_bytes <= most)
+                        & ((r.restarts <= most) & (r.enumerations <= most))))));
+    audio & others
+}
+
+// The credit after n microframes.
+pub fn credit_ok(credit: u64, n: u64) -> bool
+    ensures { λ r. ⌜ r ≡ B.creditOk credit n ⌝ }
+{
+    let most = 623 * at_most(n);
+    (credit % 7 == 0) & (credit <= most)
+}
+
+// A timer after n microframes.
+pub fn timer_ok(t: Timer, n: u64) -> bool
+    ensures { λ r. ⌜ r ≡ B.timerOk t n ⌝ }
+{
+    let least = ZERO - 125 * at_most(n);
+    !t.set | ((least <= t.count) & (t.count <= 0x4_0000_0100_0000))
+}
+
+// Both timers.
+pub fn timers_ok(ts: Timers, n: u64) -> bool
+    ensures { λ r. ⌜ r ≡ B.timersOk ts n ⌝ }
+{
+    let zero = ts.zero;
+    let one = ts.one;
+    timer_ok(zero, n) & timer_ok(one, n)
+}
+
+// The input budget, the block and its channels.
+pub fn audio_ok(a: Audio) -> bool
+    ensures { λ r. ⌜ r ≡ B.audioOk a ⌝ }
+{
+    if a.block < 33 {
+        return false;
+    }
+    let channels = (a.block - 32) / 28;
+    (a.budget <= 32766) & ((a.block <= 2047) & (a.channels == channels))
+}
+
+// A ring that has room for `capacity` frames.
+pub fn ring_ok(r: Ring, capacity: usize) -> bool
+    ensures { λ ok. ⌜ ok ≡ B.ringOk r capacity ⌝ }
+{
+    (r.start < capacity) & (r.len <= capacity)
+}
+
+// Configuration and reply in areas of these lengths.
+pub fn areas_ok(s: State, reply: usize, config: usize) -> bool
+    ensures { λ r. ⌜ r ≡ B.areasOk s reply config ⌝ }
+{
+    (s.lengths.config <= config) & (!s.control.on | (s.control.got <= reply))
+}
+
+// The counts of a record: microframes, counters, credit and timers.
+fn counted_ok(s: State) -> bool
+    ensures { λ r. ⌜ r ≡ B.countedOk s ⌝ }
+{
+    let stats = s.stats;
+    let timers = s.timers;
+    let n = s.stats.microframes;
+    counts_ok(s) & (counters_ok(stats) & (credit_ok(s.audio.credit, n) & timers_ok(timers, n)))
+}
+
+// The whole record, but for what an area bounds.
+pub fn in_bounds(s: State, p: Packer, setups: &[u8; 2056]) -> bool
+    ensures { λ r. ⌜ r ≡ B.inBounds s p (now (setups .entry)) ⌝ }
+{
+    let control = s.control;
+    let lengths = s.lengths;
+    let audio = s.audio;
+    let waiting = s.lengths.setups;
+    let asked = setups_ok(waiting, setups)
+        & (enumerating_ok(s) & request_ok(control, waiting, s.port.uf));
+    let held = queues_ok(lengths) & packer_ok(p);
+    asked & (held & (counted_ok(s) & audio_ok(audio)))
+}

@@ -1,0 +1,87 @@
+-- What the functions of a request promise: the World with what they take in its place.
+use Prim.Native.Nat.{ℕ, _≤_}
+use mathlib.Core.Bool.{Bool, true, false}
+use mathlib.Core.List.{List, []}
+use mathlib.Core.Path.{_≡_}
+use lib.Dec.{eqb}
+use Rattle.bits.specs.Pick.{pick}
+use Rattle.bus.specs.Memory.{Memory, after}
+use Rattle.bus.specs.Sized.{Sized}
+use Rattle.bus.specs.Stores.{BusStep, putting, _then_}
+use Rattle.record.specs.Setups.{little}
+use Rattle.record.specs.declared.State.{State}
+use Rattle.record.specs.World.{World, atBus}
+use Rattle.record.specs.Change as H
+use Rattle.dtd.specs.Dtd.{endpoint}
+use Rattle.record.specs.Change.{Step, if, when, runs}
+use Rattle.record.specs.Did.{Leads}
+use Rattle.model.specs.Phases.{dropsRequest}
+use Rattle.model.specs.Control.{late, toStatus, keepsReply, finishes, statusStage, dataStage, inStatus, stalled, unstalls, stages}
+use Rattle.finished.specs.Promises.{Ready}
+use Rattle.control.specs.declared.Next.{Next}
+use Rattle.control.specs.declared.Next.the-variants.{Setup, Empty}
+use Rattle.control.specs.declared.Acknowledged.{Acknowledged}
+
+-- the first of so many setups that wait, by its two words
+abbrev pub nextOf : List ℕ → ℕ → Next
+nextOf q count = pick (eqb count 0) Empty (Setup (little q 0) (little q 4))
+
+-- the two words of a setup in a queue head
+abbrev pub putsSetup : ℕ → ℕ → ℕ → BusStep
+putsSetup qh first second = putting (after qh 0x28) first then putting (after qh 0x2C) second
+
+-- a World with state, memory and setups in its place
+abbrev pub atSetups : World → State → Memory → List ℕ → World
+atSetups r s m q = record { settings = r .settings; packer = r .packer; state = s; memory = m; setups = q; midi = r .midi; serial = r .serial; device = r .device; reply = r .reply; config = r .config; receive = r .receive; received = r .received; sending = r .sending }
+
+pub record Posts (f : Step) (s : State) (m : Memory) (q : List ℕ) (s′ : State) (m′ : Memory) (q′ : List ℕ) : Type 0 where
+  pub leads : (w : World) → Leads f (atSetups w s m q) (atSetups w s′ m′ q′)
+  pub sized : Sized m′
+
+-- with state, memory and reply in its place
+abbrev pub atReply : World → State → Memory → List ℕ → World
+atReply r s m p = record { settings = r .settings; packer = r .packer; state = s; memory = m; setups = r .setups; midi = r .midi; serial = r .serial; device = r .device; reply = p; config = r .config; receive = r .receive; received = r .received; sending = r .sending }
+
+-- a data stage leaves a request that is ready for its status stage
+pub record Stages (f : Step) (s : State) (m : Memory) (p : List ℕ) (s′ : State) (m′ : Memory) (p′ : List ℕ) : Type 0 where
+  pub leads : (w : World) → Leads f (atReply w s m p) (atReply w s′ m′ p′)
+  pub sized : Sized m′
+  pub ready : Ready s′
+
+-- the data stage from the device, and towards it
+abbrev pub dataIn : Step
+dataIn = runs (endpoint 0 true) [] keepsReply
+
+abbrev pub dataOut : Step
+dataOut = runs (endpoint 0 false) [] (λ r. when (λ w. r .done) toStatus)
+
+-- a status stage up to its end, and what follows by its completion
+abbrev pub endsBy : Bool → Bool → Step
+endsBy stack done = if (λ w. done) (finishes stack) (when late dropsRequest)
+
+pub record Acknowledges (s : State) (m : Memory) (a : Acknowledged) (m′ : Memory) : Type 0 where
+  pub leads : (stack : Bool) (w : World) {b : World} → Leads (endsBy stack (a .done)) (atBus w (a .state) m′) b → Leads (statusStage stack) (atBus w s m) b
+  pub sized : Sized m′
+  pub ready : Ready (a .state)
+  pub few : a .state .control .got ≤ 65535
+
+-- what follows a data stage
+abbrev pub serves : Bool → Step
+serves stack = H._then_ dataStage (if (λ w. inStatus (w .state .control .stage)) (statusStage stack) (when late dropsRequest))
+
+-- a request that runs
+abbrev pub requests : Bool → Step
+requests stack = if stalled unstalls (stages stack)
+
+-- what is tested of the record before a microframe (document 01, refusal 5)
+pub record Bounded (s : State) : Type 0 where
+  pub few : s .lengths .setups ≤ 257
+  pub running : s .control .on ≡ true → Ready s
+
+-- with all that control takes in its place: state, memory, setups, device descriptor, reply and configuration
+abbrev pub atControl : World → State → Memory → List ℕ → List ℕ → List ℕ → List ℕ → World
+atControl r s m q d p c = record { settings = r .settings; packer = r .packer; state = s; memory = m; setups = q; midi = r .midi; serial = r .serial; device = d; reply = p; config = c; receive = r .receive; received = r .received; sending = r .sending }
+
+pub record Controls (f : Step) (s : State) (m : Memory) (q d p c : List ℕ) (s′ : State) (m′ : Memory) (q′ d′ p′ c′ : List ℕ) : Type 0 where
+  pub leads : (w : World) → Leads f (atControl w s m q d p c) (atControl w s′ m′ q′ d′ p′ c′)
+  pub sized : Sized m′

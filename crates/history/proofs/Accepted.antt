@@ -1,0 +1,81 @@
+-- What an accepted microframe's record holds: its counters and its credit are small.
+use Prim.Native.Nat.{ℕ, zero, suc, _+_, _*_, _%_, _≤_, _<_, _^_, min}
+use mathlib.Core.Path.{_≡_, refl, sym, ap, _∙_}
+use mathlib.Core.Bool.{Bool, true, false, _&&_}
+use native.Mathlib.Omega.{arith}
+use borrow.Author.Tests.{leb-true, eqb-true}
+use lib.Dec.{eqb, leb, ltb}
+use Rattle.bits.specs.Pick.{pick}
+use Rattle.model.proofs.Placed.{and-first, and-second}
+use Rattle.bounds.specs.Bounds.{MOST, times, askedOk, heldOk, countsOk, countersOk, creditOk, timersOk, audioOk, inBounds}
+use Rattle.usbhost.specs.declared.Host.{Host}
+use Rattle.usbhost.specs.Host.{stateOf}
+use Rattle.usbhost.specs.Calls.{bounded, fewSpans}
+use Rattle.bus.specs.Sized.{isSized}
+use Rattle.usbhost.specs.Frame.{Lent, areaLengths, frameBounds, frameNumber}
+
+-- a chain of tests that gives 0 has passed them all
+passed : (n : ℕ) (t : Bool) (k : ℕ) → pick t k (suc n) ≡ 0 → (t ≡ true) × (k ≡ 0)
+passed n true k e = (refl, e)
+passed n false k e = absurd (omega arith)
+
+pub record Small (h : Host) : Type 0 where
+  pub credit : h .audio .credit ≤ 623 * MOST
+  pub sevens : h .audio .credit % 7 ≡ 0
+  pub received : h .stats .«in_frames» ≤ 32767 * MOST
+  pub sent : h .stats .«out_frames» ≤ 32767 * MOST
+
+bound-le : (k n : ℕ) → k * min n MOST ≤ k * MOST
+bound-le k n = mul-le k (min n MOST) MOST (omega arith)
+  where
+    mul-le : (k a b : ℕ) → a ≤ b → k * a ≤ k * b
+    mul-le zero a b h = omega arith
+    mul-le (suc k) a b h = omega (arith, mul-le k a b h)
+
+pub small-bounded : (h : Host) → bounded h ≡ true → Small h
+unfolding inBounds countersOk creditOk
+small-bounded h e =
+    let s = stateOf h in
+    let e₁ = and-second (askedOk s (h .setups)) _ e in
+    let e₂ = and-second (heldOk s (h .packer)) _ e₁ in
+    let counted = and-first _ (audioOk (h .audio)) e₂ in
+    let c₁ = and-second (countsOk s) _ counted in
+    let counters = and-first (countersOk (h .stats)) _ c₁ in
+    let c₂ = and-second (countersOk (h .stats)) _ c₁ in
+    let credit = and-first (creditOk (h .audio .credit) (h .stats .microframes)) _ c₂ in
+    let audio = and-first _ _ counters in
+    let a₁ = and-second (leb (h .stats .«in_transfers») (times 32767 (h .stats .microframes))) _ audio in
+    let a₂ = and-second (leb (h .stats .«out_transfers») (times 32767 (h .stats .microframes))) _ a₁ in
+    let a₃ = and-second (leb (h .stats .«in_frames») (times 32767 (h .stats .microframes))) _ a₂ in
+    record {
+      credit = omega (arith, leb-true (h .audio .credit) _ (and-second (eqb (h .audio .credit % 7) 0) _ credit), bound-le 623 (h .stats .microframes));
+      sevens = eqb-true (h .audio .credit % 7) 0 (and-first _ _ credit);
+      received = omega (arith, leb-true (h .stats .«in_frames») _ (and-first _ _ a₂), bound-le 32767 (h .stats .microframes));
+      sent = omega (arith, leb-true (h .stats .«out_frames») _ (and-first _ _ a₃), bound-le 32767 (h .stats .microframes));
+    }
+
+-- the tests of an accepted microframe
+pub record Accepted (h : Host) (l : Lent) : Type 0 where
+  pub sized : isSized (l .memory) ≡ true
+  pub lengths : areaLengths l ≡ true
+  pub spans : fewSpans h ≡ true
+  pub bounds : frameBounds h l ≡ true
+  pub before : ltb (h .port .uf) MOST ≡ true
+
+pub accepted-tests : (h : Host) (l : Lent) → frameNumber h l ≡ 0 → Accepted h l
+unfolding frameNumber
+accepted-tests h l e =
+    let six : ℕ = pick (ltb (h .port .uf) MOST) 0 6 in
+    let five : ℕ = pick (frameBounds h l) six 5 in
+    let three : ℕ = pick (fewSpans h) five 3 in
+    let two : ℕ = pick (areaLengths l) three 2 in
+    let p₁ = passed 0 (isSized (l .memory)) two e in
+    let p₂ = passed 1 (areaLengths l) three (p₁ .1) in
+    let p₃ = passed 2 (fewSpans h) five (p₂ .1) in
+    let p₄ = passed 4 (frameBounds h l) six (p₃ .1) in
+    let p₅ = passed 5 (ltb (h .port .uf) MOST) 0 (p₄ .1) in
+    record { sized = p₁ .0; lengths = p₂ .0; spans = p₃ .0; bounds = p₄ .0; before = p₅ .0 }
+
+pub accepted-small : (h : Host) (l : Lent) → frameNumber h l ≡ 0 → Small h
+unfolding frameBounds
+accepted-small h l e = small-bounded h (and-first (bounded h) _ (accepted-tests h l e .bounds))

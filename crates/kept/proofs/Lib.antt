@@ -1,0 +1,5 @@
+pub mod Holding
+pub mod Credit
+pub mod Every
+pub mod Timers
+pub mod Queues

@@ -1,0 +1,125 @@
+-- The fields that the history reads: credit, the two counters of frames, gone, and RS seen set.
+use Prim.Native.Nat.{ℕ, _+_}
+use mathlib.Core.Path.{_≡_, refl}
+use mathlib.Core.Bool.{Bool, true, false}
+use Rattle.record.specs.Record.{wrapped, counted, Counter, microframes, «in_transfers», «out_transfers», «in_frames», «out_frames», «bad_blocks», «midi_dtds», «midi_asleep», «out_underruns», «midi_packets_out», «vendor_in_bytes», restarts, enumerations}
+use Rattle.record.specs.World.{World}
+use Rattle.record.specs.Change.{Change, bus, ran, lost, count, uf, phase, started, gone, suspended, running, credit, budget, counter, block, timers, control, queued, popped, pushed, cleared, reply, device, config, forgot, midi, serial, received, frame, taken, apply}
+use Rattle.model.specs.Earned.{Counts, countsOf}
+use Rattle.model.proofs.Fields.{Fields}
+
+pub record Frames : Type 0 where
+  pub counts : Counts
+  pub gone : Bool
+  pub running : Bool
+
+abbrev pub framesOf : World → Frames
+framesOf w = record { counts = countsOf w; gone = w .state .port .gone; running = w .state .port .running }
+
+abbrev pub withCounts : Frames → Counts → Frames
+withCounts k m = record { counts = m; gone = k .gone; running = k .running }
+
+abbrev pub onCounts : Counter → ℕ → Counts → Counts
+onCounts microframes n m = m
+onCounts «in_transfers» n m = m
+onCounts «out_transfers» n m = m
+onCounts «in_frames» n m = record { credit = m .credit; received = wrapped (m .received + n); sent = m .sent }
+onCounts «out_frames» n m = record { credit = m .credit; received = m .received; sent = wrapped (m .sent + n) }
+onCounts «bad_blocks» n m = m
+onCounts «midi_dtds» n m = m
+onCounts «midi_asleep» n m = m
+onCounts «out_underruns» n m = m
+onCounts «midi_packets_out» n m = m
+onCounts «vendor_in_bytes» n m = m
+onCounts restarts n m = m
+onCounts enumerations n m = m
+
+abbrev pub onFrames : Change → Frames → Frames
+onFrames (bus s) k = k
+onFrames (ran e r n) k = k
+onFrames (lost n) k = k
+onFrames (count c n) k = withCounts k (onCounts c n (k .counts))
+onFrames (uf n) k = k
+onFrames (phase p) k = k
+onFrames (started n) k = k
+onFrames (gone b) k = record { counts = k .counts; gone = b; running = k .running }
+onFrames (suspended b) k = k
+onFrames (running b) k = record { counts = k .counts; gone = k .gone; running = b }
+onFrames (credit n) k = withCounts k (record { credit = n; received = k .counts .received; sent = k .counts .sent })
+onFrames (budget n) k = k
+onFrames (counter n) k = k
+onFrames (block n m) k = k
+onFrames (timers ts) k = k
+onFrames (control c) k = k
+onFrames (queued bs) k = k
+onFrames popped k = k
+onFrames (pushed bs) k = k
+onFrames cleared k = k
+onFrames (reply n bs) k = k
+onFrames (device bs) k = k
+onFrames (config bs) k = k
+onFrames forgot k = k
+onFrames (midi n) k = k
+onFrames (serial n) k = k
+onFrames (received bs) k = k
+onFrames (frame f) k = k
+onFrames (taken n) k = k
+
+frames-count : (c : Counter) (n : ℕ) (w : World) → framesOf (apply (count c n) w) ≡ onFrames (count c n) (framesOf w)
+unfolding apply counted
+frames-count microframes n w = refl
+frames-count «in_transfers» n w = refl
+frames-count «out_transfers» n w = refl
+frames-count «in_frames» n w = refl
+frames-count «out_frames» n w = refl
+frames-count «bad_blocks» n w = refl
+frames-count «midi_dtds» n w = refl
+frames-count «midi_asleep» n w = refl
+frames-count «out_underruns» n w = refl
+frames-count «midi_packets_out» n w = refl
+frames-count «vendor_in_bytes» n w = refl
+frames-count restarts n w = refl
+frames-count enumerations n w = refl
+
+pub frames-apply : (c : Change) (w : World) → framesOf (apply c w) ≡ onFrames c (framesOf w)
+unfolding apply
+frames-apply (bus s) w = refl
+frames-apply (ran e r n) w = refl
+frames-apply (lost n) w = refl
+frames-apply (count c n) w = frames-count c n w
+frames-apply (uf n) w = refl
+frames-apply (phase p) w = refl
+frames-apply (started n) w = refl
+frames-apply (gone b) w = refl
+frames-apply (suspended b) w = refl
+frames-apply (running b) w = refl
+frames-apply (credit n) w = refl
+frames-apply (budget n) w = refl
+frames-apply (counter n) w = refl
+frames-apply (block n m) w = refl
+frames-apply (timers ts) w = refl
+frames-apply (control c) w = refl
+frames-apply (queued bs) w = refl
+frames-apply popped w = refl
+frames-apply (pushed bs) w = refl
+frames-apply cleared w = refl
+frames-apply (reply n bs) w = refl
+frames-apply (device bs) w = refl
+frames-apply (config bs) w = refl
+frames-apply forgot w = refl
+frames-apply (midi n) w = refl
+frames-apply (serial n) w = refl
+frames-apply (received bs) w = refl
+frames-apply (frame f) w = refl
+frames-apply (taken n) w = refl
+
+abbrev pub frames : Fields Frames
+frames =
+    record {
+      of = framesOf;
+      on = onFrames;
+      applies = frames-apply;
+      stores = λ s k. refl;
+      marks = λ e n m k. refl;
+      drops = λ n k. refl;
+    }

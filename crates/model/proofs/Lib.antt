@@ -1,0 +1,11 @@
+pub mod Fields
+pub mod Frames
+pub mod Quiet
+pub mod Way
+pub mod Phase
+pub mod Streaming
+pub mod Placed
+pub mod Earned
+pub mod Counts
+pub mod Marks
+pub mod Claims

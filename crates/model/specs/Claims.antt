@@ -1,0 +1,57 @@
+-- Demand 3 of one microframe: one block sent, or none; what the output step's changes are in each case.
+use Prim.Native.Nat.{ℕ, _+_, _-_, _%_, _^_, min}
+use mathlib.Core.Bool.{Bool, true, false, _&&_}
+use mathlib.Core.List.{List, [], _∷_, _++_, map}
+use mathlib.Core.Path.{_≡_}
+use lib.Dec.{leb}
+use lib.ListN.{length}
+use Rattle.bits.specs.Word.{clear}
+use Rattle.bus.specs.Words.{wordAt}
+use Rattle.bus.specs.Stores as S
+use Rattle.bus.specs.Stores.{Store, BusStep, droppedBy}
+use Rattle.usbdev.specs.Offsets.{BASE, EPSR}
+use Rattle.usbdev.specs.Transfer.{totalOf}
+use Rattle.transfer.specs.Transfer.{pointers, sending}
+use Rattle.dtd.specs.Dtd.{bitOf, queueHead, nextDtd, tokenOf, descriptor, finishing}
+use Rattle.record.specs.Record.{«out_transfers», «out_frames», «out_underruns»}
+use Rattle.record.specs.World.{World, busOf}
+use Rattle.record.specs.Change.{Change, bus, ran, lost, count, credit, counter, taken}
+use Rattle.model.specs.Audio.{audioOut, BLOCK-FRAMES, blockOf}
+use Rattle.model.specs.Reach.{reachesOutput, atOutput, outputReady}
+
+-- the output step is reached, primed, its next descriptor active, and the credit at least seven
+abbrev pub sendsAt : ℕ → World → Bool
+sendsAt t w = reachesOutput t w && (outputReady (atOutput w) && leb BLOCK-FRAMES (atOutput w .state .audio .credit))
+
+-- what the one descriptor takes: the block's first bytes, as many as its total allows, at its addresses (579-581), and then its retirement
+abbrev pub outPointer : World → ℕ
+outPointer x = nextDtd audioOut (x .memory)
+
+abbrev pub outToken : World → ℕ
+outToken x = tokenOf (outPointer x) (x .memory)
+
+abbrev pub outMoved : World → ℕ
+outMoved x = min (totalOf (outToken x)) (length (blockOf x))
+
+abbrev pub blockStores : World → BusStep
+blockStores x =
+    S._then_ (sending (pointers (x .memory) (descriptor (outPointer x))) (blockOf x) (outMoved x))
+    (finishing (queueHead audioOut (x .memory .page)) (outPointer x) (outToken x) (outMoved x) (bitOf audioOut))
+
+-- 931-951: all that the output step changes then, in order
+abbrev pub oneBlock : World → List Change
+oneBlock x =
+    counter ((x .state .audio .counter + BLOCK-FRAMES) % 2 ^ 16)
+    ∷ count «out_underruns» (BLOCK-FRAMES - x .state .audio .sending .len)
+    ∷ taken (min BLOCK-FRAMES (x .state .audio .sending .len))
+    ∷ credit (x .state .audio .credit - BLOCK-FRAMES)
+    ∷ (map bus (blockStores x (busOf x))
+    ++ (ran audioOut 1 (outMoved x)
+    ∷ lost (droppedBy (blockStores x (busOf x)))
+    ∷ count «out_transfers» 1
+    ∷ count «out_frames» BLOCK-FRAMES
+    ∷ []))
+
+-- 910, 916: the one store that an ended or inactive list gets
+abbrev pub unprimed : World → List Change
+unprimed x = bus (S.word (BASE + EPSR) (clear (wordAt (x .memory .page) EPSR) 8)) ∷ []

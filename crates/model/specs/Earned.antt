@@ -1,0 +1,65 @@
+-- What a microframe does to the credit and to the two counters of frames, by the tests that say which steps it reaches.
+use Prim.Native.Nat.{ℕ, zero, suc, _+_, _-_}
+use mathlib.Core.Bool.{Bool, true, false, not, _&&_}
+use mathlib.Core.List.{List, [], _∷_}
+use lib.Dec.{leb}
+use Rattle.bits.specs.Pick.{pick}
+use Rattle.record.specs.Record.{wrapped}
+use Rattle.record.specs.World.{World}
+use Rattle.record.specs.Change.{left}
+use Rattle.model.specs.Audio.{BLOCK-FRAMES, good, blocksOf, hears}
+use Rattle.model.specs.Reach.{streamBy, outputBy, inputBy, backBy, leftBy, paced, inputReady, outputReady, bytesAt}
+
+-- the credit, and the frames counted in and out
+pub record Counts : Type 0 where
+  pub credit : ℕ
+  pub received : ℕ
+  pub sent : ℕ
+
+abbrev pub countsOf : World → Counts
+countsOf w =
+    record { credit = w .state .audio .credit; received = w .state .stats .«in_frames»; sent = w .state .stats .«out_frames» }
+
+-- one good block, and n of them
+abbrev pub oneEarned : Counts → Counts
+oneEarned m =
+    record { credit = wrapped (m .credit + BLOCK-FRAMES); received = wrapped (m .received + BLOCK-FRAMES); sent = m .sent }
+
+unfoldable pub earned : ℕ → Counts → Counts
+earned zero m = m
+earned (suc n) m = earned n (oneEarned m)
+
+-- one block sent
+unfoldable pub sentOne : Counts → Counts
+sentOne m = record { credit = m .credit - BLOCK-FRAMES; received = m .received; sent = wrapped (m .sent + BLOCK-FRAMES) }
+
+-- a reset of the credit
+abbrev pub zeroed : Counts → Counts
+zeroed m = record { credit = 0; received = m .received; sent = m .sent }
+
+-- how many blocks of a list are good
+unfoldable pub goodBlocks : List (List ℕ) → ℕ
+goodBlocks [] = 0
+goodBlocks (b ∷ bs) = pick (good b) 1 0 + goodBlocks bs
+
+-- the good blocks of the run at the input step, from the World at the stream step
+unfoldable pub blocksRead : World → ℕ
+blocksRead u = goodBlocks (blocksOf (bytesAt (paced u)))
+
+-- ---- a microframe: the resets, then the input step, then the output step
+
+unfoldable pub resetCounts : Bool → Bool → Bool → World → Counts
+resetCounts rs g s w =
+    pick (leftBy rs g s w) (zeroed (pick (backBy g w) (zeroed (countsOf w)) (countsOf w))) (pick (backBy g w) (zeroed (countsOf w)) (countsOf w))
+
+unfoldable pub heardCounts : Bool → Bool → Bool → World → Counts
+heardCounts rs g s w =
+    pick (inputBy rs g s w && inputReady (paced (streamBy rs w)))
+    (earned (blocksRead (streamBy rs w)) (resetCounts rs g s w))
+    (resetCounts rs g s w)
+
+unfoldable pub sentCounts : Bool → Bool → Bool → World → Counts
+sentCounts rs g s w =
+    pick (outputBy rs g s w && (outputReady (left hears (streamBy rs w)) && leb BLOCK-FRAMES (heardCounts rs g s w .credit)))
+    (sentOne (heardCounts rs g s w))
+    (heardCounts rs g s w)

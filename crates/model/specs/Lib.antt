@@ -1,0 +1,9 @@
+pub mod Phases
+pub mod Control
+pub mod Streams
+pub mod Audio
+pub mod Microframe
+pub mod Reach
+pub mod Earned
+pub mod Marks
+pub mod Claims

@@ -1,0 +1,78 @@
+-- The whole of a microframe (document 01, "Host record": counts, timers, gone, suspend, device left, phase; usbhost.rs 373-512).
+use Prim.Native.Nat.{ℕ}
+use mathlib.Core.Bool.{Bool, true, false, not, _&&_}
+use Rattle.bits.specs.Word.{any}
+use Rattle.bus.specs.Words.{wordAt}
+use Rattle.usbdev.specs.Offsets.{USBCMD}
+use Rattle.record.specs.declared.Phase.{Phase}
+use Rattle.record.specs.declared.Phase.the-variants.{Idle, Vbus, Reset, Enumerate, Stream}
+use Rattle.record.specs.declared.Settings.{Settings}
+use Rattle.record.specs.World.{World}
+use Rattle.record.specs.Change.{Step, _then_, nothing, if, when, here}
+use Rattle.model.specs.Phases.{within, anySpan, counts, ticks, cable, sleeps, suspends, leaves, idles, powers, resets, startsFrame}
+use Rattle.model.specs.Control.{controls}
+use Rattle.model.specs.Streams.{readsMidi, serves, writesMidi, readsVendor}
+use Rattle.model.specs.Audio.{streams}
+
+-- ---- what is taken from the entry values: RS (379), gone (384), suspended (412)
+
+abbrev pub rsSet : World → Bool
+rsSet w = any (wordAt (w .memory .page) USBCMD) 1
+
+abbrev pub goneAt : ℕ → World → Bool
+goneAt t w = anySpan (w .settings .gone) 0 (w .settings .spans) t
+
+abbrev pub asleepAt : ℕ → World → Bool
+asleepAt t w = within (w .settings .suspend) t
+
+-- ---- from the phase on; c: the settings, t: the time, rs: RS
+
+-- 501-508: what follows the audio stream
+unfoldable pub others : Settings → ℕ → Step
+others c t =
+    when (λ w. c .«midi_in») (readsMidi (within (c .sleep) t) (c .«midi_every»))
+    then when (λ w. c .«device_stack») (writesMidi then readsVendor)
+
+abbrev pub streaming : Phase → Bool
+streaming Idle = false
+streaming Vbus = false
+streaming Reset = false
+streaming Enumerate = false
+streaming Stream = true
+
+-- 497-509
+unfoldable pub transfers : Settings → ℕ → Step
+transfers c t = when (λ w. streaming (w .state .phase)) (if (λ w. c .cdc) serves (streams then others c t))
+
+-- 493-496
+unfoldable pub enumerates : Settings → Step
+enumerates c = startsFrame then controls (c .«device_stack»)
+
+-- 489-509
+unfoldable pub talks : Settings → ℕ → Bool → Step
+talks c t rs = when (λ w. rs) (enumerates c then transfers c t)
+
+-- 448
+abbrev pub atPhase : Settings → ℕ → Bool → Phase → Step
+atPhase c t rs Idle = idles
+atPhase c t rs Vbus = powers rs
+atPhase c t rs Reset = resets
+atPhase c t rs Enumerate = talks c t rs
+atPhase c t rs Stream = talks c t rs
+
+unfoldable pub byPhase : Settings → ℕ → Bool → Step
+byPhase c t rs = here (λ v. atPhase c t rs (v .state .phase))
+
+-- 374-407
+unfoldable pub opens : Settings → Bool → Step
+opens c g = counts then when (λ w. c .«midi_in») ticks then cable g
+
+-- 408-512; g and s: gone and suspended
+unfoldable pub frameOf : Settings → ℕ → Bool → Bool → Bool → Step
+frameOf c t rs true s = opens c true then sleeps
+frameOf c t rs false true = opens c false then suspends true then sleeps
+frameOf c t rs false false = opens c false then suspends false then leaves (c .«device_stack») rs then byPhase c t rs
+
+-- 373-512
+unfoldable pub microframe : ℕ → Step
+microframe t = here (λ v. frameOf (v .settings) t (rsSet v) (goneAt t v) (asleepAt t v))

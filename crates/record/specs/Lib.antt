@@ -1,0 +1,5 @@
+pub mod Record
+pub mod World
+pub mod Change
+pub mod Setups
+pub mod Did

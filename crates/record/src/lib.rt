@@ -1,0 +1,201 @@
+// The host record by its parts: what a chain of steps hands on by value. Queues and areas are lent beside it.
+ghost use mathlib.Core.Path.{_≡_};
+ghost use Prim.Native.Nat.{_+_, _*_, _≤_, _<_};
+ghost use lib.Seq.{sets};
+ghost use Rattle.record.specs.Record as R;
+ghost use Rattle.record.specs.Did.{entered, afterRun};
+ghost use Rattle.record.specs.Setups.{littleBytes, setupBytes};
+use dtd::Ran;
+use gptimers::Timers;
+use std::num::wrapping_add_u64;
+
+// What the host waits for (usbhost.rs 177-190).
+pub enum Phase {
+    Idle,
+    Vbus,
+    Reset,
+    Enumerate,
+    Stream,
+}
+
+// A running request waits for its data stage's descriptor, or for its status stage's (usbhost.rs 192-198).
+pub enum Stage {
+    Data,
+    Status,
+}
+
+// A span of time: it holds its start and not its end, so (0, 0) holds none.
+pub struct Span {
+    pub from: u64,
+    pub to: u64,
+}
+
+// What is chosen at `new` and never changes: start and end of gone span i stand at 2 i and 2 i + 1.
+pub struct Settings {
+    pub device_stack: bool,
+    pub midi_in: bool,
+    pub cdc: bool,
+    pub midi_every: u64,
+    pub sleep: Span,
+    pub suspend: Span,
+    pub spans: usize,
+    pub gone: [u64; 32],
+}
+
+// The port: microframes since `new`, the phase's start, suspended, gone, RS seen set (`was_running`), and the interrupt line's flag.
+pub struct Port {
+    pub uf: u64,
+    pub t: u64,
+    pub suspended: bool,
+    pub gone: bool,
+    pub running: bool,
+    pub line: bool,
+}
+
+// A ring of frames: the place of its oldest one, and how many it holds.
+pub struct Ring {
+    pub start: usize,
+    pub len: usize,
+}
+
+// The audio stream: `credit`, `out_counter`, `in_budget`, `out_block`, `out_channels`, and its two rings.
+pub struct Audio {
+    pub credit: u64,
+    pub counter: u16,
+    pub budget: u64,
+    pub block: u32,
+    pub channels: u32,
+    pub received: Ring,
+    pub sending: Ring,
+}
+
+// The request that runs, if one does: its setup as the two little-endian words that are posted, its reply's length, its start.
+pub struct Control {
+    pub on: bool,
+    pub stage: Stage,
+    pub first: u32,
+    pub second: u32,
+    pub got: usize,
+    pub t0: u64,
+}
+
+// The counters (usbhost.rs `UsbStats`).
+pub struct Stats {
+    pub microframes: u64,
+    pub in_transfers: u64,
+    pub out_transfers: u64,
+    pub in_frames: u64,
+    pub out_frames: u64,
+    pub bad_blocks: u64,
+    pub midi_dtds: u64,
+    pub midi_asleep: u64,
+    pub out_underruns: u64,
+    pub midi_packets_out: u64,
+    pub vendor_in_bytes: u64,
+    pub restarts: u64,
+    pub enumerations: u64,
+}
+
+// How much is in use: setups waiting, bytes of the MIDI and the serial queue, of the device descriptor and of the configuration.
+pub struct Lengths {
+    pub setups: usize,
+    pub midi: usize,
+    pub serial: usize,
+    pub device: usize,
+    pub config: usize,
+}
+
+// What a microframe answers: bytes in the receive area, and bytes that no window took.
+pub struct Answer {
+    pub received: usize,
+    pub dropped: u64,
+}
+
+// All of these.
+pub struct State {
+    pub phase: Phase,
+    pub port: Port,
+    pub audio: Audio,
+    pub control: Control,
+    pub timers: Timers,
+    pub stats: Stats,
+    pub lengths: Lengths,
+    pub answer: Answer,
+}
+
+// The state in another phase.
+pub fn with_phase(s: State, p: Phase) -> State
+    ensures { λ r. ⌜ r ≡ R.withPhase s p ⌝ }
+{
+    let port = s.port;
+    let audio = s.audio;
+    let control = s.control;
+    let timers = s.timers;
+    let stats = s.stats;
+    let lengths = s.lengths;
+    let answer = s.answer;
+    State {
+        phase: p,
+        port,
+        audio,
+        control,
+        timers,
+        stats,
+        lengths,
+        answer,
+    }
+}
+
+// The state in a phase that starts in this microframe.
+pub fn enter(s: State, p: Phase) -> State
+    ensures { λ r. ⌜ r ≡ entered s p ⌝ }
+{
+    let mut next = with_phase(s, p);
+    next.port.t = s.port.uf;
+    next
+}
+
+// The request in another stage.
+pub fn with_stage(c: Control, g: Stage) -> Control
+    ensures { λ r. ⌜ r ≡ R.withStage c g ⌝ }
+{
+    Control {
+        on: c.on,
+        stage: g,
+        first: c.first,
+        second: c.second,
+        got: c.got,
+        t0: c.t0,
+    }
+}
+
+// The state after a run over descriptors: the line's flag, and the bytes that no window took.
+pub fn after_run(s: State, ran: Ran) -> State
+    ensures { λ r. ⌜ r ≡ afterRun s ran ⌝ }
+{
+    let mut next = s;
+    next.port.line = ran.line;
+    let dropped = wrapping_add_u64(s.answer.dropped, ran.dropped as u64);
+    next.answer.dropped = dropped;
+    next
+}
+
+// Stores a little-endian word from index `at` on.
+fn put_word(setups: &mut [u8; 2056], at: usize, v: u32)
+    requires { ⌜ at + 4 ≤ 2056 ⌝ }
+    ensures { λ _. ⌜ now (setups .exit) ≡ sets (now (setups .entry)) at (littleBytes v) ⌝ }
+{
+    setups[at] = (v % 256) as u8;
+    setups[at + 1] = (v / 0x100 % 256) as u8;
+    setups[at + 2] = (v / 0x1_0000 % 256) as u8;
+    setups[at + 3] = (v / 0x100_0000) as u8;
+}
+
+// Stores a setup, by its two words, behind the first `count`.
+pub fn put_setup(setups: &mut [u8; 2056], count: usize, first: u32, second: u32)
+    requires { ⌜ count < 257 ⌝ }
+    ensures { λ _. ⌜ now (setups .exit) ≡ sets (now (setups .entry)) (8 * count) (setupBytes first second) ⌝ }
+{
+    put_word(setups, 8 * count, first);
+    put_word(setups, 8 * count + 4, second);
+}

@@ -1,0 +1,4 @@
+pub mod Laws
+pub mod Outcomes
+pub mod Entries
+pub mod Kept

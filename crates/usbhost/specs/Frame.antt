@@ -1,0 +1,84 @@
+-- The call `microframe`: its numbers of refusal, and what an accepted one leaves of the record, the areas and memory
+-- (document 01, "Host record" and "Numbers of refusal").
+use Prim.Native.Nat.{ℕ, _*_}
+use mathlib.Core.Bool.{Bool, true, false, _&&_}
+use mathlib.Core.List.{List}
+use lib.Dec.{eqb, leb, ltb}
+use lib.ListN.{length}
+use Rattle.bits.specs.Pick.{pick}
+use Rattle.bus.specs.Memory.{Memory}
+use Rattle.bus.specs.Sized.{isSized}
+use Rattle.record.specs.World.{World}
+use Rattle.record.specs.Change.{FRAMES, WORDS, left}
+use Rattle.bounds.specs.Bounds.{MOST, areasOk, receivedOk, sendingOk}
+use Rattle.model.specs.Microframe as M
+use Rattle.usbhost.specs.declared.Host.{Host}
+use Rattle.usbhost.specs.Host.{stateOf, hostOf}
+use Rattle.usbhost.specs.Calls.{fewSpans, bounded, unless, sendingLength}
+
+-- what a microframe is lent: memory, and the areas
+pub record Lent : Type 0 where
+  pub memory : Memory
+  pub reply : List ℕ
+  pub config : List ℕ
+  pub receive : List ℕ
+  pub received : List ℕ
+  pub sending : List ℕ
+
+-- the World of a record and what it is lent, with nothing received and nothing dropped so far
+abbrev pub worldOf : Host → Lent → World
+worldOf h l =
+    record {
+      settings = h .settings;
+      packer = h .packer;
+      state = stateOf h;
+      memory = l .memory;
+      setups = h .setups;
+      midi = h .midi;
+      serial = h .serial;
+      device = h .device;
+      reply = l .reply;
+      config = l .config;
+      receive = l .receive;
+      received = l .received;
+      sending = l .sending;
+    }
+
+-- the record in a World, and what was lent
+abbrev pub hostIn : World → Host
+hostIn w = hostOf (w .state) (w .settings) (w .packer) (w .setups) (w .midi) (w .serial) (w .device)
+
+abbrev pub lentIn : World → Lent
+lentIn w =
+    record {
+      memory = w .memory;
+      reply = w .reply;
+      config = w .config;
+      receive = w .receive;
+      received = w .received;
+      sending = w .sending;
+    }
+
+-- number 2: reply and configuration of at least 65,535 bytes, receive area of at least 196,608, the two rings
+unfoldable pub areaLengths : Lent → Bool
+areaLengths l =
+    leb 65535 (length (l .reply))
+    && (leb 65535 (length (l .config))
+    && (leb 196608 (length (l .receive)) && (eqb (length (l .received)) (FRAMES * WORDS) && sendingLength (length (l .sending)))))
+
+-- number 5: the record, and what the areas bound
+unfoldable pub frameBounds : Host → Lent → Bool
+frameBounds h l =
+    bounded h
+    && (areasOk (stateOf h) (length (l .reply)) (length (l .config))
+    && (receivedOk (stateOf h) && sendingOk (stateOf h) (length (l .sending))))
+
+-- 1, 2, 3, 5, 6: the lowest whose test fails
+unfoldable pub frameNumber : Host → Lent → ℕ
+frameNumber h l =
+    unless 1 (isSized (l .memory))
+    (unless 2 (areaLengths l) (unless 3 (fewSpans h) (unless 5 (frameBounds h l) (unless 6 (ltb (h .port .uf) MOST) 0))))
+
+-- what a microframe at the time t leaves: a refused one leaves all as it was
+unfoldable pub framed : ℕ → Host → Lent → World
+framed t h l = pick (eqb (frameNumber h l) 0) (left (M.microframe t) (worldOf h l)) (worldOf h l)

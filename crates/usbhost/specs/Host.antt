@@ -1,0 +1,137 @@
+-- The host record, a new one, and its state by parts (document 01, "Host record"; usbhost.rs 205-350).
+use Prim.Native.Nat.{ℕ, _-_, _*_}
+use mathlib.Core.Bool.{Bool, true, false}
+use mathlib.Core.List.{List, _++_}
+use lib.Dec.{leb}
+use lib.ListN.{take, replicate}
+use Rattle.bits.specs.Pick.{pick}
+use Rattle.midi.specs.declared.Packer.{Packer}
+use Rattle.midi.specs.Packer.{fresh}
+use Rattle.gptimers.specs.Timer.{none}
+use Rattle.record.specs.declared.Phase.{Phase}
+use Rattle.record.specs.declared.Phase.the-variants.{Idle, Vbus, Reset, Enumerate, Stream}
+use Rattle.record.specs.declared.Stage.the-variants.{Data}
+use Rattle.record.specs.declared.Settings.{Settings}
+use Rattle.record.specs.declared.State.{State}
+use Rattle.usbhost.specs.declared.Host.{Host}
+use Rattle.usbhost.specs.declared.Created.{Created}
+
+-- the state by its parts, with an answer of nothing received and nothing dropped
+abbrev pub stateOf : Host → State
+stateOf h =
+    record {
+      phase = h .phase;
+      port = h .port;
+      audio = h .audio;
+      control = h .control;
+      timers = h .timers;
+      stats = h .stats;
+      lengths = h .lengths;
+      answer = record { received = 0; dropped = 0 };
+    }
+
+-- whether the device streams
+abbrev pub isStream : Phase → Bool
+isStream Idle = false
+isStream Vbus = false
+isStream Reset = false
+isStream Enumerate = false
+isStream Stream = true
+
+-- ---- `new` (311-350)
+
+-- settings whose gone spans past their count are 0
+unfoldable pub settled : Settings → Settings
+settled c =
+    record {
+      «device_stack» = c .«device_stack»;
+      «midi_in» = c .«midi_in»;
+      cdc = c .cdc;
+      «midi_every» = c .«midi_every»;
+      sleep = c .sleep;
+      suspend = c .suspend;
+      spans = c .spans;
+      gone = take (2 * c .spans) (c .gone) ++ replicate (32 - 2 * c .spans) 0;
+    }
+
+-- settings that choose nothing
+abbrev pub noSettings : Settings
+noSettings =
+    record {
+      «device_stack» = false;
+      «midi_in» = false;
+      cdc = false;
+      «midi_every» = 0;
+      sleep = record { from = 0; to = 0 };
+      suspend = record { from = 0; to = 0 };
+      spans = 0;
+      gone = replicate 32 0;
+    }
+
+-- a host that has done nothing: Idle, no credit, blocks of 368 bytes with 12 channels, all queues empty
+unfoldable pub newHost : Settings → Host
+newHost c =
+    record {
+      phase = Idle;
+      port = record { uf = 0; t = 0; suspended = false; gone = false; running = false; line = false };
+      audio =
+          record {
+            credit = 0;
+            counter = 0;
+            budget = 0;
+            block = 368;
+            channels = 12;
+            received = record { start = 0; len = 0 };
+            sending = record { start = 0; len = 0 };
+          };
+      control = record { on = false; stage = Data; first = 0; second = 0; got = 0; t0 = 0 };
+      timers = record { zero = none; one = none };
+      stats =
+          record {
+            microframes = 0;
+            «in_transfers» = 0;
+            «out_transfers» = 0;
+            «in_frames» = 0;
+            «out_frames» = 0;
+            «bad_blocks» = 0;
+            «midi_dtds» = 0;
+            «midi_asleep» = 0;
+            «out_underruns» = 0;
+            «midi_packets_out» = 0;
+            «vendor_in_bytes» = 0;
+            restarts = 0;
+            enumerations = 0;
+          };
+      lengths = record { setups = 0; midi = 0; serial = 0; device = 0; config = 0 };
+      packer = fresh;
+      settings = c;
+      setups = replicate 2056 0;
+      midi = replicate 4096 0;
+      serial = replicate 4096 0;
+      device = replicate 64 0;
+    }
+
+-- number 3: more than 16 gone spans; the answer's host is then that of no settings
+unfoldable pub created : Settings → Created
+created c =
+    pick (leb (c .spans) 16) (record { refusal = 0; host = newHost (settled c) }) (record { refusal = 3; host = newHost noSettings })
+
+-- ---- the record by its parts: a state, whose answer is no part of it, settings, packer, and the four arrays
+
+abbrev pub hostOf : State → Settings → Packer → List ℕ → List ℕ → List ℕ → List ℕ → Host
+hostOf s c p setups midi serial device =
+    record {
+      phase = s .phase;
+      port = s .port;
+      audio = s .audio;
+      control = s .control;
+      timers = s .timers;
+      stats = s .stats;
+      lengths = s .lengths;
+      packer = p;
+      settings = c;
+      setups = setups;
+      midi = midi;
+      serial = serial;
+      device = device;
+    }

@@ -1,0 +1,4 @@
+pub mod Host
+pub mod Calls
+pub mod Promises
+pub mod Frame

@@ -1,0 +1,80 @@
+-- What the calls on parts promise: with any settings of that count of gone spans, and any arrays that are not lent, the record by its parts
+-- goes as Calls says, and the state's answer, which is no part of the record, stays.
+use Prim.Native.Nat.{ℕ}
+use mathlib.Core.Path.{_≡_}
+use mathlib.Core.List.{List, []}
+use Rattle.midi.specs.declared.Packer.{Packer}
+use Rattle.usbdev.specs.declared.Value.{Value}
+use Rattle.record.specs.declared.Settings.{Settings}
+use Rattle.record.specs.declared.State.{State}
+use Rattle.usbhost.specs.declared.Host.{Host}
+use Rattle.usbhost.specs.declared.Sent.{Sent}
+use Rattle.usbhost.specs.declared.Taken.{Taken}
+use Rattle.usbhost.specs.declared.Read.{Read}
+use Rattle.usbhost.specs.declared.MidiSent.{MidiSent}
+use Rattle.usbhost.specs.declared.Stored.{Stored}
+use Rattle.usbhost.specs.declared.TakenFrame.{TakenFrame}
+use Rattle.usbhost.specs.Host.{hostOf, noSettings}
+use Rattle.usbhost.specs.Calls.{midiSent, serialSent, given, givenRing, takenFrame, deviceRead, deviceWritten, writtenPage}
+
+-- settings with a count of gone spans
+abbrev pub withSpans : Settings → ℕ → Settings
+withSpans c n =
+    record {
+      «device_stack» = c .«device_stack»;
+      «midi_in» = c .«midi_in»;
+      cdc = c .cdc;
+      «midi_every» = c .«midi_every»;
+      sleep = c .sleep;
+      suspend = c .suspend;
+      spans = n;
+      gone = c .gone;
+    }
+
+-- the parts that numbers of refusal read, in a record that is otherwise empty
+abbrev pub bare : State → ℕ → Packer → List ℕ → Host
+bare s spans p setups = hostOf s (withSpans noSettings spans) p setups [] [] []
+
+abbrev pub sent : ℕ → Host → Sent
+sent number h = record { refusal = number; host = h }
+
+pub record MidiPromise (s : State) (spans : ℕ) (p : Packer) (bs setups midi : List ℕ) (r : MidiSent) (midi′ : List ℕ) : Type 0 where
+  pub answer : r .state .answer ≡ s .answer
+  pub done : (c : Settings) (serial device : List ℕ)
+      → sent (r .refusal) (hostOf (r .state) (withSpans c spans) (r .packer) setups midi′ serial device)
+      ≡ midiSent (hostOf s (withSpans c spans) p setups midi serial device) bs
+
+pub record SerialPromise (s : State) (spans : ℕ) (p : Packer) (bs setups serial : List ℕ) (r : Stored) (serial′ : List ℕ) : Type 0 where
+  pub answer : r .state .answer ≡ s .answer
+  pub done : (c : Settings) (midi device : List ℕ)
+      → sent (r .refusal) (hostOf (r .state) (withSpans c spans) p setups midi serial′ device)
+      ≡ serialSent (hostOf s (withSpans c spans) p setups midi serial device) bs
+
+pub record GivePromise (s : State) (spans : ℕ) (p : Packer) (frame setups sending : List ℕ) (r : Stored) (sending′ : List ℕ) : Type 0 where
+  pub answer : r .state .answer ≡ s .answer
+  pub done : (c : Settings) (midi serial device : List ℕ)
+      → sent (r .refusal) (hostOf (r .state) (withSpans c spans) p setups midi serial device)
+      ≡ given (hostOf s (withSpans c spans) p setups midi serial device) frame sending
+  pub ring : (c : Settings) (midi serial device : List ℕ)
+      → sending′ ≡ givenRing (hostOf s (withSpans c spans) p setups midi serial device) frame sending
+
+pub record TakePromise (s : State) (spans : ℕ) (p : Packer) (setups received : List ℕ) (r : TakenFrame) : Type 0 where
+  pub answer : r .state .answer ≡ s .answer
+  pub done : (c : Settings) (midi serial device : List ℕ)
+      → _≡_ {A = Taken}
+      (record { refusal = r .refusal; empty = r .empty; frame = r .frame; host = hostOf (r .state) (withSpans c spans) p setups midi serial device })
+      (takenFrame (hostOf s (withSpans c spans) p setups midi serial device) received)
+
+pub record ReadPromise (s : State) (spans : ℕ) (p : Packer) (setups page : List ℕ) (off size : ℕ) (r : Value) : Type 0 where
+  pub done : (c : Settings) (midi serial device : List ℕ)
+      → _≡_ {A = Read}
+      (record { refusal = r .refusal; value = r .value; host = hostOf s (withSpans c spans) p setups midi serial device })
+      (deviceRead (hostOf s (withSpans c spans) p setups midi serial device) page off size)
+
+pub record WritePromise (s : State) (spans : ℕ) (p : Packer) (setups page : List ℕ) (off size v : ℕ) (r : Stored) (page′ : List ℕ) : Type 0 where
+  pub answer : r .state .answer ≡ s .answer
+  pub done : (c : Settings) (midi serial device : List ℕ)
+      → sent (r .refusal) (hostOf (r .state) (withSpans c spans) p setups midi serial device)
+      ≡ deviceWritten (hostOf s (withSpans c spans) p setups midi serial device) page off size v
+  pub written : (c : Settings) (midi serial device : List ℕ)
+      → page′ ≡ writtenPage (hostOf s (withSpans c spans) p setups midi serial device) page off size v

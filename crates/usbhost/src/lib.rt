@@ -1,0 +1,776 @@
+// The host record, and the calls on it but the microframe: MIDI and serial send, frames given and taken, device access.
+ghost use mathlib.Core.Path.{_≡_};
+ghost use mathlib.Core.List.{_++_};
+ghost use Prim.Native.Nat.{_+_, _-_, _*_, _≤_};
+ghost use lib.ListN.{length, take, drop, replicate};
+ghost use lib.Dec.{leb};
+ghost use lib.Seq.{sets};
+ghost use Rattle.bits.specs.Pick.{pick};
+ghost use Rattle.bounds.specs.Bounds.{inBounds};
+ghost use Rattle.usbhost.specs.Calls.{unless, sendingLength, midiSent, serialSent, given, givenRing, giveNumber, takenFrame, takeNumber, deviceRead, deviceWritten, writtenPage, accessNumber};
+ghost use Rattle.usbhost.specs.Promises.{bare, MidiPromise, SerialPromise, GivePromise, TakePromise, ReadPromise, WritePromise};
+ghost use Rattle.usbhost.specs.Host.{stateOf, hostOf, noSettings, newHost, created, isStream};
+use gptimers::Timer;
+use gptimers::Timers;
+use midi::Packer;
+use record::Answer;
+use record::Audio;
+use record::Control;
+use record::Lengths;
+use record::Phase;
+use record::Port;
+use record::Ring;
+use record::Settings;
+use record::Span;
+use record::Stage;
+use record::State;
+use record::Stats;
+use usbdev::Value;
+
+// The host record (usbhost.rs 205-288). Its fields are read by calls and written by no one outside.
+pub struct Host {
+    phase: Phase,
+    port: Port,
+    audio: Audio,
+    control: Control,
+    timers: Timers,
+    stats: Stats,
+    lengths: Lengths,
+    packer: Packer,
+    settings: Settings,
+    setups: [u8; 2056],
+    midi: [u8; 4096],
+    serial: [u8; 4096],
+    device: [u8; 64],
+}
+
+// The answer of `new`: 0 or 3, and the host.
+pub struct Created {
+    pub refusal: u8,
+    pub host: Host,
+}
+
+// A call's answer: 0 or the number of its refusal, and the next record.
+pub struct Sent {
+    pub refusal: u8,
+    pub host: Host,
+}
+
+// A frame taken: 0 or the number of its refusal, whether the ring was empty, the frame, and the next record.
+pub struct Taken {
+    pub refusal: u8,
+    pub empty: bool,
+    pub frame: [u32; 12],
+    pub host: Host,
+}
+
+// A device read: 0 or the number of its refusal, the value, and the record.
+pub struct Read {
+    pub refusal: u8,
+    pub value: u32,
+    pub host: Host,
+}
+
+// Whether the phase is that of streaming.
+fn is_stream(p: Phase) -> bool
+    ensures { λ r. ⌜ r ≡ isStream p ⌝ }
+{
+    match p {
+        Phase::Idle => false,
+        Phase::Vbus => false,
+        Phase::Reset => false,
+        Phase::Enumerate => false,
+        Phase::Stream => true,
+    }
+}
+
+// A send of MIDI bytes: 0 or the number of its refusal, and what follows it.
+pub struct MidiSent {
+    pub refusal: u8,
+    pub state: State,
+    pub packer: Packer,
+}
+
+// A call that changes the state alone.
+pub struct Stored {
+    pub refusal: u8,
+    pub state: State,
+}
+
+// A frame taken.
+pub struct TakenFrame {
+    pub refusal: u8,
+    pub empty: bool,
+    pub frame: [u32; 12],
+    pub state: State,
+}
+
+// What follows, or the number of a test that failed.
+fn first_of(ok: bool, next: u8, number: u8) -> u8
+    ensures { λ r. ⌜ r ≡ pick ok next number ⌝ }
+{
+    if ok { next } else { number }
+}
+
+// Stores bytes from a place on.
+fn put_bytes(queue: &mut [u8; 4096], at: usize, bytes: &[u8])
+    requires { ⌜ at + length (now bytes) ≤ 4096 ⌝ }
+    ensures { λ _. ⌜ now (queue .exit) ≡ sets (now (queue .entry)) at (now (bytes .entry)) ⌝ }
+{
+    let mut i = 0;
+    while i < bytes.len() {
+        queue[at + i] = bytes[i];
+        i += 1;
+    }
+}
+
+// Stores words from a place on.
+fn put_words(ring: &mut [u32], at: usize, words: &[u32])
+    requires { ⌜ at + length (now words) ≤ length (now ring) ⌝ }
+    ensures { λ _. ⌜ now (ring .exit) ≡ sets (now (ring .entry)) at (now (words .entry)) ⌝ }
+{
+    let mut i = 0;
+    while i < words.len() {
+        ring[at + i] = words[i];
+        i += 1;
+    }
+}
+
+// The frame of twelve words at a place.
+fn frame_at(ring: &[u32], at: usize) -> [u32; 12]
+    requires { ⌜ at + 12 ≤ length (now ring) ⌝ }
+    ensures { λ r. ⌜ r ≡ take 12 (drop at (now (ring .entry))) ⌝ }
+{
+    let mut frame = [0u32; 12];
+    let end = at + 12;
+    put_words(&mut frame, 0, &ring[at..end]);
+    frame
+}
+
+// The first `spans` spans, and zeros behind them.
+fn first_spans(gone: [u64; 32], spans: usize) -> [u64; 32]
+    requires { ⌜ spans ≤ 16 ⌝ }
+    ensures { λ r. ⌜ r ≡ take (2 * spans) gone ++ replicate (32 - 2 * spans) 0 ⌝ }
+{
+    let mut next = [0u64; 32];
+    let mut i = 0;
+    while i < 2 * spans {
+        next[i] = gone[i];
+        i += 1;
+    }
+    next
+}
+
+// Settings that choose nothing.
+pub fn no_settings() -> Settings
+    ensures { λ r. ⌜ r ≡ noSettings ⌝ }
+{
+    Settings {
+        device_stack: false,
+        midi_in: false,
+        cdc: false,
+        midi_every: 0,
+        sleep: Span { from: 0, to: 0 },
+        suspend: Span { from: 0, to: 0 },
+        spans: 0,
+        gone: [0; 32],
+    }
+}
+
+// Counters that have counted nothing.
+fn no_stats() -> Stats
+    ensures { λ r. ⌜ r ≡ newHost noSettings .stats ⌝ }
+{
+    Stats {
+        microframes: 0,
+        in_transfers: 0,
+        out_transfers: 0,
+        in_frames: 0,
+        out_frames: 0,
+        bad_blocks: 0,
+        midi_dtds: 0,
+        midi_asleep: 0,
+        out_underruns: 0,
+        midi_packets_out: 0,
+        vendor_in_bytes: 0,
+        restarts: 0,
+        enumerations: 0,
+    }
+}
+
+// An audio stream with no credit and empty rings, in blocks of the usual length.
+fn new_audio() -> Audio
+    ensures { λ r. ⌜ r ≡ newHost noSettings .audio ⌝ }
+{
+    Audio {
+        credit: 0,
+        counter: 0,
+        budget: 0,
+        block: 368,
+        channels: 12,
+        received: Ring { start: 0, len: 0 },
+        sending: Ring { start: 0, len: 0 },
+    }
+}
+
+// A port at which nothing has happened.
+fn new_port() -> Port
+    ensures { λ r. ⌜ r ≡ newHost noSettings .port ⌝ }
+{
+    Port {
+        uf: 0,
+        t: 0,
+        suspended: false,
+        gone: false,
+        running: false,
+        line: false,
+    }
+}
+
+// The state that a host starts with.
+pub fn new_state() -> State
+    ensures { λ r. ⌜ r ≡ stateOf (newHost noSettings) ⌝ }
+{
+    let port = new_port();
+    let audio = new_audio();
+    let stats = no_stats();
+    State {
+        phase: Phase::Idle,
+        port,
+        audio,
+        control: Control {
+            on: false,
+            stage: Stage::Data,
+            first: 0,
+            second: 0,
+            got: 0,
+            t0: 0,
+        },
+        timers: Timers {
+            zero: Timer::none(),
+            one: Timer::none(),
+        },
+        stats,
+        lengths: Lengths {
+            setups: 0,
+            midi: 0,
+            serial: 0,
+            device: 0,
+            config: 0,
+        },
+        answer: Answer {
+            received: 0,
+            dropped: 0,
+        },
+    }
+}
+
+// The record by its parts.
+fn host_of(
+    s: State,
+    c: Settings,
+    p: Packer,
+    setups: [u8; 2056],
+    midi: [u8; 4096],
+    serial: [u8; 4096],
+    device: [u8; 64],
+) -> Host
+    ensures { λ r. ⌜ r ≡ hostOf s c p setups midi serial device ⌝ }
+{
+    let phase = s.phase;
+    let port = s.port;
+    let audio = s.audio;
+    let control = s.control;
+    let timers = s.timers;
+    let stats = s.stats;
+    let lengths = s.lengths;
+    Host {
+        phase,
+        port,
+        audio,
+        control,
+        timers,
+        stats,
+        lengths,
+        packer: p,
+        settings: c,
+        setups,
+        midi,
+        serial,
+        device,
+    }
+}
+
+// A host that has done nothing, under settings.
+fn new_host(c: Settings) -> Host
+    ensures { λ r. ⌜ r ≡ newHost c ⌝ }
+{
+    host_of(
+        new_state(),
+        c,
+        Packer::new(),
+        [0; 2056],
+        [0; 4096],
+        [0; 4096],
+        [0; 64],
+    )
+}
+
+// Numbers 3 and 5 of a record, or 0.
+fn record_number(s: State, spans: usize, p: Packer, setups: &[u8; 2056]) -> u8
+    ensures { λ r. ⌜ r ≡ unless 3 (leb spans 16) (unless 5 (inBounds s p (now (setups .entry))) 0) ⌝ }
+{
+    let five = first_of(bounds::in_bounds(s, p, setups), 0, 5);
+    first_of(spans <= 16, five, 3)
+}
+
+// Sends MIDI bytes: their packets go behind those that wait.
+pub fn send_midi(
+    s: State,
+    spans: usize,
+    p: Packer,
+    bytes: &[u8],
+    setups: &[u8; 2056],
+    midi: &mut [u8; 4096],
+) -> MidiSent
+    ensures { λ r. ⌜ MidiPromise s spans p (now (bytes .entry)) (now (setups .entry)) (now (midi .entry)) r (now (midi .exit)) ⌝ }
+{
+    let number = record_number(s, spans, p, setups);
+    if number != 0 {
+        return MidiSent {
+            refusal: number,
+            state: s,
+            packer: p,
+        };
+    }
+    let held = s.lengths.midi;
+    let sent = midi::send(p, 0, bytes, midi, held);
+    let packer = sent.packer;
+    let mut next = s;
+    next.lengths.midi = sent.held;
+    MidiSent {
+        refusal: sent.refusal,
+        state: next,
+        packer,
+    }
+}
+
+// Sends serial bytes: they go behind those that wait.
+pub fn send_serial(
+    s: State,
+    spans: usize,
+    p: Packer,
+    bytes: &[u8],
+    setups: &[u8; 2056],
+    serial: &mut [u8; 4096],
+) -> Stored
+    ensures { λ r. ⌜ SerialPromise s spans p (now (bytes .entry)) (now (setups .entry)) (now (serial .entry)) r (now (serial .exit)) ⌝ }
+{
+    let number = record_number(s, spans, p, setups);
+    if number != 0 {
+        return Stored {
+            refusal: number,
+            state: s,
+        };
+    }
+    let held = s.lengths.serial;
+    if 4096 - held < bytes.len() {
+        return Stored {
+            refusal: 7,
+            state: s,
+        };
+    }
+    put_bytes(serial, held, bytes);
+    let after = held + bytes.len();
+    let mut next = s;
+    next.lengths.serial = after;
+    Stored {
+        refusal: 0,
+        state: next,
+    }
+}
+
+// Whether so many words can be a sending ring.
+fn sending_length(n: usize) -> bool
+    ensures { λ r. ⌜ r ≡ sendingLength n ⌝ }
+{
+    (84 <= n) & ((n <= 576_000) & (n % 12 == 0))
+}
+
+// Numbers 2, 3, 5 and 7 of a frame given, or 0.
+fn give_number(
+    s: State,
+    spans: usize,
+    p: Packer,
+    frame: &[u32],
+    setups: &[u8; 2056],
+    sending: &[u32],
+) -> u8
+    ensures { λ r. ⌜ r ≡ giveNumber (bare s spans p (now (setups .entry))) (now (frame .entry)) (now (sending .entry)) ⌝ }
+{
+    let ring = s.audio.sending;
+    let capacity = sending.len() / 12;
+    let seven = first_of(ring.len < capacity, 0, 7);
+    let bounded = bounds::in_bounds(s, p, setups);
+    let inside = bounds::ring_ok(ring, capacity);
+    let five = first_of(bounded & inside, seven, 5);
+    let three = first_of(spans <= 16, five, 3);
+    let right = sending_length(sending.len());
+    first_of(right & (frame.len() == 12), three, 2)
+}
+
+// Gives a frame to the sending ring: it goes behind the newest.
+pub fn give_frame(
+    s: State,
+    spans: usize,
+    p: Packer,
+    frame: &[u32],
+    setups: &[u8; 2056],
+    sending: &mut [u32],
+) -> Stored
+    ensures { λ r. ⌜ GivePromise s spans p (now (frame .entry)) (now (setups .entry)) (now (sending .entry)) r (now (sending .exit)) ⌝ }
+{
+    let number = give_number(s, spans, p, frame, setups, &*sending);
+    if number != 0 {
+        return Stored {
+            refusal: number,
+            state: s,
+        };
+    }
+    let capacity = sending.len() / 12;
+    let start = s.audio.sending.start;
+    let held = s.audio.sending.len;
+    let at = (start + held) % capacity * 12;
+    put_words(sending, at, frame);
+    let after = held + 1;
+    let mut next = s;
+    next.audio.sending.len = after;
+    Stored {
+        refusal: 0,
+        state: next,
+    }
+}
+
+// Numbers 2, 3 and 5 of a frame taken, or 0.
+fn take_number(s: State, spans: usize, p: Packer, setups: &[u8; 2056], received: &[u32]) -> u8
+    ensures { λ r. ⌜ r ≡ takeNumber (bare s spans p (now (setups .entry))) (now (received .entry)) ⌝ }
+{
+    let ring = s.audio.received;
+    let bounded = bounds::in_bounds(s, p, setups);
+    let inside = bounds::ring_ok(ring, 48_000);
+    let five = first_of(bounded & inside, 0, 5);
+    let three = first_of(spans <= 16, five, 3);
+    first_of(received.len() == 576_000, three, 2)
+}
+
+// No frame: the call is refused, or the ring is empty.
+fn no_frame(refusal: u8, empty: bool, s: State) -> TakenFrame
+    ensures { λ r. ⌜ r ≡ record { refusal = refusal; empty = empty; frame = replicate 12 0; state = s } ⌝ }
+{
+    TakenFrame {
+        refusal,
+        empty,
+        frame: [0; 12],
+        state: s,
+    }
+}
+
+// Takes the oldest frame from the received ring, or finds it empty.
+pub fn take_frame(
+    s: State,
+    spans: usize,
+    p: Packer,
+    setups: &[u8; 2056],
+    received: &[u32],
+) -> TakenFrame
+    ensures { λ r. ⌜ TakePromise s spans p (now (setups .entry)) (now (received .entry)) r ⌝ }
+{
+    let number = take_number(s, spans, p, setups, received);
+    if number != 0 {
+        return no_frame(number, false, s);
+    }
+    let start = s.audio.received.start;
+    let held = s.audio.received.len;
+    if held == 0 {
+        return no_frame(0, true, s);
+    }
+    let frame = frame_at(received, start * 12);
+    let second = (start + 1) % 48_000;
+    let after = held - 1;
+    let mut next = s;
+    next.audio.received.start = second;
+    next.audio.received.len = after;
+    TakenFrame {
+        refusal: 0,
+        empty: false,
+        frame,
+        state: next,
+    }
+}
+
+// Numbers 1, 3, 4 and 5 of a device access, or 0. Number 4 is that of a read at the same place.
+fn access_number(
+    s: State,
+    spans: usize,
+    p: Packer,
+    setups: &[u8; 2056],
+    page: &[u8],
+    off: u32,
+    size: u32,
+) -> u8
+    ensures { λ r. do ⌜ r ≡ accessNumber (bare s spans p (now (setups .entry))) (length (now (page .entry))) off size ⌝ }
+{
+    let seen = usbdev::read(page, off, size);
+    let five = first_of(bounds::in_bounds(s, p, setups), 0, 5);
+    let four = first_of(seen.refusal == 0, five, 4);
+    let three = first_of(spans <= 16, four, 3);
+    first_of(page.len() == 4096, three, 1)
+}
+
+// What the device reads on the register page.
+pub fn read_device(
+    s: State,
+    spans: usize,
+    p: Packer,
+    setups: &[u8; 2056],
+    page: &[u8],
+    off: u32,
+    size: u32,
+) -> Value
+    ensures { λ r. ⌜ ReadPromise s spans p (now (setups .entry)) (now (page .entry)) off size r ⌝ }
+{
+    let number = access_number(s, spans, p, setups, page, off, size);
+    if number != 0 {
+        return Value {
+            refusal: number,
+            value: 0,
+        };
+    }
+    usbdev::read(page, off, size)
+}
+
+// What the device writes on the register page.
+pub fn write_device(
+    s: State,
+    spans: usize,
+    p: Packer,
+    setups: &[u8; 2056],
+    page: &mut [u8],
+    off: u32,
+    size: u32,
+    v: u32,
+) -> Stored
+    ensures { λ r. ⌜ WritePromise s spans p (now (setups .entry)) (now (page .entry)) off size v r (now (page .exit)) ⌝ }
+{
+    let number = access_number(s, spans, p, setups, &*page, off, size);
+    if number != 0 {
+        return Stored {
+            refusal: number,
+            state: s,
+        };
+    }
+    let line = s.port.line;
+    let written = usbdev::write(page, off, size, v, line);
+    let mut next = s;
+    next.port.line = written.line;
+    Stored {
+        refusal: 0,
+        state: next,
+    }
+}
+
+impl Host {
+    pub const FRAMES_PER_BLOCK: usize = 7;
+
+    pub const CHANNELS: usize = 12;
+
+    pub const BLOCK: usize = 368;
+
+    // A host under settings of at most 16 gone spans.
+    pub fn new(c: Settings) -> Created
+        ensures { λ r. ⌜ r ≡ created c ⌝ }
+    {
+        let spans = c.spans;
+        if 16 < spans {
+            return Created {
+                refusal: 3,
+                host: new_host(no_settings()),
+            };
+        }
+        let gone = c.gone;
+        let first = first_spans(gone, spans);
+        let mut settled = c;
+        settled.gone = first;
+        Created {
+            refusal: 0,
+            host: new_host(settled),
+        }
+    }
+
+    pub fn stats(self) -> Stats
+        ensures { λ r. ⌜ r ≡ self .stats ⌝ }
+    {
+        self.stats
+    }
+
+    // Credit of the audio stream.
+    pub fn credit(self) -> u64
+        ensures { λ r. ⌜ r ≡ self .audio .credit ⌝ }
+    {
+        self.audio.credit
+    }
+
+    pub fn streaming(self) -> bool
+        ensures { λ r. ⌜ r ≡ isStream (self .phase) ⌝ }
+    {
+        let phase = self.phase;
+        is_stream(phase)
+    }
+
+    // The state by its parts.
+    pub fn state(self) -> State
+        ensures { λ r. ⌜ r ≡ stateOf self ⌝ }
+    {
+        let phase = self.phase;
+        let port = self.port;
+        let audio = self.audio;
+        let control = self.control;
+        let timers = self.timers;
+        let stats = self.stats;
+        let lengths = self.lengths;
+        State {
+            phase,
+            port,
+            audio,
+            control,
+            timers,
+            stats,
+            lengths,
+            answer: Answer {
+                received: 0,
+                dropped: 0,
+            },
+        }
+    }
+
+    // The record with another state.
+    fn with_state(self, s: State) -> Host
+        ensures { λ r. ⌜ r ≡ hostOf s (self .settings) (self .packer) (self .setups) (self .midi) (self .serial) (self .device) ⌝ }
+    {
+        let settings = self.settings;
+        let packer = self.packer;
+        let setups = self.setups;
+        let midi = self.midi;
+        let serial = self.serial;
+        let device = self.device;
+        host_of(s, settings, packer, setups, midi, serial, device)
+    }
+
+    // Sends MIDI bytes to the device.
+    pub fn midi_send(self, bytes: &[u8]) -> Sent
+        ensures { λ r. ⌜ r ≡ midiSent self (now (bytes .entry)) ⌝ }
+    {
+        let s = self.state();
+        let settings = self.settings;
+        let spans = settings.spans;
+        let p = self.packer;
+        let setups = self.setups;
+        let mut midi = self.midi;
+        let serial = self.serial;
+        let device = self.device;
+        let done = send_midi(s, spans, p, bytes, &setups, &mut midi);
+        let state = done.state;
+        let packer = done.packer;
+        Sent {
+            refusal: done.refusal,
+            host: host_of(state, settings, packer, setups, midi, serial, device),
+        }
+    }
+
+    // Sends serial bytes to the device.
+    pub fn serial_send(self, bytes: &[u8]) -> Sent
+        ensures { λ r. ⌜ r ≡ serialSent self (now (bytes .entry)) ⌝ }
+    {
+        let s = self.state();
+        let settings = self.settings;
+        let spans = settings.spans;
+        let p = self.packer;
+        let setups = self.setups;
+        let midi = self.midi;
+        let mut serial = self.serial;
+        let device = self.device;
+        let done = send_serial(s, spans, p, bytes, &setups, &mut serial);
+        let state = done.state;
+        Sent {
+            refusal: done.refusal,
+            host: host_of(state, settings, p, setups, midi, serial, device),
+        }
+    }
+
+    // Gives a frame to the device: it waits in the sending ring.
+    pub fn frame_give(self, frame: &[u32], sending: &mut [u32]) -> Sent
+        ensures { λ r. ⌜ (r ≡ given self (now (frame .entry)) (now (sending .entry))) × (now (sending .exit) ≡ givenRing self (now (frame .entry)) (now (sending .entry))) ⌝ }
+    {
+        let s = self.state();
+        let spans = self.settings.spans;
+        let p = self.packer;
+        let setups = self.setups;
+        let done = give_frame(s, spans, p, frame, &setups, sending);
+        let state = done.state;
+        Sent {
+            refusal: done.refusal,
+            host: self.with_state(state),
+        }
+    }
+
+    // Takes the oldest frame that came from the device.
+    pub fn frame_take(self, received: &[u32]) -> Taken
+        ensures { λ r. ⌜ r ≡ takenFrame self (now (received .entry)) ⌝ }
+    {
+        let s = self.state();
+        let spans = self.settings.spans;
+        let p = self.packer;
+        let setups = self.setups;
+        let done = take_frame(s, spans, p, &setups, received);
+        let frame = done.frame;
+        let state = done.state;
+        Taken {
+            refusal: done.refusal,
+            empty: done.empty,
+            frame,
+            host: self.with_state(state),
+        }
+    }
+
+    // What the device reads on the register page.
+    pub fn device_read(self, page: &[u8], off: u32, size: u32) -> Read
+        ensures { λ r. ⌜ r ≡ deviceRead self (now (page .entry)) off size ⌝ }
+    {
+        let s = self.state();
+        let spans = self.settings.spans;
+        let p = self.packer;
+        let setups = self.setups;
+        let seen = read_device(s, spans, p, &setups, page, off, size);
+        Read {
+            refusal: seen.refusal,
+            value: seen.value,
+            host: self,
+        }
+    }
+
+    // What the device writes on the register page.
+    pub fn device_write(self, page: &mut [u8], off: u32, size: u32, v: u32) -> Sent
+        ensures { λ r. ⌜ (r ≡ deviceWritten self (now (page .entry)) off size v) × (now (page .exit) ≡ writtenPage self (now (page .entry)) off size v) ⌝ }
+    {
+        let s = self.state();
+        let spans = self.settings.spans;
+        let p = self.packer;
+        let setups = self.setups;
+        let done = write_device(s, spans, p, &setups, page, off, size, v);
+        let state = done.state;
+        Sent {
+            refusal: done.refusal,
+            host: self.with_state(state),
+        }
+    }
+}
