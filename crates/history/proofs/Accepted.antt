@@ -12,7 +12,7 @@ use Rattle.usbhost.specs.declared.Host.{Host}
 use Rattle.usbhost.specs.Host.{stateOf}
 use Rattle.usbhost.specs.Calls.{bounded, fewSpans}
 use Rattle.bus.specs.Sized.{isSized}
-use Rattle.usbhost.specs.Frame.{Lent, areaLengths, frameBounds, frameNumber}
+use Rattle.usbhost.specs.Frame.{Lent, areaLengths, boundsOk, frameBounds, frameNumber}
 
 -- a chain of tests that gives 0 has passed them all
 passed : (n : ℕ) (t : Bool) (k : ℕ) → pick t k (suc n) ≡ 0 → (t ≡ true) × (k ≡ 0)
@@ -77,5 +77,5 @@ accepted-tests h l e =
     record { sized = p₁ .0; lengths = p₂ .0; spans = p₃ .0; bounds = p₄ .0; before = p₅ .0 }
 
 pub accepted-small : (h : Host) (l : Lent) → frameNumber h l ≡ 0 → Small h
-unfolding frameBounds
+unfolding boundsOk
 accepted-small h l e = small-bounded h (and-first (bounded h) _ (accepted-tests h l e .bounds))

@@ -4,15 +4,10 @@ use mathlib.Core.Path.{_≡_, refl, ap, sym, _∙_}
 use mathlib.Core.Bool.{Bool, true, false, not, _&&_}
 use mathlib.Core.List.{List, [], _∷_}
 use native.Mathlib.Omega.{arith}
-use lib.Bits.{bitAnd, and-le-r}
 use lib.Dec.{leb, eqb}
 use lib.ListN.{length, getD, take, drop, length-take, length-drop}
 use borrow.Author.Tests.{leb-true}
 use Rattle.bits.specs.Pick.{pick}
-use Rattle.usbdev.specs.Transfer.{totalOf}
-use Rattle.transfer.specs.Transfer.{tabulate, bytesIn, pointers}
-use Rattle.dtd.specs.Dtd.{Endpoint, runDtds, nextActive, primed, nextDtd, tokenOf, descriptor, bytesOf, queueHead}
-use Rattle.dtd.proofs.Runs.{IsActive, active-bytes}
 use Rattle.record.specs.Record.{wrapped}
 use Rattle.record.specs.World.{World, busOf}
 use Rattle.record.specs.Change.{left}
@@ -22,8 +17,8 @@ use Rattle.model.specs.Microframe.{rsSet, goneAt, asleepAt, microframe}
 use Rattle.model.specs.Reach.{streamBy, inputBy, outputBy, backBy, leftBy, paced, inputReady, outputReady, bytesAt}
 use Rattle.model.specs.Earned.{Counts, countsOf, oneEarned, earned, sentOne, zeroed, goodBlocks, blocksRead, resetCounts, heardCounts, sentCounts}
 use Rattle.model.proofs.Placed.{and-first, and-second}
-use Rattle.model.proofs.Earned.{idle-bytes}
 use Rattle.model.proofs.Counts.{counts-microframe}
+use Rattle.kept.proofs.Bytes.{run-bytes}
 
 -- ---- at most 89 good blocks in a run
 
@@ -43,35 +38,11 @@ good-le (suc n) (b ∷ bs) =
     let g = one-good (good (take 368 (b ∷ bs))) (take 368 (b ∷ bs)) (368 * goodBlocks (blocks n (drop 368 (b ∷ bs)))) (length (b ∷ bs)) refl (omega arith) (omega arith) in
     omega (arith, g)
 
-tabulated : (n : ℕ) (f : ℕ → ℕ) → length (tabulate n f) ≡ n
-unfolding tabulate
-tabulated zero f = refl
-tabulated (suc n) f = ap suc (tabulated n (λ k. f (suc k)))
-
-total-le : (tok : ℕ) → totalOf tok ≤ 32767
-unfolding totalOf
-total-le tok = and-le-r (tok / 2 ^ 16) 0x7FFF
-
-in-le : (n : ℕ) (x : World) → length (bytesOf audioIn n (x .memory)) ≤ 32767
-unfolding bytesOf bytesIn
-in-le n x =
-    let t = total-le (tokenOf n (x .memory)) in
-    omega (arith, t, tabulated (totalOf (tokenOf n (x .memory))) (λ k. Rattle.bus.specs.Memory.peek8 (x .memory) (Rattle.transfer.specs.Transfer.dataAddr (pointers (x .memory) (descriptor n)) k)))
-
--- a run of the input endpoint reads at most 32,767 bytes
-bytes-by : (t : Bool) (x : World) → inputReady x ≡ t → length (bytesAt x) ≤ 32767
-unfolding inputReady bytesAt
-bytes-by true x e =
-    let is : IsActive audioIn (x .memory) (queueHead audioIn (x .memory .page)) (nextDtd audioIn (x .memory)) (tokenOf (nextDtd audioIn (x .memory)) (x .memory)) =
-    record { prime = and-first _ _ e; active = and-second (primed audioIn (x .memory .page)) _ e; head = refl; next = refl; token = refl } in
-    rw (active-bytes audioIn [] (busOf x) refl _ _ _ is) (in-le _ x)
-bytes-by false x e = rw (idle-bytes audioIn [] (busOf x) refl e) (omega arith)
-
 pub blocks-few : (u : World) → blocksRead u ≤ 89
-unfolding blocksRead
+unfolding blocksRead bytesAt
 blocks-few u =
     let a = good-le (length (bytesAt (paced u))) (bytesAt (paced u)) in
-    let b = bytes-by (inputReady (paced u)) (paced u) refl in
+    let b = run-bytes audioIn refl [] (busOf (paced u)) in
     omega arith
 
 -- ---- the counts are sums, and do not wrap, while they are small
@@ -88,7 +59,6 @@ earned-sum zero m h p q = λ i. record { credit = zero-credit i; received = zero
   where
     zero-credit : m .credit ≡ m .credit + 7 * 0
     zero-credit = omega arith
-
     zero-received : m .received ≡ m .received + 7 * 0
     zero-received = omega arith
 earned-sum (suc n) m h p q =

@@ -99,7 +99,7 @@ module _ (P : World → Type 0) where
   on-if : (t : World → Bool) (f g : Step) → Holds P f → Holds P g → Holds P (if t f g)
   on-if t f g p q = holds-if P t f g (λ w e h. p w h) (λ w e h. q w h)
 
-  on-here : (f : World → Step) → ((v : World) → Holds P (f v)) → Holds P (here f)
+  pub on-here : (f : World → Step) → ((v : World) → Holds P (f v)) → Holds P (here f)
   on-here f p = holds-here P f (λ v h. p v v h)
 
 -- ---- on the way to control

@@ -1,5 +1,17 @@
 pub mod Holding
+pub mod Bytes
 pub mod Credit
 pub mod Every
 pub mod Timers
 pub mod Queues
+pub mod Shape
+pub mod Rings
+pub mod Audio
+pub mod Counted
+pub mod Tests
+pub mod Asked
+pub mod Unasked
+pub mod Fits
+pub mod Pairs
+pub mod Queue
+pub mod Setups

@@ -1,8 +1,8 @@
 -- Laws of a copy that a loop makes, and of numbers of refusal.
 use mathlib.Core.Path.{_≡_, refl, sym, ap, _∙_}
-use mathlib.Core.Bool.{Bool, true, false}
+use mathlib.Core.Bool.{Bool, true, false, _&&_}
 use mathlib.Core.List.{List, _++_, append-nil}
-use Prim.Native.Nat.{ℕ, zero, suc, _+_, _-_, _≤_, _<_}
+use Prim.Native.Nat.{ℕ, zero, suc, _+_, _-_, _/_, _≤_, _<_}
 use native.Mathlib.Numerals.{add-one}
 use native.Mathlib.Nat.{add-zero, add-suc, zero-add, sub-zero, zero-sub, suc-sub-suc}
 use native.Mathlib.Omega.{arith}
@@ -13,10 +13,11 @@ use Rattle.bits.specs.Pick.{pick}
 use Rattle.midi.specs.declared.Packer.{Packer}
 use Rattle.record.specs.declared.Settings.{Settings}
 use Rattle.record.specs.declared.State.{State}
-use Rattle.bounds.specs.Bounds.{inBounds, enumeratingOk, countsOk}
+use Rattle.bounds.specs.Bounds.{inBounds, enumeratingOk, countsOk, areasOk, ringOk}
 use Rattle.usbhost.specs.declared.Host.{Host}
 use Rattle.usbhost.specs.Host.{hostOf}
 use Rattle.usbhost.specs.Calls.{unless, answered, bounded}
+use Rattle.usbhost.specs.Frame.{boundsOk}
 use Rattle.usbhost.specs.Promises.{sent}
 use lib.Seq.{drop-cons, sets, sets-eq, length-take-le}
 
@@ -104,6 +105,12 @@ pub same-bounds : (s : State) (c : Settings) (p : Packer) (setups midi serial de
     → bounded (hostOf s c p setups midi serial device) ≡ inBounds s p setups
 unfolding inBounds enumeratingOk countsOk
 same-bounds s c p setups midi serial device = refl
+
+-- the bounds of a microframe's record with areas of some lengths
+pub frame-bounds : (s : State) (c : Settings) (p : Packer) (setups midi serial device : List ℕ) (reply config sending : ℕ)
+    → (inBounds s p setups && (areasOk s reply config && (ringOk (s .audio .received) 48000 && ringOk (s .audio .sending) (sending / 12)))) ≡ boundsOk (hostOf s c p setups midi serial device) reply config sending
+unfolding boundsOk inBounds enumeratingOk countsOk areasOk
+frame-bounds s c p setups midi serial device reply config sending = refl
 
 -- number 4 of an access, from the number of a read at the same place
 pub access-by : (whole few fit ok : Bool)

@@ -59,19 +59,22 @@ lentIn w =
       sending = w .sending;
     }
 
--- number 2: reply and configuration of at least 65,535 bytes, receive area of at least 196,608, the two rings
-unfoldable pub areaLengths : Lent → Bool
-areaLengths l =
-    leb 65535 (length (l .reply))
-    && (leb 65535 (length (l .config))
-    && (leb 196608 (length (l .receive)) && (eqb (length (l .received)) (FRAMES * WORDS) && sendingLength (length (l .sending)))))
+-- number 2, by the lengths: reply and configuration of at least 65,535 bytes, receive area of at least 196,608, the two rings
+unfoldable pub lengthsOk : ℕ → ℕ → ℕ → ℕ → ℕ → Bool
+lengthsOk reply config receive received sending =
+    leb 65535 reply
+    && (leb 65535 config && (leb 196608 receive && (eqb received (FRAMES * WORDS) && sendingLength sending)))
+
+abbrev pub areaLengths : Lent → Bool
+areaLengths l = lengthsOk (length (l .reply)) (length (l .config)) (length (l .receive)) (length (l .received)) (length (l .sending))
 
 -- number 5: the record, and what the areas bound
-unfoldable pub frameBounds : Host → Lent → Bool
-frameBounds h l =
-    bounded h
-    && (areasOk (stateOf h) (length (l .reply)) (length (l .config))
-    && (receivedOk (stateOf h) && sendingOk (stateOf h) (length (l .sending))))
+unfoldable pub boundsOk : Host → ℕ → ℕ → ℕ → Bool
+boundsOk h reply config sending =
+    bounded h && (areasOk (stateOf h) reply config && (receivedOk (stateOf h) && sendingOk (stateOf h) sending))
+
+abbrev pub frameBounds : Host → Lent → Bool
+frameBounds h l = boundsOk h (length (l .reply)) (length (l .config)) (length (l .sending))
 
 -- 1, 2, 3, 5, 6: the lowest whose test fails
 unfoldable pub frameNumber : Host → Lent → ℕ

@@ -1,7 +1,7 @@
 // The host record, and the calls on it but the microframe: MIDI and serial send, frames given and taken, device access.
 ghost use mathlib.Core.Path.{_≡_};
-ghost use mathlib.Core.List.{_++_};
-ghost use Prim.Native.Nat.{_+_, _-_, _*_, _≤_};
+ghost use mathlib.Core.List.{List, _++_};
+ghost use Prim.Native.Nat.{ℕ, _+_, _-_, _*_, _≤_};
 ghost use lib.ListN.{length, take, drop, replicate};
 ghost use lib.Dec.{leb};
 ghost use lib.Seq.{sets};
@@ -9,6 +9,8 @@ ghost use Rattle.bits.specs.Pick.{pick};
 ghost use Rattle.bounds.specs.Bounds.{inBounds};
 ghost use Rattle.usbhost.specs.Calls.{unless, sendingLength, midiSent, serialSent, given, givenRing, giveNumber, takenFrame, takeNumber, deviceRead, deviceWritten, writtenPage, accessNumber};
 ghost use Rattle.usbhost.specs.Promises.{bare, MidiPromise, SerialPromise, GivePromise, TakePromise, ReadPromise, WritePromise};
+ghost use Rattle.usbhost.specs.Frame.{lengthsOk, boundsOk};
+ghost use Rattle.record.specs.declared.Settings.{Settings as Record·Settings};
 ghost use Rattle.usbhost.specs.Host.{stateOf, hostOf, noSettings, newHost, created, isStream};
 use gptimers::Timer;
 use gptimers::Timers;
@@ -473,6 +475,38 @@ fn no_frame(refusal: u8, empty: bool, s: State) -> TakenFrame
         frame: [0; 12],
         state: s,
     }
+}
+
+// Whether the areas of a microframe are as long as they must be.
+fn lengths_ok(reply: usize, config: usize, receive: usize, received: usize, sending: usize) -> bool
+    ensures { λ r. ⌜ r ≡ lengthsOk reply config receive received sending ⌝ }
+{
+    let ring = sending_length(sending);
+    (65535 <= reply) & ((65535 <= config) & ((196608 <= receive) & ((received == 576000) & ring)))
+}
+
+// Numbers 1, 2, 3, 5 and 6 of a microframe by their tests, or 0.
+fn frame_number(sized: bool, lengths: bool, few: bool, bounded: bool, before: bool) -> u8
+    ensures { λ r. ⌜ r ≡ unless 1 sized (unless 2 lengths (unless 3 few (unless 5 bounded (unless 6 before 0)))) ⌝ }
+{
+    let six = first_of(before, 0, 6);
+    let five = first_of(bounded, six, 5);
+    let three = first_of(few, five, 3);
+    let two = first_of(lengths, three, 2);
+    first_of(sized, two, 1)
+}
+
+// Whether a record is in its bounds, with areas of these lengths.
+fn frame_bounds(s: State, p: Packer, setups: &[u8; 2056], reply: usize, config: usize, sending: usize) -> bool
+    ensures { λ r. ⌜ ((c : Record·Settings) (midi serial device : List ℕ) → r ≡ boundsOk (hostOf s c p (now (setups .entry)) midi serial device) reply config sending) ⌝ }
+{
+    let received = s.audio.received;
+    let ring = s.audio.sending;
+    let bounded = bounds::in_bounds(s, p, setups);
+    let areas = bounds::areas_ok(s, reply, config);
+    let heard = bounds::ring_ok(received, 48000);
+    let sent = bounds::ring_ok(ring, sending / 12);
+    bounded & (areas & (heard & sent))
 }
 
 // Takes the oldest frame from the received ring, or finds it empty.

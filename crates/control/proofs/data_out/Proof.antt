@@ -1,4 +1,5 @@
 -- `control::data_out` meets its contract.
+use native.Mathlib.Omega.{arith}
 use Rattle.bus.specs.Memory.{memory}
 use Rattle.control.proofs.Stages.{data-out-more, data-out-ends}
 use borrow.Author.Needs.{needs}
@@ -18,25 +19,25 @@ at-status-requires : tie.Need-at-status-requires
 at-status-requires c κs = search needs
 
 same-length : tie.Need-same-length
-same-length c = search needs
+same-length c = omega (arith, c .before .before .before .before .before .before .before .before .dynamic .given)
 
 same-length-2 : tie.Need-same-length-2
-same-length-2 c = search needs
+same-length-2 c = omega (arith, c .before .before .before .before .before .before .sram .given)
 
 same-length-3 : tie.Need-same-length-3
-same-length-3 c = search needs
+same-length-3 c = omega (arith, c .before .before .before .before .page .given)
 
 returns : tie.Need-returns
 returns c p = data-out-ends (c .before .before .before .before .before .before .before .before .before .before .before .before .before .before .before .before .before .args .s) (memory (c .before .before .before .before .before .before .before .before .before .before .before .before .before .before .before .before .before .args .dynamic .now) (c .before .before .before .before .before .before .before .before .before .before .before .before .before .before .before .before .before .args .sram .now) (c .before .before .before .before .before .before .before .before .before .before .before .before .before .before .before .before .before .args .page .now)) _ (c .before .before .before .before .before .before .before .before .before .run0-out .result) (c .before .before .before .before .before .before .before .before .before .before .before .before .before .before .before .before .before .pre .1) (c .before .before .before .before .before .before .before .before .before .run0-out .ensures) (c .before .before .after-run .ensures) p (c .before .if1 .taken) (c .at-status .ensures)
 
 same-length-4 : tie.Need-same-length-4
-same-length-4 c = search needs
+same-length-4 c = omega (arith, c .before .before .before .before .before .before .before .dynamic .given)
 
 same-length-5 : tie.Need-same-length-5
-same-length-5 c = search needs
+same-length-5 c = omega (arith, c .before .before .before .before .before .sram .given)
 
 same-length-6 : tie.Need-same-length-6
-same-length-6 c = search needs
+same-length-6 c = omega (arith, c .before .before .before .page .given)
 
 returns-2 : tie.Need-returns-2
 returns-2 c p = data-out-more (c .before .before .before .before .before .before .before .before .before .before .before .before .before .before .before .before .args .s) (memory (c .before .before .before .before .before .before .before .before .before .before .before .before .before .before .before .before .args .dynamic .now) (c .before .before .before .before .before .before .before .before .before .before .before .before .before .before .before .before .args .sram .now) (c .before .before .before .before .before .before .before .before .before .before .before .before .before .before .before .before .args .page .now)) _ (c .before .before .before .before .before .before .before .before .run0-out .result) (c .before .before .before .before .before .before .before .before .before .before .before .before .before .before .before .before .pre .1) (c .before .before .before .before .before .before .before .before .run0-out .ensures) (c .before .after-run .ensures) p (c .if1 .left)

@@ -1,4 +1,5 @@
 -- `control::flag_setup` meets its contract.
+use native.Mathlib.Omega.{arith}
 use Rattle.control.proofs.Laws.{flagged}
 use borrow.Author.Needs.{needs}
 use Rattle.control.proofs.flag_setup.Statement.{statement}
@@ -17,7 +18,7 @@ raise-requires : tie.Need-raise-requires
 raise-requires c κs = search needs
 
 same-length : tie.Need-same-length
-same-length c = search needs
+same-length c = omega (arith, c .before .page2 .given, c .before .before .before .before .before .page .given)
 
 returns : tie.Need-returns
 returns c = flagged (c .before .before .before .before .before .before .before .before .before .before .before .before .args .page .now) (c .before .before .before .before .before .before .before .before .before .before .before .before .args .flag) (c .before .before .before .before .before .before .before .before .before .word-at .ensures) (c .before .before .before .before .before .before .before .set .ensures) (c .before .before .before .before .before .before .put-at .ensures) (c .before .before .raise .ensures)

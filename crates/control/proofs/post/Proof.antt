@@ -36,7 +36,7 @@ same-length-2 : tie.Need-same-length-2
 same-length-2 c = omega (arith, c .before .before .before .before .before .before .before .before .before .before .before .before .sram .given)
 
 same-length-3 : tie.Need-same-length-3
-same-length-3 c = search needs
+same-length-3 c = omega (arith, c .before .before .before .before .before .before .page2 .given, c .before .before .before .before .before .before .before .before .before .before .page .given)
 
 returns : tie.Need-returns
 returns c = post-steps (queueHead (endpoint 0 false) (c .before .before .before .before .before .before .before .before .before .before .before .before .before .before .before .before .before .before .before .before .before .before .before .before .args .page .now)) (c .before .before .before .before .before .before .before .before .before .before .before .before .before .before .before .before .before .before .before .before .before .before .before .before .args .first) (c .before .before .before .before .before .before .before .before .before .before .before .before .before .before .before .before .before .before .before .before .before .before .before .before .args .second) (c .before .before .before .before .before .before .before .before .before .before .before .before .before .before .before .before .before .before .before .before .before .before .before .before .args .s) (c .before .before .before .before .before .before .before .before .before .before .before .before .before .before .before .before .before .before .before .before .before .before .before .before .args .dynamic .now) (c .before .before .before .before .before .before .before .before .before .before .before .before .before .before .before .before .before .before .before .before .before .before .before .before .args .sram .now) (c .before .before .before .before .before .before .before .before .before .before .before .before .before .before .before .before .before .before .before .before .before .before .before .before .args .page .now) (c .before .before .before .before .before .before .before .before .before .before .before .before .before .before .before .before .before .before .before .before .before .before .before .before .args .setups .now) (c .before .before .before .before .before .before .before .before .before .before .before .before .before .before .before .before .before .before .before .drop-first .ensures) refl (c .before .before .before .before .before .before .before .before .before .before .before .before .before .before .before .put-words .ensures .0) (c .before .before .before .before .before .before .before .flag-setup .ensures) (c .before .before .before .before .wrapping-add-u64 .ensures) (told-sized (c .before .before .before .before .before .before .before .before .before .before .before .before .before .before .before .before .before .before .before .before .before .before .before .before .args .s .port .line) (c .before .before .before .before .before .before .before .before .before .before .before .before .before .before .before .put-words .ensures .0 false .sized) (c .before .before .before .before .before .before .before .flag-setup .ensures)) (c .begun .ensures)

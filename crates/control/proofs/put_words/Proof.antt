@@ -27,13 +27,13 @@ add-result : tie.Need-add-result
 add-result c = omega (arith, c .before .before .before .before .before .before .before .before .before .before .before .before .before .before .before .before .before .poke32 .ensures .1, c .before .before .before .before .before .before .poke322 .ensures .1, dropped32-le (c .before .before .before .before .before .before .before .before .before .before .before .before .before .before .before .before .before .before .wrapping-add-u32 .result), dropped32-le (c .before .before .before .before .before .before .before .wrapping-add-u322 .result))
 
 same-length : tie.Need-same-length
-same-length c = search needs
+same-length c = omega (arith, c .before .before .before .before .before .dynamic2 .given, c .before .before .before .before .before .before .before .before .before .before .before .before .before .before .before .before .dynamic .given)
 
 same-length-2 : tie.Need-same-length-2
-same-length-2 c = search needs
+same-length-2 c = omega (arith, c .before .before .before .sram2 .given, c .before .before .before .before .before .before .before .before .before .before .before .before .before .before .sram .given)
 
 same-length-3 : tie.Need-same-length-3
-same-length-3 c = search needs
+same-length-3 c = omega (arith, c .before .page2 .given, c .before .before .before .before .before .before .before .before .before .before .before .before .page .given)
 
 returns : tie.Need-returns
 returns c = words-put (queueHead (endpoint 0 false) (c .before .before .before .before .before .before .before .before .before .before .before .before .before .before .before .before .before .before .before .before .before .before .before .before .before .before .before .args .page .now)) (c .before .before .before .before .before .before .before .before .before .before .before .before .before .before .before .before .before .before .before .before .before .before .before .before .before .before .before .args .first) (c .before .before .before .before .before .before .before .before .before .before .before .before .before .before .before .before .before .before .before .before .before .before .before .before .before .before .before .args .second) (c .before .before .before .before .before .before .before .before .before .before .before .before .before .before .before .before .before .before .before .before .before .before .qh .ensures) (c .before .before .before .before .before .before .before .before .before .before .before .before .before .before .before .before .before .before .wrapping-add-u32 .ensures) (c .before .before .before .before .before .before .before .before .before .before .before .before .before .before .before .before .before .poke32 .ensures .0) (c .before .before .before .before .before .before .before .before .before .before .before .before .before .before .before .before .before .poke32 .ensures .1) (c .before .before .before .before .before .before .before .wrapping-add-u322 .ensures) (c .before .before .before .before .before .before .poke322 .ensures .0) (c .before .before .before .before .before .before .poke322 .ensures .1)

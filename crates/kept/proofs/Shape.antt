@@ -1,0 +1,239 @@
+-- What no change can change: settings, packer, and the lengths of memory and of every area; and the lengths of the record's queues,
+-- whose arrays hold them. One induction over lists serves every step.
+use Prim.Native.Nat.{ℕ, _+_, _-_, _*_, _≤_, min}
+use mathlib.Core.Path.{_≡_, refl, ap, _∙_}
+use mathlib.Core.List.{List, [], _∷_, _++_}
+use native.Mathlib.Omega.{arith}
+use lib.ListN.{length, take, drop, length-set, length-take, length-drop, length-append}
+use lib.Seq.{sets, length-sets}
+use Rattle.bus.specs.declared.Place.{Place}
+use Rattle.bus.specs.declared.Place.the-variants.{Dynamic, Static, Page, Nowhere}
+use Rattle.bus.specs.Memory.{Memory, write, at, poke8, poke32}
+use Rattle.bus.specs.Steps.{replay}
+use Rattle.bus.specs.Stores.{Bus, Store, word, byte, irq, store}
+use Rattle.midi.specs.declared.Packer.{Packer}
+use Rattle.record.specs.declared.Settings.{Settings}
+use Rattle.record.specs.World.{World, busOf}
+use Rattle.record.specs.Change.{Change, bus, ran, lost, count, uf, phase, started, gone, suspended, running, credit, budget, counter, block, timers, control, queued, popped, pushed, cleared, reply, device, config, forgot, midi, serial, received, frame, taken, drained, waiting, ringed, apply, Step, left}
+use Rattle.model.specs.Microframe.{microframe}
+use Rattle.kept.proofs.Every.{Early, Each, adds-any, clears-any, Opening, opening, every-microframe}
+
+-- the lengths of the three windows
+pub record Sizes : Type 0 where
+  pub dynamic : ℕ
+  pub sram : ℕ
+  pub page : ℕ
+
+pub record Shape : Type 0 where
+  pub settings : Settings
+  pub packer : Packer
+  pub memory : Sizes
+  pub device : ℕ
+  pub reply : ℕ
+  pub config : ℕ
+  pub receive : ℕ
+  pub received : ℕ
+  pub sending : ℕ
+
+abbrev pub sizes : Memory → Sizes
+sizes m = record { dynamic = length (m .dynamic); sram = length (m .sram); page = length (m .page) }
+
+abbrev shaped : World → Sizes → ℕ → ℕ → ℕ → ℕ → ℕ → Shape
+shaped w z d a b c e =
+    record { settings = w .settings; packer = w .packer; memory = z; device = d; reply = a; config = b; receive = c; received = e; sending = length (w .sending) }
+
+abbrev pub shape : World → Shape
+shape w =
+    shaped w (sizes (w .memory)) (length (w .device)) (length (w .reply)) (length (w .config)) (length (w .receive)) (length (w .received))
+
+-- ---- memory
+
+write-kept : (m : Memory) (p : Place) (v : ℕ) → sizes (write m p v) ≡ sizes m
+unfolding write
+write-kept m (Dynamic i) v = λ j. record { dynamic = length-set (m .dynamic) i v j; sram = length (m .sram); page = length (m .page) }
+write-kept m (Static i) v = λ j. record { dynamic = length (m .dynamic); sram = length-set (m .sram) i v j; page = length (m .page) }
+write-kept m (Page i) v = λ j. record { dynamic = length (m .dynamic); sram = length (m .sram); page = length-set (m .page) i v j }
+write-kept m Nowhere v = refl
+
+byte-kept : (m : Memory) (a v : ℕ) → sizes (poke8 m a v) ≡ sizes m
+unfolding poke8
+byte-kept m a v = write-kept m (at m a) v
+
+word-kept : (m : Memory) (a v : ℕ) → sizes (poke32 m a v) ≡ sizes m
+unfolding poke32
+word-kept m a v = byte-kept _ _ _ ∙ byte-kept _ _ _ ∙ byte-kept _ _ _ ∙ byte-kept m a _
+
+store-kept : (s : Store) (b : Bus) → sizes (store s b .memory) ≡ sizes (b .memory)
+unfolding store
+store-kept (word a v) b = word-kept (b .memory) a v
+store-kept (byte a v) b = byte-kept (b .memory) a v
+store-kept (irq l) b = refl
+
+-- ---- every change, and every list of them
+
+module _ (w : World) where
+  change-kept : (c : Change) → shape (apply c w) ≡ shape w
+  unfolding apply ringed
+  change-kept (bus s) = ap (λ (z : Sizes). shaped w z (length (w .device)) (length (w .reply)) (length (w .config)) (length (w .receive)) (length (w .received))) (store-kept s (busOf w))
+  change-kept (ran e k n) = refl
+  change-kept (lost n) = refl
+  change-kept (count c n) = refl
+  change-kept (uf n) = refl
+  change-kept (phase p) = refl
+  change-kept (started n) = refl
+  change-kept (gone b) = refl
+  change-kept (suspended b) = refl
+  change-kept (running b) = refl
+  change-kept (credit n) = refl
+  change-kept (budget n) = refl
+  change-kept (counter n) = refl
+  change-kept (block n c) = refl
+  change-kept (timers ts) = refl
+  change-kept (control c) = refl
+  change-kept (queued bs) = refl
+  change-kept popped = refl
+  change-kept (pushed bs) = refl
+  change-kept cleared = refl
+  change-kept (reply n bs) = ap (λ (x : ℕ). shaped w (sizes (w .memory)) (length (w .device)) x (length (w .config)) (length (w .receive)) (length (w .received))) (length-sets (w .reply) n bs)
+  change-kept (device bs) = ap (λ (x : ℕ). shaped w (sizes (w .memory)) x (length (w .reply)) (length (w .config)) (length (w .receive)) (length (w .received))) (length-sets (w .device) 0 bs)
+  change-kept (config bs) = ap (λ (x : ℕ). shaped w (sizes (w .memory)) (length (w .device)) (length (w .reply)) x (length (w .receive)) (length (w .received))) (length-sets (w .config) 0 bs)
+  change-kept forgot = refl
+  change-kept (midi n) = refl
+  change-kept (serial n) = refl
+  change-kept (received bs) = ap (λ (x : ℕ). shaped w (sizes (w .memory)) (length (w .device)) (length (w .reply)) (length (w .config)) x (length (w .received))) (length-sets (w .receive) (w .state .answer .received) bs)
+  change-kept (frame f) = ap (λ (x : ℕ). shaped w (sizes (w .memory)) (length (w .device)) (length (w .reply)) (length (w .config)) (length (w .receive)) x) (length-sets (w .received) _ f)
+  change-kept (taken n) = refl
+
+pub list-kept : (cs : List Change) (w : World) → shape (replay apply cs w) ≡ shape w
+list-kept [] w = refl
+list-kept (c ∷ cs) w = list-kept cs (apply c w) ∙ change-kept w c
+
+-- every step, whatever it is
+pub step-kept : (f : Step) (w : World) → shape (left f w) ≡ shape w
+step-kept f w = list-kept (f w) w
+
+pub shape-kept : (t : ℕ) (w : World) → shape (left (microframe t) w) ≡ shape w
+shape-kept t w = step-kept (microframe t) w
+
+-- ---- the queues in their arrays, which a microframe drains of no more than they hold
+
+drained-length : (q : List ℕ) (len n : ℕ) → len ≤ length q → length (drained q len n) ≡ length q
+unfolding drained
+drained-length q len n h =
+    omega (arith, length-append (take (len - n) (drop n q)) (drop (len - n) q), length-take (len - n) (drop n q), length-drop n q, length-drop (len - n) q)
+
+-- arrays of a, b and c bytes, of which the MIDI and the serial queue use m and s
+record Arrays (a b c : ℕ) (setups midi serial : List ℕ) (m s : ℕ) : Type 0 where
+  setups-length : length setups ≡ a
+  midi-length : length midi ≡ b
+  serial-length : length serial ≡ c
+  midi-fits : m ≤ b
+  serial-fits : s ≤ c
+
+module _ (a b c : ℕ) where
+  abbrev ArraysOk : World → Type 0
+  ArraysOk w = Arrays a b c (w .setups) (w .midi) (w .serial) (w .state .lengths .midi) (w .state .lengths .serial)
+
+  -- and up to control the setups lie in theirs
+  abbrev FitsOk : World → Type 0
+  FitsOk w = ArraysOk w × (8 * w .state .lengths .setups ≤ a)
+
+  requeued : (w : World) (q : List ℕ) → length q ≡ length (w .setups) → ArraysOk w → Arrays a b c q (w .midi) (w .serial) (w .state .lengths .midi) (w .state .lengths .serial)
+  requeued w q e h = record { setups-length = e ∙ h .setups-length; midi-length = h .midi-length; serial-length = h .serial-length; midi-fits = h .midi-fits; serial-fits = h .serial-fits }
+
+  drained-midi : (n : ℕ) (w : World) → ArraysOk w → Arrays a b c (w .setups) (drained (w .midi) (w .state .lengths .midi) n) (w .serial) (w .state .lengths .midi - n) (w .state .lengths .serial)
+  drained-midi n w h =
+      let l = h .midi-length in
+      let f = h .midi-fits in
+      record { setups-length = h .setups-length; midi-length = drained-length (w .midi) (w .state .lengths .midi) n (omega arith) ∙ l; serial-length = h .serial-length; midi-fits = omega arith; serial-fits = h .serial-fits }
+
+  drained-serial : (n : ℕ) (w : World) → ArraysOk w → Arrays a b c (w .setups) (w .midi) (drained (w .serial) (w .state .lengths .serial) n) (w .state .lengths .midi) (w .state .lengths .serial - n)
+  drained-serial n w h =
+      let l = h .serial-length in
+      let f = h .serial-fits in
+      record { setups-length = h .setups-length; midi-length = h .midi-length; serial-length = drained-length (w .serial) (w .state .lengths .serial) n (omega arith) ∙ l; midi-fits = h .midi-fits; serial-fits = omega arith }
+
+  none-waits : (w : World) → FitsOk w → FitsOk (apply cleared w)
+  unfolding apply
+  none-waits w h = (h .0, omega arith)
+
+  fits-early : Early FitsOk
+  unfolding apply
+  fits-early =
+      record {
+        stores = λ s w h. h;
+        counts = λ c m o w h. h;
+        enters = λ p w h. h;
+        starts = λ w h. h;
+        goes = λ b w h. h;
+        suspends = λ b w h. h;
+        runs = λ b w h. h;
+        credits = λ m w h. h;
+        resets = λ w h. h;
+        controls = λ c w h. h;
+        clears = none-waits;
+        forgets = λ w h. h;
+      }
+
+  arrays-each : Each ArraysOk
+  unfolding apply
+  arrays-each =
+      record {
+        early = record {
+          stores = λ s w h. h;
+          counts = λ c m o w h. h;
+          enters = λ p w h. h;
+          starts = λ w h. h;
+          goes = λ b w h. h;
+          suspends = λ b w h. h;
+          runs = λ b w h. h;
+          credits = λ m w h. h;
+          resets = λ w h. h;
+          controls = λ c w h. h;
+          clears = λ w h. h;
+          forgets = λ w h. h;
+        };
+        marks = λ e k m w h. h;
+        loses = λ m w h. h;
+        waits = λ w h e. adds-any ArraysOk (λ m v p. p) w h;
+        passes = λ w h e. clears-any ArraysOk (λ m v p. p) _ (adds-any ArraysOk (λ m v p. p) w h);
+        numbers = λ m w h. h;
+        chooses = λ bs w e h. h;
+        queues = λ bs w h. requeued w _ (length-sets (w .setups) _ bs) h;
+        pushes = λ bs w h. requeued w _ (length-sets (w .setups) 0 (bs ++ waiting w)) h;
+        replies = λ m bs w h. h;
+        devices = λ bs w h. h;
+        configs = λ bs w h. h;
+        midis = λ n w l f h. drained-midi n w h;
+        serials = λ n w l h. drained-serial n w h;
+        receives = λ bs w h. h;
+        frames = λ f w h. h;
+        takes = λ m w h. h;
+      }
+
+  pop-fits : (w : World) → FitsOk w → ArraysOk (apply popped w)
+  unfolding apply
+  pop-fits w h =
+      let l = h .0 .setups-length in
+      let f = h .1 in
+      requeued w _ (drained-length (w .setups) (8 * w .state .lengths .setups) 8 (omega arith)) (h .0)
+
+  fits-opening : Opening FitsOk FitsOk FitsOk
+  unfolding apply
+  fits-opening = opening FitsOk fits-early (λ n w h. h) (λ n w h. h) (λ ts w h. h)
+
+  arrays-microframe : (t : ℕ) (w : World) → FitsOk w → ArraysOk (left (microframe t) w)
+  arrays-microframe = every-microframe FitsOk FitsOk FitsOk ArraysOk fits-opening fits-early arrays-each (λ w h. h .0) pop-fits
+
+-- the lengths of the three arrays
+pub record SameArrays (w v : World) : Type 0 where
+  pub setups : length (v .setups) ≡ length (w .setups)
+  pub midi : length (v .midi) ≡ length (w .midi)
+  pub serial : length (v .serial) ≡ length (w .serial)
+
+pub arrays-kept : (t : ℕ) (w : World) → 8 * w .state .lengths .setups ≤ length (w .setups) → w .state .lengths .midi ≤ length (w .midi) → w .state .lengths .serial ≤ length (w .serial)
+    → SameArrays w (left (microframe t) w)
+arrays-kept t w p q r =
+    let h : ArraysOk (length (w .setups)) (length (w .midi)) (length (w .serial)) w = record { setups-length = refl; midi-length = refl; serial-length = refl; midi-fits = q; serial-fits = r } in
+    let a = arrays-microframe _ _ _ t w (h, p) in
+    record { setups = a .setups-length; midi = a .midi-length; serial = a .serial-length }
