@@ -31,6 +31,6 @@ run-bytes e single bs b = by-ready (primed e (b .memory .page) && nextActive e (
     by-ready : (t : Bool) → (primed e (b .memory .page) && nextActive e (b .memory)) ≡ t → length (runDtds e bs b .bytes) ≤ 32767
     by-ready true r =
         let is : IsActive e (b .memory) (queueHead e (b .memory .page)) (nextDtd e (b .memory)) (tokenOf (nextDtd e (b .memory)) (b .memory)) =
-            record { prime = and-first _ _ r; active = and-second (primed e (b .memory .page)) _ r; head = refl; next = refl; token = refl } in
+        record { prime = and-first _ _ r; active = and-second (primed e (b .memory .page)) _ r; head = refl; next = refl; token = refl } in
         rw (active-bytes e bs b single _ _ _ is) (bytes-le e _ (b .memory))
     by-ready false r = rw (idle-bytes e bs b single r) (omega arith)

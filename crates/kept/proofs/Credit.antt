@@ -59,6 +59,7 @@ earned-sum zero m h p q = λ i. record { credit = zero-credit i; received = zero
   where
     zero-credit : m .credit ≡ m .credit + 7 * 0
     zero-credit = omega arith
+
     zero-received : m .received ≡ m .received + 7 * 0
     zero-received = omega arith
 earned-sum (suc n) m h p q =

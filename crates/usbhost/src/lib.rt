@@ -497,7 +497,14 @@ fn frame_number(sized: bool, lengths: bool, few: bool, bounded: bool, before: bo
 }
 
 // Whether a record is in its bounds, with areas of these lengths.
-fn frame_bounds(s: State, p: Packer, setups: &[u8; 2056], reply: usize, config: usize, sending: usize) -> bool
+fn frame_bounds(
+    s: State,
+    p: Packer,
+    setups: &[u8; 2056],
+    reply: usize,
+    config: usize,
+    sending: usize,
+) -> bool
     ensures { λ r. ⌜ ((c : Record·Settings) (midi serial device : List ℕ) → r ≡ boundsOk (hostOf s c p (now (setups .entry)) midi serial device) reply config sending) ⌝ }
 {
     let received = s.audio.received;
