@@ -12,17 +12,19 @@ use Rattle.bus.specs.Stores.{Store, droppedBy, when}
 use Rattle.usbdev.specs.Registers.{lifted, onBus as page-onBus}
 use Rattle.dtd.specs.Dtd.{Run, runDtds, primed, nextActive, nextDtd, tokenOf, queueHead, dataOut, finishing, bitOf, moves}
 use Rattle.dtd.proofs.Runs.{IsActive, active-stores, active-moved, active-retired}
-use Rattle.record.specs.Record.{«out_transfers», «out_frames», «out_underruns»}
+use Rattle.record.specs.Record.{wrapped, «out_transfers», «out_frames», «out_underruns»}
 use Rattle.record.specs.World.{World, busOf}
 use Rattle.record.specs.Change.{Change, bus, ran, lost, count, credit, counter, taken, apply, Step, left, one, here, onPage, runs, ranStores, nothing}
 use Rattle.model.specs.Phases.{changing}
 use Rattle.model.specs.Audio.{audioOut, BLOCK-FRAMES, blockOf, sendsBlock, unprimes, outputs}
 use Rattle.model.specs.Microframe.{microframe}
 use Rattle.model.specs.Reach.{reachesOutput, atOutput, outputReady}
+use Rattle.model.specs.Earned.{countsOf, outOf, sentOut}
 use Rattle.model.specs.Marks.{audioOutRetired}
 use Rattle.model.specs.Claims.{sendsAt, outPointer, outToken, outMoved, blockStores, oneBlock, unprimed}
 use Rattle.model.proofs.Placed.{Placed, placed-output, and-first, and-second}
 use Rattle.model.proofs.Marks.{microframe-retired}
+use Rattle.model.proofs.Counts.{out-microframe, sent-microframe}
 
 -- the run of a ready output endpoint: its stores, one descriptor, the bytes moved
 ready-active : (x : World) → outputReady x ≡ true → IsActive audioOut (x .memory) (queueHead audioOut (x .memory .page)) (outPointer x) (outToken x)
@@ -99,6 +101,7 @@ pub record OneBlock (t : ℕ) (w : World) : Type 0 where
   pub placed : Placed (microframe t) w outputs (atOutput w)
   pub changes : outputs (atOutput w) ≡ oneBlock (atOutput w)
   pub retired : audioOutRetired (microframe t w) ≡ 1
+  pub out : outOf (left (microframe t) w) ≡ sentOut (outOf w)
 
 pub one-block : (t : ℕ) (w : World) → sendsAt t w ≡ true → OneBlock t w
 one-block t w e =
@@ -107,12 +110,15 @@ one-block t w e =
       placed = placed-output t w (and-first _ _ e);
       changes = one-block-changes (atOutput w) (and-first _ _ e₁) (and-second (outputReady (atOutput w)) _ e₁);
       retired = microframe-retired t w ∙ ap (λ (b : Bool). pick b 1 0) e;
+      out = out-microframe t w ∙ ap (λ (b : Bool). pick b (sentOut (outOf w)) (outOf w)) e;
     }
 
 -- none is sent: no descriptor of the endpoint is retired, and an output step that is reached does nothing but un-prime it
 pub record NoBlock (t : ℕ) (w : World) : Type 0 where
   pub changes : reachesOutput t w ≡ true → (outputs (atOutput w) ≡ []) ⊎ (outputs (atOutput w) ≡ unprimed (atOutput w))
   pub retired : audioOutRetired (microframe t w) ≡ 0
+  pub out : outOf (left (microframe t) w) ≡ outOf w
+  pub sent : countsOf (left (microframe t) w) .sent ≡ countsOf w .sent
 
 and-rest : (a b : Bool) → (a && b) ≡ false → a ≡ true → b ≡ false
 and-rest true b e h = e
@@ -123,4 +129,6 @@ no-block t w e =
     record {
       changes = λ h. no-block-changes (atOutput w) (and-rest (reachesOutput t w) _ e h);
       retired = microframe-retired t w ∙ ap (λ (b : Bool). pick b 1 0) e;
+      out = out-microframe t w ∙ ap (λ (b : Bool). pick b (sentOut (outOf w)) (outOf w)) e;
+      sent = sent-microframe t w ∙ ap (λ (b : Bool). pick b (wrapped (countsOf w .sent + BLOCK-FRAMES)) (countsOf w .sent)) e;
     }

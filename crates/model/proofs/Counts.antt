@@ -1,14 +1,15 @@
 -- What a microframe does to the credit and to the counters of frames, by the tests that say which steps it reaches.
-use Prim.Native.Nat.{ℕ}
+use Prim.Native.Nat.{ℕ, zero, suc, _+_}
 use mathlib.Core.Path.{_≡_, refl, ap, sym, _∙_}
 use mathlib.Core.Bool.{Bool, true, false, not, _&&_, _||_}
+use native.Mathlib.Omega.{arith}
 use lib.Dec.{leb, eqb}
-use Rattle.bits.specs.Pick.{pick, pick-map}
+use Rattle.bits.specs.Pick.{pick, pick-map, pick-same}
 use Rattle.bus.specs.Steps.{andThen, exec-then}
 use Rattle.record.specs.declared.Phase.{Phase}
 use Rattle.record.specs.declared.Phase.the-variants.{Idle, Vbus, Reset, Enumerate, Stream}
 use Rattle.record.specs.declared.Settings.{Settings}
-use Rattle.record.specs.Record.{counted}
+use Rattle.record.specs.Record.{counted, wrapped}
 use Rattle.record.specs.World.{World}
 use Rattle.record.specs.Change.{apply, gone, running, Step, left, _then_, nothing, if, when, one, here}
 use Rattle.model.specs.Phases.{counts, ticks, cable, unplugging, returns, forgets, dropsRequest, enters, sleeps, suspends, leaves, departs}
@@ -16,8 +17,8 @@ use Rattle.model.specs.Control.{enumerating}
 use Rattle.model.specs.Streams.{serves}
 use Rattle.model.specs.Audio.{BLOCK-FRAMES, overBudget, addsBudget, hears, outputs, streams}
 use Rattle.model.specs.Microframe.{rsSet, goneAt, asleepAt, streaming, opens, frameOf, byPhase, atPhase, talks, transfers, others, enumerates, microframe}
-use Rattle.model.specs.Reach.{streamsIn, toPhase, phaseBy, streamBy, outputBy, inputBy, backBy, leftBy, paced, inputReady, outputReady}
-use Rattle.model.specs.Earned.{Counts, countsOf, earned, sentOne, zeroed, blocksRead, resetCounts, heardCounts, sentCounts}
+use Rattle.model.specs.Reach.{streamsIn, toPhase, phaseBy, streamBy, outputBy, inputBy, backBy, leftBy, paced, inputReady, outputReady, reachesOutput, atOutput}
+use Rattle.model.specs.Earned.{Counts, countsOf, Out, outOf, sentOut, oneEarned, earned, sentOne, zeroed, blocksRead, resetCounts, heardCounts, sentCounts}
 use Rattle.model.proofs.Fields.{Keeps, fields-then, fields-if, keeps-nothing, keeps-if, keeps-then, keeps-one, keeps-page}
 use Rattle.model.proofs.Frames.{Frames, framesOf, withCounts, frames}
 use Rattle.model.proofs.Quiet.{keeps-counts, keeps-ticks, keeps-sleeps, keeps-suspends, keeps-idles, keeps-powers, keeps-resets, keeps-enumerates, keeps-serves, keeps-others}
@@ -34,7 +35,7 @@ pick-eq false p q = q
 -- ---- the cable
 
 abbrev goneTo : Bool → Frames → Frames
-goneTo b k = record { counts = k .counts; gone = b; running = k .running }
+goneTo b k = record { counts = k .counts; gone = b; running = k .running; out = k .out }
 
 abbrev cabled : Bool → Frames → Frames
 cabled true k = goneTo true k
@@ -45,12 +46,12 @@ unfolding returns forgets dropsRequest andThen one apply counted
 frames-returns v = refl
 
 goes : (b : Bool) (k : Frames) → k .gone ≡ b → pick (not b) (goneTo true k) k ≡ goneTo true k
-goes true k e = λ i. record { counts = k .counts; gone = e i; running = k .running }
+goes true k e = λ i. record { counts = k .counts; gone = e i; running = k .running; out = k .out }
 goes false k e = refl
 
 comes : (b : Bool) (k : Frames) → k .gone ≡ b → pick b (goneTo false (withCounts k (zeroed (k .counts)))) k ≡ goneTo false (withCounts k (pick b (zeroed (k .counts)) (k .counts)))
 comes true k e = refl
-comes false k e = λ i. record { counts = k .counts; gone = e i; running = k .running }
+comes false k e = λ i. record { counts = k .counts; gone = e i; running = k .running; out = k .out }
 
 frames-cable : (g : Bool) (v : World) → framesOf (left (cable g) v) ≡ cabled g (framesOf v)
 unfolding cable one apply
@@ -74,6 +75,14 @@ frames-opens c g w =
 counts-departs : (v : World) → countsOf (left departs v) ≡ zeroed (countsOf v)
 unfolding departs enters forgets dropsRequest andThen one apply
 counts-departs v = refl
+
+seen-out : (v : World) → outOf (left (one (λ w. running true)) v) ≡ outOf v
+unfolding one apply
+seen-out v = refl
+
+out-departs : (v : World) → outOf (left departs v) ≡ outOf v
+unfolding departs enters forgets dropsRequest andThen one apply
+out-departs v = refl
 
 seen : (v : World) → countsOf (left (one (λ w. running true)) v) ≡ countsOf v
 unfolding one apply
@@ -282,3 +291,135 @@ counts-frame t rs false false w =
 pub counts-microframe : (t : ℕ) (w : World) → countsOf (left (microframe t) w) ≡ sentCounts (rsSet w) (goneAt t w) (asleepAt t w) w
 unfolding microframe here
 counts-microframe t w = counts-frame t (rsSet w) (goneAt t w) (asleepAt t w) w
+
+-- ---- the stream counter and the sending ring
+
+out-leaves : (stack rs : Bool) (v : World) → outOf (left (leaves stack rs) v) ≡ outOf v
+unfolding leaves
+out-leaves false true v = ap (λ (k : Frames). k .out) (keeps-nothing frames v)
+out-leaves false false v = ap (λ (k : Frames). k .out) (keeps-nothing frames v)
+out-leaves true true v = seen-out v
+out-leaves true false v =
+    ap (λ (k : Frames). k .out) (fields-if frames _ _ _ v)
+    ∙ pick-map (λ (k : Frames). k .out) (v .state .port .running) _ _
+    ∙ pick-eq (v .state .port .running) (out-departs v) (ap (λ (k : Frames). k .out) (keeps-nothing frames v))
+    ∙ pick-same (v .state .port .running) (outOf v)
+
+out-opens : (c : Settings) (g : Bool) (w : World) → outOf (left (opens c g) w) ≡ outOf w
+out-opens c true w = ap (λ (k : Frames). k .out) (frames-opens c true w)
+out-opens c false w = ap (λ (k : Frames). k .out) (frames-opens c false w)
+
+out-phase : (rs : Bool) (w : World) → outOf (phaseBy rs w) ≡ outOf w
+unfolding phaseBy toPhase
+out-phase rs w =
+    ap (λ (k : Frames). k .out) (fields-then frames _ _ w ∙ fields-then frames _ _ _)
+    ∙ out-leaves (w .settings .«device_stack») rs _
+    ∙ ap (λ (k : Frames). k .out) (keeps-suspends false _)
+    ∙ out-opens (w .settings) false w
+
+out-hears : (u : World) → outOf (left hears u) ≡ outOf u
+out-hears u =
+    ap (λ (k : Frames). k .out) (frames-hears u)
+    ∙ pick-map (λ (k : Frames). k .out) (not (overBudget (left addsBudget u)) && inputReady (paced u)) (earns (blocksRead u) (framesOf u)) (framesOf u)
+    ∙ pick-same (not (overBudget (left addsBudget u)) && inputReady (paced u)) (outOf u)
+
+out-streams : (u : World) → outOf (left outputs (left hears u)) ≡ pick (outputReady (left hears u) && leb BLOCK-FRAMES (left hears u .state .audio .credit)) (sentOut (outOf u)) (outOf u)
+out-streams u =
+    ap (λ (k : Frames). k .out) (frames-outputs (left hears u))
+    ∙ pick-map (λ (k : Frames). k .out) (outputReady (left hears u) && leb BLOCK-FRAMES (left hears u .state .audio .credit)) (sends (framesOf (left hears u))) (framesOf (left hears u))
+    ∙ ap (λ (o : Out). pick (outputReady (left hears u) && leb BLOCK-FRAMES (left hears u .state .audio .credit)) (sentOut o) o) (out-hears u)
+
+out-by : (c : Settings) (t : ℕ) (rs : Bool) (v : World) → outOf (left (byPhase c t rs) v) ≡ pick (getsTo c rs v) (pick (outputReady (left hears (left (enumerates c) v)) && leb BLOCK-FRAMES (left hears (left (enumerates c) v) .state .audio .credit)) (sentOut (outOf v)) (outOf v)) (outOf v)
+out-by c t rs v =
+    let u = left (enumerates c) v in
+    ap (λ (k : Frames). k .out) (frames-by c t rs v)
+    ∙ pick-map (λ (k : Frames). k .out) (getsTo c rs v) (streamed c v) (framesOf v)
+    ∙ pick-eq (getsTo c rs v) (out-streams u ∙ ap (λ (k : Frames). pick (outputReady (left hears u) && leb BLOCK-FRAMES (left hears u .state .audio .credit)) (sentOut (k .out)) (k .out)) (keeps-enumerates c v)) refl
+
+both-tests : (a b : Bool) (x y : Out) → pick a (pick b x y) y ≡ pick (a && b) x y
+both-tests true b x y = refl
+both-tests false b x y = refl
+
+out-frame : (t : ℕ) (rs g s : Bool) (w : World) → outOf (left (frameOf (w .settings) t rs g s) w) ≡ pick (outputBy rs g s w && (outputReady (left hears (streamBy rs w)) && leb BLOCK-FRAMES (left hears (streamBy rs w) .state .audio .credit))) (sentOut (outOf w)) (outOf w)
+unfolding frameOf outputBy streamBy phaseBy toPhase
+out-frame t rs true s w = ap (λ (k : Frames). k .out) (fields-then frames _ _ w ∙ keeps-sleeps _ ∙ frames-opens (w .settings) true w)
+out-frame t rs false true w =
+    ap (λ (k : Frames). k .out) (fields-then frames _ _ w ∙ fields-then frames _ _ _ ∙ keeps-sleeps _ ∙ keeps-suspends true _ ∙ frames-opens (w .settings) false w)
+out-frame t rs false false w =
+    let c = w .settings in
+    let closed = not (w .state .port .gone) && (rs && (not (w .settings .cdc) && streamsIn w)) in
+    let test = outputReady (left hears (streamBy rs w)) && leb BLOCK-FRAMES (left hears (streamBy rs w) .state .audio .credit) in
+    ap outOf (four (opens c false) (suspends false) (leaves (c .«device_stack») rs) (byPhase c t rs) w)
+    ∙ out-by c t rs (phaseBy rs w)
+    ∙ ap (λ (b : Bool). pick b (pick test (sentOut (outOf (phaseBy rs w))) (outOf (phaseBy rs w))) (outOf (phaseBy rs w))) (gets-closed rs (w .state .port .gone) w refl)
+    ∙ ap (λ (o : Out). pick closed (pick test (sentOut o) o) o) (out-phase rs w)
+    ∙ both-tests closed test (sentOut (outOf w)) (outOf w)
+
+pub out-microframe : (t : ℕ) (w : World) → outOf (left (microframe t) w) ≡ pick (reachesOutput t w && (outputReady (atOutput w) && leb BLOCK-FRAMES (atOutput w .state .audio .credit))) (sentOut (outOf w)) (outOf w)
+unfolding microframe here
+out-microframe t w = out-frame t (rsSet w) (goneAt t w) (asleepAt t w) w
+
+-- ---- the frames counted as sent, by the test at the output step
+
+same-sent : (b : Bool) (m m′ : Counts) → m .sent ≡ m′ .sent → pick b m m′ .sent ≡ m′ .sent
+same-sent true m m′ e = e
+same-sent false m m′ e = refl
+
+earned-sent : (n : ℕ) (m : Counts) → earned n m .sent ≡ m .sent
+unfolding earned
+earned-sent zero m = refl
+earned-sent (suc n) m = earned-sent n (oneEarned m)
+
+reset-sent : (rs g s : Bool) (w : World) → resetCounts rs g s w .sent ≡ countsOf w .sent
+unfolding resetCounts
+reset-sent rs g s w =
+    same-sent (leftBy rs g s w) (zeroed (pick (backBy g w) (zeroed (countsOf w)) (countsOf w))) (pick (backBy g w) (zeroed (countsOf w)) (countsOf w)) refl
+    ∙ same-sent (backBy g w) (zeroed (countsOf w)) (countsOf w) refl
+
+heard-sent : (rs g s : Bool) (w : World) → heardCounts rs g s w .sent ≡ countsOf w .sent
+unfolding heardCounts
+heard-sent rs g s w =
+    same-sent (inputBy rs g s w && inputReady (paced (streamBy rs w))) (earned (blocksRead (streamBy rs w)) (resetCounts rs g s w)) (resetCounts rs g s w) (earned-sent (blocksRead (streamBy rs w)) (resetCounts rs g s w))
+    ∙ reset-sent rs g s w
+
+false-true : false ≡ true → ⊥
+false-true e = let z : _≡_ {A = ℕ} 0 1 = cc in omega arith
+
+gone-not : (rs s : Bool) (w : World) → outputBy rs true s w ≡ false
+unfolding outputBy
+gone-not rs s w = refl
+
+asleep-not : (rs : Bool) (w : World) → outputBy rs false true w ≡ false
+unfolding outputBy
+asleep-not rs w = refl
+
+-- the counts at the output step, where it is reached
+counts-output : (rs g s : Bool) (w : World) → outputBy rs g s w ≡ true → countsOf (left hears (streamBy rs w)) ≡ heardCounts rs g s w
+unfolding heardCounts inputBy streamBy heardFrom
+counts-output rs true s w e = absurd (false-true (sym (gone-not rs s w) ∙ e))
+counts-output rs false true w e = absurd (false-true (sym (asleep-not rs w) ∙ e))
+counts-output rs false false w e =
+    let u = left (enumerates (w .settings)) (phaseBy rs w) in
+    rw e
+    (counts-hears u
+    ∙ ap (heardFrom u) (ap (λ (k : Frames). k .counts) (keeps-enumerates (w .settings) (phaseBy rs w)) ∙ counts-phase rs w))
+
+sent-tests : (rs g s : Bool) (w : World) → (outputBy rs g s w && (outputReady (left hears (streamBy rs w)) && leb BLOCK-FRAMES (heardCounts rs g s w .credit))) ≡ (outputBy rs g s w && (outputReady (left hears (streamBy rs w)) && leb BLOCK-FRAMES (left hears (streamBy rs w) .state .audio .credit)))
+sent-tests rs g s w = by-reach (outputBy rs g s w) refl
+  where
+    by-reach : (b : Bool) → outputBy rs g s w ≡ b → (b && (outputReady (left hears (streamBy rs w)) && leb BLOCK-FRAMES (heardCounts rs g s w .credit))) ≡ (b && (outputReady (left hears (streamBy rs w)) && leb BLOCK-FRAMES (left hears (streamBy rs w) .state .audio .credit)))
+    by-reach true e = ap (λ (m : Counts). outputReady (left hears (streamBy rs w)) && leb BLOCK-FRAMES (m .credit)) (sym (counts-output rs g s w e))
+    by-reach false e = refl
+
+pub sent-microframe : (t : ℕ) (w : World) → countsOf (left (microframe t) w) .sent ≡ pick (reachesOutput t w && (outputReady (atOutput w) && leb BLOCK-FRAMES (atOutput w .state .audio .credit))) (wrapped (countsOf w .sent + BLOCK-FRAMES)) (countsOf w .sent)
+unfolding sentCounts sentOne
+sent-microframe t w =
+    let rs = rsSet w in
+    let g = goneAt t w in
+    let s = asleepAt t w in
+    let m = heardCounts rs g s w in
+    let test = outputBy rs g s w && (outputReady (left hears (streamBy rs w)) && leb BLOCK-FRAMES (m .credit)) in
+    ap (λ (k : Counts). k .sent) (counts-microframe t w)
+    ∙ pick-map (λ (k : Counts). k .sent) test (sentOne m) m
+    ∙ ap (λ (n : ℕ). pick test (wrapped (n + BLOCK-FRAMES)) n) (heard-sent rs g s w)
+    ∙ ap (λ (b : Bool). pick b (wrapped (countsOf w .sent + BLOCK-FRAMES)) (countsOf w .sent)) (sent-tests rs g s w)

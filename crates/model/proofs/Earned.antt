@@ -15,16 +15,16 @@ use Rattle.record.specs.Change.{Change, count, credit, apply, Step, left, _then
 use Rattle.model.specs.Streams.{nonempty, brought}
 use Rattle.model.specs.Audio.{audioIn, audioOut, BLOCK-FRAMES, overBudget, addsBudget, clearsBudget, blocks, blocksOf, good, keepsFrames, keepsGood, keepsBlock, keepsBlocks, keepsRun, inputs, hears, blockOf, sendsBlock, unprimes, outputs}
 use Rattle.model.specs.Reach.{paced, inputReady, outputReady, bytesAt}
-use Rattle.model.specs.Earned.{Counts, oneEarned, earned, sentOne, goodBlocks, blocksRead}
+use Rattle.model.specs.Earned.{Counts, oneEarned, earned, sentOne, sentOut, goodBlocks, blocksRead}
 use Rattle.model.proofs.Fields.{Keeps, fields-then, fields-if, keeps-then, keeps-one, keeps-nothing, left-runs, fields-ran}
-use Rattle.model.proofs.Frames.{Frames, framesOf, withCounts, frames}
+use Rattle.model.proofs.Frames.{Frames, framesOf, withCounts, withOut, frames}
 use Rattle.model.proofs.Quiet.{keeps-adds, keeps-clears, keeps-unprimes}
 
 abbrev pub earns : ℕ → Frames → Frames
 earns n k = withCounts k (earned n (k .counts))
 
 abbrev pub sends : Frames → Frames
-sends k = withCounts k (sentOne (k .counts))
+sends k = withOut (withCounts k (sentOne (k .counts))) (sentOut (k .out))
 
 pick-eq : (t : Bool) {x y x′ y′ : Frames} → x ≡ x′ → y ≡ y′ → pick t x y ≡ pick t x′ y′
 pick-eq true p q = p
@@ -153,7 +153,7 @@ abbrev sentMore : Frames → Frames
 sentMore k = withCounts k (record { credit = k .counts .credit; received = k .counts .received; sent = wrapped (k .counts .sent + BLOCK-FRAMES) })
 
 frames-sends : (bs : List ℕ) (w : World) → framesOf (left (sendsBlock bs) w) ≡ sends (framesOf w)
-unfolding sendsBlock sentOne one apply counted
+unfolding sendsBlock sentOne sentOut one apply counted
 frames-sends bs w =
     fields-then frames _ _ w
     ∙ fields-then frames _ _ _

@@ -1,23 +1,27 @@
--- The fields that the history reads: credit, the two counters of frames, gone, and RS seen set.
+-- The fields that the history reads: credit, the two counters of frames, the stream counter and the sending ring, gone, and RS seen set.
 use Prim.Native.Nat.{ℕ, _+_}
 use mathlib.Core.Path.{_≡_, refl}
 use mathlib.Core.Bool.{Bool, true, false}
 use Rattle.record.specs.Record.{wrapped, counted, Counter, microframes, «in_transfers», «out_transfers», «in_frames», «out_frames», «bad_blocks», «midi_dtds», «midi_asleep», «out_underruns», «midi_packets_out», «vendor_in_bytes», restarts, enumerations}
 use Rattle.record.specs.World.{World}
-use Rattle.record.specs.Change.{Change, bus, ran, lost, count, uf, phase, started, gone, suspended, running, credit, budget, counter, block, timers, control, queued, popped, pushed, cleared, reply, device, config, forgot, midi, serial, received, frame, taken, apply}
-use Rattle.model.specs.Earned.{Counts, countsOf}
+use Rattle.record.specs.Change.{Change, bus, ran, lost, count, uf, phase, started, gone, suspended, running, credit, budget, counter, block, timers, control, queued, popped, pushed, cleared, reply, device, config, forgot, midi, serial, received, frame, taken, takenFrom, apply}
+use Rattle.model.specs.Earned.{Counts, countsOf, Out, outOf}
 use Rattle.model.proofs.Fields.{Fields}
 
 pub record Frames : Type 0 where
   pub counts : Counts
   pub gone : Bool
   pub running : Bool
+  pub out : Out
 
 abbrev pub framesOf : World → Frames
-framesOf w = record { counts = countsOf w; gone = w .state .port .gone; running = w .state .port .running }
+framesOf w = record { counts = countsOf w; gone = w .state .port .gone; running = w .state .port .running; out = outOf w }
 
 abbrev pub withCounts : Frames → Counts → Frames
-withCounts k m = record { counts = m; gone = k .gone; running = k .running }
+withCounts k m = record { counts = m; gone = k .gone; running = k .running; out = k .out }
+
+abbrev pub withOut : Frames → Out → Frames
+withOut k o = record { counts = k .counts; gone = k .gone; running = k .running; out = o }
 
 abbrev pub onCounts : Counter → ℕ → Counts → Counts
 onCounts microframes n m = m
@@ -42,12 +46,12 @@ onFrames (count c n) k = withCounts k (onCounts c n (k .counts))
 onFrames (uf n) k = k
 onFrames (phase p) k = k
 onFrames (started n) k = k
-onFrames (gone b) k = record { counts = k .counts; gone = b; running = k .running }
+onFrames (gone b) k = record { counts = k .counts; gone = b; running = k .running; out = k .out }
 onFrames (suspended b) k = k
-onFrames (running b) k = record { counts = k .counts; gone = k .gone; running = b }
+onFrames (running b) k = record { counts = k .counts; gone = k .gone; running = b; out = k .out }
 onFrames (credit n) k = withCounts k (record { credit = n; received = k .counts .received; sent = k .counts .sent })
 onFrames (budget n) k = k
-onFrames (counter n) k = k
+onFrames (counter n) k = withOut k (record { counter = n; sending = k .out .sending; capacity = k .out .capacity })
 onFrames (block n m) k = k
 onFrames (timers ts) k = k
 onFrames (control c) k = k
@@ -63,7 +67,7 @@ onFrames (midi n) k = k
 onFrames (serial n) k = k
 onFrames (received bs) k = k
 onFrames (frame f) k = k
-onFrames (taken n) k = k
+onFrames (taken n) k = withOut k (record { counter = k .out .counter; sending = takenFrom (k .out .capacity) n (k .out .sending); capacity = k .out .capacity })
 
 frames-count : (c : Counter) (n : ℕ) (w : World) → framesOf (apply (count c n) w) ≡ onFrames (count c n) (framesOf w)
 unfolding apply counted

@@ -1,12 +1,14 @@
 -- What a microframe does to the credit and to the two counters of frames, by the tests that say which steps it reaches.
-use Prim.Native.Nat.{ℕ, zero, suc, _+_, _-_}
+use Prim.Native.Nat.{ℕ, zero, suc, _+_, _-_, _/_, _%_, _^_, min}
 use mathlib.Core.Bool.{Bool, true, false, not, _&&_}
 use mathlib.Core.List.{List, [], _∷_}
 use lib.Dec.{leb}
+use lib.ListN.{length}
 use Rattle.bits.specs.Pick.{pick}
 use Rattle.record.specs.Record.{wrapped}
+use Rattle.record.specs.declared.Ring.{Ring}
 use Rattle.record.specs.World.{World}
-use Rattle.record.specs.Change.{left}
+use Rattle.record.specs.Change.{left, WORDS, takenFrom}
 use Rattle.model.specs.Audio.{BLOCK-FRAMES, good, blocksOf, hears}
 use Rattle.model.specs.Reach.{streamBy, outputBy, inputBy, backBy, leftBy, paced, inputReady, outputReady, bytesAt}
 
@@ -19,6 +21,24 @@ pub record Counts : Type 0 where
 abbrev pub countsOf : World → Counts
 countsOf w =
     record { credit = w .state .audio .credit; received = w .state .stats .«in_frames»; sent = w .state .stats .«out_frames» }
+
+-- the stream counter, and the place of the sending ring, which has room for so many frames
+pub record Out : Type 0 where
+  pub counter : ℕ
+  pub sending : Ring
+  pub capacity : ℕ
+
+abbrev pub outOf : World → Out
+outOf w = record { counter = w .state .audio .counter; sending = w .state .audio .sending; capacity = length (w .sending) / WORDS }
+
+-- a block sent: the counter goes up by seven, modulo 2^16, and seven frames leave the ring, or all that it has
+unfoldable pub sentOut : Out → Out
+sentOut o =
+    record {
+      counter = (o .counter + BLOCK-FRAMES) % 2 ^ 16;
+      sending = takenFrom (o .capacity) (min BLOCK-FRAMES (o .sending .len)) (o .sending);
+      capacity = o .capacity;
+    }
 
 -- one good block, and n of them
 abbrev pub oneEarned : Counts → Counts
