@@ -1,15 +1,14 @@
 -- The audio stream's bounds: an input budget of at most 32,766 past its test, and a block of 33 to 2,047 bytes with its channels (document 01, number 5).
-use Prim.Native.Nat.{ℕ, _+_, _-_, _*_, _/_, _%_, _^_, _≤_, _<_}
+use Prim.Native.Nat.{ℕ, _+_, _-_, _/_, _≤_, _<_}
 use mathlib.Core.Path.{_≡_, refl, ap, sym, subst, _∙_}
-use mathlib.Core.Bool.{Bool, true, false, _&&_}
+use mathlib.Core.Bool.{Bool, true, false}
 use mathlib.Core.List.{List}
 use native.Mathlib.Omega.{arith}
 use lib.Dec.{leb, ltb, eqb}
-use borrow.Author.Tests.{leb-true, le-leb, ltb-true, eqb-true, eq-eqb}
+use borrow.Author.Tests.{le-leb, ltb-true, eq-eqb}
 use Rattle.bits.specs.Pick.{pick}
 use Rattle.bus.specs.Steps.{exec-choose}
 use Rattle.bus.proofs.Sizes.{and-true}
-use Rattle.usbdev.specs.Transfer.{totalOf}
 use Rattle.usbdev.proofs.Tokens.{total-lt}
 use Rattle.config.specs.Config.{parsed}
 use Rattle.config.proofs.Sizes.{sizes-small}
@@ -18,7 +17,6 @@ use Rattle.record.specs.declared.Audio.{Audio}
 use Rattle.record.specs.Record.{wrapped, withBudget, withBlock}
 use Rattle.record.specs.World.{World}
 use Rattle.record.specs.Change.{budget, block, apply, left, one, nothing}
-use Rattle.model.specs.Streams.{nextTotal}
 use Rattle.model.specs.Audio.{audioIn, BLOCK, named, addsBudget, overBudget, clearsBudget}
 use Rattle.model.specs.Microframe.{microframe}
 use Rattle.bounds.specs.Bounds.{audioOk}

@@ -1,11 +1,11 @@
 -- A run of at most one descriptor reads at most 32,767 bytes, on every endpoint.
-use Prim.Native.Nat.{ℕ, zero, suc, _+_, _/_, _^_, _≤_}
-use mathlib.Core.Path.{_≡_, refl, ap}
+use Prim.Native.Nat.{ℕ, _≤_}
+use mathlib.Core.Path.{_≡_, refl}
 use mathlib.Core.Bool.{Bool, true, false, _&&_}
-use mathlib.Core.List.{List, []}
+use mathlib.Core.List.{List}
 use native.Mathlib.Omega.{arith}
 use lib.ListN.{length}
-use Rattle.bits.specs.Pick.{pick, pick-both}
+use Rattle.bits.specs.Pick.{pick-both}
 use Rattle.bus.specs.Memory.{Memory}
 use Rattle.bus.specs.Stores.{Bus}
 use Rattle.usbdev.specs.Transfer.{totalOf}

@@ -1,7 +1,7 @@
 -- The two microframe counts: a microframe makes both one more, and no phase begins after them (document 01, number 5).
-use Prim.Native.Nat.{ℕ, _+_, _%_, _^_, _≤_, _<_}
-use mathlib.Core.Path.{_≡_, refl, ap, sym, _∙_}
-use mathlib.Core.Bool.{true, false, _&&_}
+use Prim.Native.Nat.{ℕ, _+_, _≤_, _<_}
+use mathlib.Core.Path.{_≡_, refl, sym, _∙_}
+use mathlib.Core.Bool.{true}
 use native.Mathlib.Omega.{arith}
 use lib.Dec.{leb, eqb}
 use borrow.Author.Tests.{leb-true, le-leb, eqb-true, eq-eqb}
@@ -11,12 +11,12 @@ use Rattle.record.specs.declared.Stats.{Stats}
 use Rattle.record.specs.declared.State.{State}
 use Rattle.record.specs.Record.{wrapped, counted, Counter, microframes, «in_transfers», «out_transfers», «in_frames», «out_frames», «bad_blocks», «midi_dtds», «midi_asleep», «out_underruns», «midi_packets_out», «vendor_in_bytes», restarts, enumerations}
 use Rattle.record.specs.World.{World}
-use Rattle.record.specs.Change.{count, started, timers, popped, apply, left, one, here}
+use Rattle.record.specs.Change.{count, started, timers, popped, apply, left, one}
 use Rattle.model.specs.Phases.{now, counts, ticks}
 use Rattle.model.specs.Microframe.{microframe}
 use Rattle.bounds.specs.Bounds.{MOST, countsOk}
 use Rattle.kept.proofs.Holding.{Holds, holds-then, holds-one}
-use Rattle.kept.proofs.Every.{isOther, Early, Each, on-page, on-here, adds-any, clears-any, Opening, every-microframe}
+use Rattle.kept.proofs.Every.{isOther, Each, on-page, on-here, adds-any, clears-any, every-microframe}
 
 -- both counts are n, and the phase began no later
 pub record Counted (n : ℕ) (made number start : ℕ) : Type 0 where

@@ -1,17 +1,16 @@
 -- What every change of a microframe keeps, the microframe keeps: one walk over its steps serves every property.
-use Prim.Native.Nat.{ℕ, zero, suc, _+_, _-_, _*_, _/_, _%_, _≤_, min}
-use mathlib.Core.Path.{_≡_, refl, ap, sym, subst, _∙_}
-use mathlib.Core.Bool.{Bool, true, false, not}
-use mathlib.Core.List.{List, [], _∷_, _++_, map}
+use Prim.Native.Nat.{ℕ, zero, suc, _-_, _*_, _/_, _%_, _≤_, min}
+use mathlib.Core.Path.{_≡_, refl, sym, subst}
+use mathlib.Core.Bool.{Bool, true, false}
+use mathlib.Core.List.{List, [], _∷_, map}
 use native.Mathlib.Omega.{arith}
 use lib.Dec.{ltb}
-use lib.ListN.{length}
 use Rattle.bits.specs.Pick.{pick}
 use Rattle.bus.specs.Steps.{replay, replay-append, exec-then, exec-choose}
 use Rattle.bus.specs.Stores.{Store, BusStep, droppedBy}
 use Rattle.usbdev.specs.Registers.{PageStep, lifted}
 use Rattle.dtd.specs.Dtd.{Endpoint, Run, runDtds}
-use Rattle.config.specs.Config.{Choice, parsed}
+use Rattle.config.specs.Config.{parsed}
 use Rattle.gptimers.specs.declared.Timers.{Timers}
 use Rattle.record.specs.declared.Phase.{Phase}
 use Rattle.record.specs.declared.Phase.the-variants.{Idle, Vbus, Reset, Enumerate, Stream}
@@ -22,7 +21,7 @@ use Rattle.record.specs.World.{World, busOf}
 use Rattle.record.specs.Change.{Change, bus, ran, lost, count, uf, timers, phase, started, gone, suspended, running, credit, budget, counter, block, control, queued, popped, pushed, cleared, reply, device, config, forgot, midi, serial, received, frame, taken, apply, Step, left, _then_, nothing, if, when, one, here, onBus, onPage, ranStores, runs}
 use Rattle.model.specs.Phases.{now, counts, ticks, dropsRequest, forgets, returns, cable, sleeps, suspends, enters, departs, leaves, idles, powers, resets, startsFrame}
 use Rattle.model.specs.Control.{toStatus, posted, posts, configured, keepsReply, dataStage, asksWhole, chooses, configures, finishes, statusEnds, statusStage, stalled, unstalls, stages, controls}
-use Rattle.model.specs.Streams.{naks, reads, readsMidi, fitting, drainsSerial, serves, drainsMidi, writesMidi, readsVendor}
+use Rattle.model.specs.Streams.{naks, reads, readsMidi, drainsSerial, serves, drainsMidi, writesMidi, readsVendor}
 use Rattle.model.specs.Audio.{overBudget, addsBudget, clearsBudget, keepsFrames, keepsGood, keepsBlock, keepsBlocks, keepsRun, inputs, hears, sendsBlock, unprimes, outputs, streams}
 use Rattle.model.specs.Microframe.{rsSet, goneAt, asleepAt, others, transfers, enumerates, talks, atPhase, byPhase, opens, frameOf, microframe}
 use Rattle.kept.proofs.Holding.{Holds, holds-then, holds-seq, holds-if, holds-nothing, holds-one, holds-here, holds-pick}
@@ -96,26 +95,48 @@ module _ (P : World → Type 0) where
   then-holds : (f g : Step) (w : World) → P (left f w) → Holds P g → P (left (f then g) w)
   then-holds f g w h p = holds-seq P f g w (p (left f w) h)
 
-  on-if : (t : World → Bool) (f g : Step) → Holds P f → Holds P g → Holds P (if t f g)
+  pub on-if : (t : World → Bool) (f g : Step) → Holds P f → Holds P g → Holds P (if t f g)
   on-if t f g p q = holds-if P t f g (λ w e h. p w h) (λ w e h. q w h)
 
   pub on-here : (f : World → Step) → ((v : World) → Holds P (f v)) → Holds P (here f)
   on-here f p = holds-here P f (λ v h. p v v h)
 
+-- ---- stores and runs
+
+module _ (P : World → Type 0) (stored : (s : Store) (w : World) → P w → P (apply (bus s) w)) where
+  after-stores : (ss : List Store) (w : World) → P w → P (replay apply (map bus ss) w)
+  after-stores [] w h = h
+  after-stores (s ∷ ss) w h = after-stores ss (apply (bus s) w) (stored s w h)
+
+  pub holds-bus : (f : BusStep) → Holds P (onBus f)
+  unfolding onBus
+  holds-bus f w h = after-stores (f (busOf w)) w h
+
+  pub holds-page : (f : PageStep) → Holds P (onPage f)
+  unfolding onPage
+  holds-page f w h = after-stores (lifted f (busOf w)) w h
+
+  module _ (marked : (e : Endpoint) (k n : ℕ) (w : World) → P w → P (apply (ran e k n) w)) (dropped : (n : ℕ) (w : World) → P w → P (apply (lost n) w)) where
+    pub after-run : (e : Endpoint) (r : Run) (w : World) → P w → P (replay apply (ranStores e r) w)
+    unfolding ranStores
+    after-run e r w h =
+        subst P (sym (replay-append apply (map bus (r .stores)) (ran e (r .retired) (r .moved) ∷ lost (droppedBy (r .stores)) ∷ []) w))
+        (dropped (droppedBy (r .stores)) _ (marked e (r .retired) (r .moved) _ (after-stores (r .stores) w h)))
+
+    pub holds-run : (e : Endpoint) (bs : List ℕ) (k : Run → Step) → ((r : Run) → Holds P (k r)) → Holds P (runs e bs k)
+    unfolding runs
+    holds-run e bs k p w h =
+        subst P (sym (exec-then apply (λ v. ranStores e (runDtds e bs (busOf w))) (k (runDtds e bs (busOf w))) w))
+        (p (runDtds e bs (busOf w)) _ (after-run e (runDtds e bs (busOf w)) w h))
+
 -- ---- on the way to control
 
 module _ (P : World → Type 0) (E : Early P) where
-  after-stores : (ss : List Store) (w : World) → P w → P (replay apply (map bus ss) w)
-  after-stores [] w h = h
-  after-stores (s ∷ ss) w h = after-stores ss (apply (bus s) w) (E .stores s w h)
-
   on-bus : (f : BusStep) → Holds P (onBus f)
-  unfolding onBus
-  on-bus f w h = after-stores (f (busOf w)) w h
+  on-bus f = holds-bus P (E .stores) f
 
   pub on-page : (f : PageStep) → Holds P (onPage f)
-  unfolding onPage
-  on-page f w h = after-stores (lifted f (busOf w)) w h
+  on-page f = holds-page P (E .stores) f
 
   ruleset form = (holds-then, on-if, holds-nothing, holds-one, on-here, holds-pick, on-bus, on-page)
 
@@ -174,17 +195,8 @@ module _ (P : World → Type 0) (E : Early P) where
 -- ---- from control on
 
 module _ (P : World → Type 0) (L : Each P) where
-  after-run : (e : Endpoint) (r : Run) (w : World) → P w → P (replay apply (ranStores e r) w)
-  unfolding ranStores
-  after-run e r w h =
-      subst P (sym (replay-append apply (map bus (r .stores)) (ran e (r .retired) (r .moved) ∷ lost (droppedBy (r .stores)) ∷ []) w))
-      (L .loses (droppedBy (r .stores)) _ (L .marks e (r .retired) (r .moved) _ (after-stores P (L .early) (r .stores) w h)))
-
   on-runs : (e : Endpoint) (bs : List ℕ) (k : Run → Step) → ((r : Run) → Holds P (k r)) → Holds P (runs e bs k)
-  unfolding runs
-  on-runs e bs k p w h =
-      subst P (sym (exec-then apply (λ v. ranStores e (runDtds e bs (busOf w))) (k (runDtds e bs (busOf w))) w))
-      (p (runDtds e bs (busOf w)) _ (after-run e (runDtds e bs (busOf w)) w h))
+  on-runs e bs k p = holds-run P (L .early .stores) (L .marks) (L .loses) e bs k p
 
   bus-step : (f : BusStep) → Holds P (onBus f)
   bus-step f = on-bus P (L .early) f

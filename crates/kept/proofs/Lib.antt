@@ -8,6 +8,8 @@ pub mod Shape
 pub mod Rings
 pub mod Audio
 pub mod Counted
+pub mod Still
+pub mod Counters
 pub mod Tests
 pub mod Asked
 pub mod Unasked

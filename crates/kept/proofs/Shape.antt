@@ -1,11 +1,11 @@
 -- What no change can change: settings, packer, and the lengths of memory and of every area; and the lengths of the record's queues,
 -- whose arrays hold them. One induction over lists serves every step.
-use Prim.Native.Nat.{ℕ, _+_, _-_, _*_, _≤_, min}
+use Prim.Native.Nat.{ℕ, _+_, _-_, _*_, _≤_}
 use mathlib.Core.Path.{_≡_, refl, ap, _∙_}
 use mathlib.Core.List.{List, [], _∷_, _++_}
 use native.Mathlib.Omega.{arith}
 use lib.ListN.{length, take, drop, length-set, length-take, length-drop, length-append}
-use lib.Seq.{sets, length-sets}
+use lib.Seq.{length-sets}
 use Rattle.bus.specs.declared.Place.{Place}
 use Rattle.bus.specs.declared.Place.the-variants.{Dynamic, Static, Page, Nowhere}
 use Rattle.bus.specs.Memory.{Memory, write, at, poke8, poke32}

@@ -1,12 +1,12 @@
 -- The timers: a count that stands loses at most 125 in a microframe, and is never above 2^24 (document 01, number 5).
-use Prim.Native.Nat.{ℕ, _+_, _-_, _*_, _/_, _%_, _^_, _≤_, _<_, min}
-use mathlib.Core.Path.{_≡_, refl, ap, sym, subst, _∙_}
+use Prim.Native.Nat.{ℕ, _+_, _-_, _^_, _≤_, _<_}
+use mathlib.Core.Path.{_≡_, refl}
 use mathlib.Core.Bool.{Bool, true, false, not, _&&_, _||_}
 use mathlib.Core.List.{List}
 use native.Mathlib.Omega.{arith}
-use lib.Bits.{bitAnd, and-le-r}
+use lib.Bits.{and-le-r}
 use lib.Dec.{leb, ltb}
-use borrow.Author.Tests.{leb-true, le-leb, ltb-true, ltb-false}
+use borrow.Author.Tests.{leb-true, le-leb, ltb-true}
 use Rattle.bits.specs.Pick.{pick, pick-both}
 use Rattle.bits.specs.Word.{any}
 use Rattle.bus.specs.Steps.{andThen}
@@ -15,15 +15,14 @@ use Rattle.bus.proofs.Sizes.{and-true}
 use Rattle.usbdev.specs.Registers.{Registers, done, raising}
 use Rattle.gptimers.specs.declared.Timer.{Timer}
 use Rattle.gptimers.specs.declared.Timers.{Timers}
-use Rattle.gptimers.specs.Timer.{ZERO, STEP, none, counting, loadRegister, RUN, RESET, REPEAT, loadOf, afterReset, startOf, next, expired, countedTimer, ticking, ticked, tickedBoth, controlOf, inRange, LOWEST, HIGHEST}
+use Rattle.gptimers.specs.Timer.{ZERO, STEP, none, counting, loadRegister, RUN, RESET, REPEAT, loadOf, afterReset, startOf, next, expired, countedTimer, ticked, tickedBoth, controlOf, inRange, LOWEST, HIGHEST}
 use Rattle.record.specs.World.{World}
-use Rattle.record.specs.Record.{counted}
-use Rattle.record.specs.Change.{apply, timers, popped, left, _then_, one, here, onPage}
+use Rattle.record.specs.Change.{apply, timers, popped, left, one, here}
 use Rattle.model.specs.Phases.{registersOf, counts, ticks}
 use Rattle.model.specs.Microframe.{microframe}
 use Rattle.bounds.specs.Bounds.{MOST, times, timerOk, timersOk}
 use Rattle.kept.proofs.Holding.{holds-seq}
-use Rattle.kept.proofs.Every.{Each, on-page, adds-any, clears-any, Opening, every-microframe}
+use Rattle.kept.proofs.Every.{Each, on-page, adds-any, clears-any, every-microframe}
 
 -- a timer that stands, stands within these
 abbrev Within : ℕ → Timer → Type 0
