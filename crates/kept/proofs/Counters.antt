@@ -473,3 +473,32 @@ counters-kept t w e few =
   where
     one-more : wrapped (w .state .stats .microframes + 1) ≡ w .state .stats .microframes + 1
     one-more = omega arith
+
+-- ---- none wraps: each is no less than before, and at most 32,767 more
+
+pub record Risen (r r′ : Stats) : Type 0 where
+  pub «in_transfers» : (r .«in_transfers» ≤ r′ .«in_transfers») × (r′ .«in_transfers» ≤ r .«in_transfers» + 32767)
+  pub «out_transfers» : (r .«out_transfers» ≤ r′ .«out_transfers») × (r′ .«out_transfers» ≤ r .«out_transfers» + 32767)
+  pub «in_frames» : (r .«in_frames» ≤ r′ .«in_frames») × (r′ .«in_frames» ≤ r .«in_frames» + 32767)
+  pub «out_frames» : (r .«out_frames» ≤ r′ .«out_frames») × (r′ .«out_frames» ≤ r .«out_frames» + 32767)
+  pub «bad_blocks» : (r .«bad_blocks» ≤ r′ .«bad_blocks») × (r′ .«bad_blocks» ≤ r .«bad_blocks» + 32767)
+  pub «midi_dtds» : (r .«midi_dtds» ≤ r′ .«midi_dtds») × (r′ .«midi_dtds» ≤ r .«midi_dtds» + 32767)
+  pub «midi_asleep» : (r .«midi_asleep» ≤ r′ .«midi_asleep») × (r′ .«midi_asleep» ≤ r .«midi_asleep» + 32767)
+  pub «out_underruns» : (r .«out_underruns» ≤ r′ .«out_underruns») × (r′ .«out_underruns» ≤ r .«out_underruns» + 32767)
+  pub «midi_packets_out» : (r .«midi_packets_out» ≤ r′ .«midi_packets_out») × (r′ .«midi_packets_out» ≤ r .«midi_packets_out» + 32767)
+  pub «vendor_in_bytes» : (r .«vendor_in_bytes» ≤ r′ .«vendor_in_bytes») × (r′ .«vendor_in_bytes» ≤ r .«vendor_in_bytes» + 32767)
+  pub restarts : (r .restarts ≤ r′ .restarts) × (r′ .restarts ≤ r .restarts + 32767)
+  pub enumerations : (r .enumerations ≤ r′ .enumerations) × (r′ .enumerations ≤ r .enumerations + 32767)
+
+risen-one : (k n x x′ : ℕ) → k ≤ 32767 → leb x (times 32767 n) ≡ true → Rise k x x′ → (x ≤ x′) × (x′ ≤ x + 32767)
+risen-one k n x x′ l e rise =
+    let h = room n x e in
+    let a = rise .high in
+    (rise .low (omega arith), omega arith)
+
+pub counters-risen : (t : ℕ) (w : World) → countersOk (w .state .stats) ≡ true → Risen (w .state .stats) (left (microframe t) w .state .stats)
+unfolding counted
+counters-risen t w e =
+    let b = below-of (w .state .stats) e in
+    let up = counters-raised t w in
+    record { «in_transfers» = risen-one 784 _ _ _ (omega arith) (b .«in_transfers») (up .«in_transfers»); «out_transfers» = risen-one 784 _ _ _ (omega arith) (b .«out_transfers») (up .«out_transfers»); «in_frames» = risen-one 784 _ _ _ (omega arith) (b .«in_frames») (up .«in_frames»); «out_frames» = risen-one 784 _ _ _ (omega arith) (b .«out_frames») (up .«out_frames»); «bad_blocks» = risen-one 784 _ _ _ (omega arith) (b .«bad_blocks») (up .«bad_blocks»); «midi_dtds» = risen-one 784 _ _ _ (omega arith) (b .«midi_dtds») (up .«midi_dtds»); «midi_asleep» = risen-one 784 _ _ _ (omega arith) (b .«midi_asleep») (up .«midi_asleep»); «out_underruns» = risen-one 784 _ _ _ (omega arith) (b .«out_underruns») (up .«out_underruns»); «midi_packets_out» = risen-one 784 _ _ _ (omega arith) (b .«midi_packets_out») (up .«midi_packets_out»); «vendor_in_bytes» = risen-one 32767 _ _ _ (omega arith) (b .«vendor_in_bytes») (up .«vendor_in_bytes»); restarts = risen-one 784 _ _ _ (omega arith) (b .restarts) (up .restarts); enumerations = risen-one 784 _ _ _ (omega arith) (b .enumerations) (up .enumerations) }

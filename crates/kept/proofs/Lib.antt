@@ -17,3 +17,4 @@ pub mod Fits
 pub mod Pairs
 pub mod Queue
 pub mod Setups
+pub mod Whole

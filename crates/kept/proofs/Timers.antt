@@ -25,7 +25,7 @@ use Rattle.kept.proofs.Holding.{holds-seq}
 use Rattle.kept.proofs.Every.{Each, on-page, adds-any, clears-any, every-microframe}
 
 -- a timer that stands, stands within these
-abbrev Within : ℕ → Timer → Type 0
+abbrev pub Within : ℕ → Timer → Type 0
 Within low t = t .set ≡ true → (low ≤ t .count) × (t .count ≤ HIGHEST)
 
 by-set : (s : Bool) (x : Bool) → not s || x ≡ true → s ≡ true → x ≡ true

@@ -1,0 +1,207 @@
+-- A microframe keeps every bound of number 5, for the record and for the areas that it was lent.
+use Prim.Native.Nat.{ℕ, zero, suc, _+_, _*_, _/_, _%_, _^_, _≤_, _<_, min}
+use mathlib.Core.Path.{_≡_, refl, ap, sym, _∙_}
+use mathlib.Core.Bool.{Bool, true, false, not, _&&_, _||_}
+use native.Mathlib.Omega.{arith}
+use borrow.Author.Tests.{leb-true, le-leb, eqb-true, eq-eqb}
+use lib.Dec.{eqb, leb}
+use lib.ListN.{length}
+use Rattle.bits.specs.Pick.{pick}
+use Rattle.record.specs.World.{World}
+use Rattle.record.specs.Change.{left, FRAMES, WORDS}
+use Rattle.model.specs.Control.{wLength}
+use Rattle.model.specs.Microframe.{rsSet, goneAt, asleepAt, microframe}
+use Rattle.model.specs.Earned.{Counts, countsOf, sentCounts}
+use Rattle.model.proofs.Placed.{and-first, and-second}
+use Rattle.model.proofs.Counts.{counts-microframe}
+use Rattle.bounds.specs.Bounds.{MOST, times, setupsOk, enumeratingOk, requestOk, made, asksConfiguration, queuesOk, packerOk, countsOk, countersOk, creditOk, timersOk, audioOk, askedOk, heldOk, countedOk, inBounds, ringOk, areasOk}
+use Rattle.kept.proofs.Credit.{SMALL, sent-le, sent-seven}
+use Rattle.kept.proofs.Timers.{timers-kept}
+use Rattle.kept.proofs.Queues.{Queues, queues-kept}
+use Rattle.kept.proofs.Shape.{Shape, shape-kept}
+use Rattle.kept.proofs.Rings.{received-kept, sending-kept}
+use Rattle.kept.proofs.Audio.{audio-kept}
+use Rattle.kept.proofs.Counted.{counted-of, counted-kept, counts-kept}
+use Rattle.kept.proofs.Counters.{counters-kept}
+use Rattle.kept.proofs.Setups.{Requests, Entry, requests-kept}
+
+-- every bound, of a record in its World
+pub record Bounded (w : World) : Type 0 where
+  pub record-bounds : inBounds (w .state) (w .packer) (w .setups) ≡ true
+  pub areas : areasOk (w .state) (length (w .reply)) (length (w .config)) ≡ true
+  pub received : ringOk (w .state .audio .received) FRAMES ≡ true
+  pub sending : ringOk (w .state .audio .sending) (length (w .sending) / WORDS) ≡ true
+  pub second : w .state .control .second < 2 ^ 32
+
+-- the named parts
+record Parts (w : World) : Type 0 where
+  requests : Requests w
+  queues : Queues (w .state .lengths)
+  packer : packerOk (w .packer) ≡ true
+  counts : countsOk (w .state) ≡ true
+  counters : countersOk (w .state .stats) ≡ true
+  credit : creditOk (w .state .audio .credit) (w .state .stats .microframes) ≡ true
+  timers : timersOk (w .state .timers) (w .state .stats .microframes) ≡ true
+  audio : audioOk (w .state .audio) ≡ true
+  received : ringOk (w .state .audio .received) FRAMES ≡ true
+  sending : ringOk (w .state .audio .sending) (length (w .sending) / WORDS) ≡ true
+
+both : (a b : Bool) → a ≡ true → b ≡ true → (a && b) ≡ true
+both true b p q = q
+both false b p q = p
+
+apart : (w : World) → Bounded w → Parts w
+unfolding inBounds queuesOk areasOk
+apart w b =
+    let s = w .state in
+    let asked = and-first (askedOk s (w .setups)) _ (b .record-bounds) in
+    let r₁ = and-second (askedOk s (w .setups)) _ (b .record-bounds) in
+    let held = and-first (heldOk s (w .packer)) _ r₁ in
+    let r₂ = and-second (heldOk s (w .packer)) _ r₁ in
+    let counted = and-first (countedOk s) _ r₂ in
+    let a₁ = and-second (setupsOk (s .lengths .setups) (w .setups)) _ asked in
+    let queues = and-first (queuesOk (s .lengths)) _ held in
+    let q₁ = and-second (leb (s .lengths .midi) 4096) _ queues in
+    let q₂ = and-second (eqb (s .lengths .midi % 4) 0) _ q₁ in
+    let c₁ = and-second (countsOk s) _ counted in
+    let c₂ = and-second (countersOk (s .stats)) _ c₁ in
+    record {
+      requests = record {
+        setups = and-first (setupsOk (s .lengths .setups) (w .setups)) _ asked;
+        enumeration = and-first (enumeratingOk s) _ a₁;
+        request = and-second (enumeratingOk s) _ a₁;
+        device = and-second (leb (s .lengths .serial) 4096) _ q₂;
+        config = and-first (leb (s .lengths .config) (length (w .config))) _ (b .areas);
+        second = b .second;
+      };
+      queues = record {
+        midi = and-first (leb (s .lengths .midi) 4096) _ queues;
+        packets = and-first (eqb (s .lengths .midi % 4) 0) _ q₁;
+        serial = and-first (leb (s .lengths .serial) 4096) _ q₂;
+      };
+      packer = and-second (queuesOk (s .lengths)) _ held;
+      counts = and-first (countsOk s) _ counted;
+      counters = and-first (countersOk (s .stats)) _ c₁;
+      credit = and-first (creditOk (s .audio .credit) (s .stats .microframes)) _ c₂;
+      timers = and-second (creditOk (s .audio .credit) (s .stats .microframes)) _ c₂;
+      audio = and-second (countedOk s) _ r₂;
+      received = b .received;
+      sending = b .sending;
+    }
+
+-- what number 5 says of a running request
+abbrev running : World → Bool
+running w =
+    made (w .state .control .first) (w .state .control .second)
+    && ((not (asksConfiguration (w .state .control .first)) || eqb (w .state .lengths .setups) 0)
+    && (leb (w .state .control .t0) (w .state .port .uf) && leb (w .state .control .got) (wLength (w .state .control))))
+
+-- a running request's reply lies in its area, which has at least 65,535 bytes
+reply-inside : (w : World) → Requests w → 65535 ≤ length (w .reply) → not (w .state .control .on) || leb (w .state .control .got) (length (w .reply)) ≡ true
+unfolding requestOk
+reply-inside w r h = by-on (w .state .control .on) refl (r .request)
+  where
+    by-on : (b : Bool) → w .state .control .on ≡ b → (not b || running w) ≡ true → not b || leb (w .state .control .got) (length (w .reply)) ≡ true
+    by-on false e q = refl
+    by-on true e q =
+        let q₁ = and-second (made (w .state .control .first) (w .state .control .second)) _ q in
+        let q₂ = and-second (not (asksConfiguration (w .state .control .first)) || eqb (w .state .lengths .setups) 0) _ q₁ in
+        let q₃ = and-second (leb (w .state .control .t0) (w .state .port .uf)) _ q₂ in
+        let le = leb-true (w .state .control .got) (wLength (w .state .control)) q₃ in
+        le-leb (w .state .control .got) (length (w .reply)) (omega (arith, le, h, r .second))
+
+together : (w : World) → 65535 ≤ length (w .reply) → Parts w → Bounded w
+unfolding inBounds queuesOk areasOk
+together w h p =
+    let r = p .requests in
+    record {
+      record-bounds =
+          both _ _ (both _ _ (r .setups) (both _ _ (r .enumeration) (r .request)))
+          (both _ _ (both _ _ (both _ _ (p .queues .midi) (both _ _ (p .queues .packets) (both _ _ (p .queues .serial) (r .device)))) (p .packer))
+          (both _ _ (both _ _ (p .counts) (both _ _ (p .counters) (both _ _ (p .credit) (p .timers)))) (p .audio)));
+      areas = both _ _ (r .config) (reply-inside w r h);
+      received = p .received;
+      sending = p .sending;
+      second = r .second;
+    }
+
+-- ---- the credit
+
+times-less : (k n : ℕ) → n ≤ MOST → k * min n MOST ≡ k * n
+times-less k n h = ap (λ (x : ℕ). k * x) (omega (arith, h))
+
+module _ (t : ℕ) (w : World) (credit : creditOk (w .state .audio .credit) (w .state .stats .microframes) ≡ true)
+    (few : countsOf w .received ≤ SMALL) (n : ℕ) (is : w .state .stats .microframes ≡ n) (before : n < MOST)
+    (next : left (microframe t) w .state .stats .microframes ≡ n + 1) where
+  abbrev sevens : Bool
+  sevens = eqb (w .state .audio .credit % 7) 0
+
+  old-le : w .state .audio .credit ≤ 623 * n
+  unfolding creditOk
+  old-le =
+      let e = leb-true (w .state .audio .credit) (times 623 (w .state .stats .microframes)) (and-second sevens _ credit) in
+      let m : w .state .stats .microframes ≤ MOST = omega (arith, is, before) in
+      omega (arith, e, times-less 623 (w .state .stats .microframes) m, is)
+
+  old-seven : w .state .audio .credit % 7 ≡ 0
+  unfolding creditOk
+  old-seven = eqb-true (w .state .audio .credit % 7) 0 (and-first sevens _ credit)
+
+  small : countsOf w .credit ≤ SMALL
+  small = omega (arith, old-le, before)
+
+  same : left (microframe t) w .state .audio .credit ≡ sentCounts (rsSet w) (goneAt t w) (asleepAt t w) w .credit
+  same = ap (λ (m : Counts). m .credit) (counts-microframe t w)
+
+  credit-kept : creditOk (left (microframe t) w .state .audio .credit) (left (microframe t) w .state .stats .microframes) ≡ true
+  unfolding creditOk
+  credit-kept =
+      let le = sent-le (rsSet w) (goneAt t w) (asleepAt t w) w small few in
+      let seven = sent-seven (rsSet w) (goneAt t w) (asleepAt t w) w small few old-seven in
+      let m : left (microframe t) w .state .stats .microframes ≤ MOST = omega (arith, next, before) in
+      both _ _ (eq-eqb (left (microframe t) w .state .audio .credit % 7) 0 (ap (λ (x : ℕ). x % 7) same ∙ seven))
+      (le-leb (left (microframe t) w .state .audio .credit) (times 623 (left (microframe t) w .state .stats .microframes))
+      (omega (arith, same, le, old-le, times-less 623 (left (microframe t) w .state .stats .microframes) m, next)))
+
+-- ---- all of it
+
+small-counter : (w : World) (n : ℕ) → w .state .stats .microframes ≡ n → n < MOST → countersOk (w .state .stats) ≡ true → countsOf w .received ≤ SMALL
+unfolding countersOk
+small-counter w n is before e =
+    let r = w .state .stats in
+    let most = times 32767 (r .microframes) in
+    let a₁ = and-second (leb (r .«in_transfers») most) _ (and-first _ _ e) in
+    let a₂ = and-second (leb (r .«out_transfers») most) _ a₁ in
+    let le = leb-true (r .«in_frames») most (and-first _ _ a₂) in
+    omega (arith, le, times-less 32767 (r .microframes) (omega (arith, is, before)), is, before)
+
+of-parts : (t : ℕ) (w : World) → Entry w → Parts w → Parts (left (microframe t) w)
+of-parts t w e p =
+    let v = left (microframe t) w in
+    let n = w .state .port .uf in
+    let old = counted-of (w .state) (p .counts) in
+    let new = counted-kept n (e .uf) t w old in
+    let lens = shape-kept t w in
+    let few : countsOf w .received ≤ SMALL = small-counter w n (old .microframes) (e .uf) (p .counters) in
+    let more : left (microframe t) w .state .stats .microframes ≡ n + 1 = new .microframes in
+    let before : w .state .stats .microframes < MOST = omega (arith, old .microframes, e .uf) in
+    record {
+      requests = requests-kept t w (p .requests) e;
+      queues = queues-kept t w (p .queues);
+      packer = ap (λ (x : Shape). packerOk (x .packer)) lens ∙ p .packer;
+      counts = counts-kept t w (p .counts) (e .uf);
+      counters = counters-kept t w (p .counters) before;
+      credit = credit-kept t w (p .credit) few n (old .microframes) (e .uf) more;
+      timers =
+          ap (timersOk (v .state .timers)) more
+          ∙ timers-kept n (e .uf) t w (ap (timersOk (w .state .timers)) (sym (old .microframes)) ∙ p .timers);
+      audio = audio-kept t w (p .audio);
+      received = received-kept t w (p .received);
+      sending = ap (λ (x : Shape). ringOk (v .state .audio .sending) (x .sending / WORDS)) lens ∙ sending-kept t w (p .sending);
+    }
+
+-- document 01, number 5: the outcome of an accepted microframe meets every bound again
+pub bounds-kept : (t : ℕ) (w : World) → Entry w → Bounded w → Bounded (left (microframe t) w)
+bounds-kept t w e b =
+    let long = ap (λ (x : Shape). x .reply) (shape-kept t w) in
+    together (left (microframe t) w) (omega (arith, long, e .reply-length)) (of-parts t w e (apart w b))
