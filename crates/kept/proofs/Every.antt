@@ -396,7 +396,7 @@ module _ (Q P : World → Type 0) (E : Early Q) (L : Each P) (weakens : (w : Wor
   unfolding posts here
   from-posts w h = from-posted _ _ _ w h
 
-  from-controls : (stack : Bool) (w : World) → Q w → P (left (controls stack) w)
+  pub from-controls : (stack : Bool) (w : World) → Q w → P (left (controls stack) w)
   unfolding controls
   from-controls stack w h =
       at-if P _ (if stalled unstalls (stages stack)) _ w

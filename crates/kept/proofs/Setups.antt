@@ -144,7 +144,7 @@ asks-to w a =
 
 -- ---- what a request that the source makes asks for
 
-made-device : (c : Control) → made (c .first) (c .second) ≡ true → asksFor 1 c ≡ true → wLength c ≤ 64
+pub made-device : (c : Control) → made (c .first) (c .second) ≡ true → asksFor 1 c ≡ true → wLength c ≤ 64
 unfolding made
 made-device c m e =
     let type : c .first / 2 ^ 24 ≡ 1 = eqb-true (c .first / 2 ^ 24) 1 (and-second (eqb (request c) 6) _ (and-second (eqb (requestType c) 0x80) _ e)) in
@@ -161,7 +161,7 @@ made-device c m e =
     (λ u. absurd
     (omega (arith, ltb-true (c .first / 2 ^ 16) 256 (and-first (ltb (c .first / 2 ^ 16) 256) _ (and-second (ltb 0 (c .first / 2 ^ 16)) _ (and-second (eqb (c .first % 2 ^ 16) (le 1 11 0 0)) _ u)))))))))
 
-made-configuration : (c : Control) → made (c .first) (c .second) ≡ true → asksFor 2 c ≡ true → asksConfiguration (c .first) ≡ true
+pub made-configuration : (c : Control) → made (c .first) (c .second) ≡ true → asksFor 2 c ≡ true → asksConfiguration (c .first) ≡ true
 unfolding made
 made-configuration c m e =
     let type : c .first / 2 ^ 24 ≡ 2 = eqb-true (c .first / 2 ^ 24) 2 (and-second (eqb (request c) 6) _ (and-second (eqb (requestType c) 0x80) _ e)) in
