@@ -9,3 +9,6 @@ pub mod Earned
 pub mod Counts
 pub mod Marks
 pub mod Claims
+pub mod Received
+pub mod Ring
+pub mod InputStep

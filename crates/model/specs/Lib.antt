@@ -7,3 +7,4 @@ pub mod Reach
 pub mod Earned
 pub mod Marks
 pub mod Claims
+pub mod Ring

@@ -1,0 +1,4 @@
+pub mod Kept
+pub mod Fit
+pub mod Ringing
+pub mod Steps

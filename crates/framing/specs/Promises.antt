@@ -1,0 +1,70 @@
+-- What the streams of a microframe ask of the host record, and what each of its functions promises.
+use Prim.Native.Nat.{ℕ, _+_, _*_, _/_, _≤_}
+use mathlib.Core.Bool.{Bool}
+use mathlib.Core.List.{List}
+use mathlib.Core.Path.{_≡_}
+use Rattle.bus.specs.Memory.{Memory}
+use Rattle.bus.specs.Sized.{Sized}
+use Rattle.record.specs.declared.Audio.{Audio}
+use Rattle.record.specs.declared.Settings.{Settings}
+use Rattle.record.specs.declared.State.{State}
+use Rattle.record.specs.World.{World}
+use Rattle.record.specs.Change.{Step, _then_, when}
+use Rattle.record.specs.Did.{Leads}
+use Rattle.model.specs.Phases.{within}
+use Rattle.model.specs.Streams.{readsMidi, writesMidi, readsVendor}
+use Rattle.model.specs.Audio.{streams}
+use Rattle.model.specs.Microframe.{others}
+use Rattle.blocks.specs.Promises.{InRing}
+use Rattle.audio.specs.Promises.{InSending}
+
+-- ---- what the streams ask of the host record (document 01, refusal 5)
+
+-- both rings are in order, of which the sending one has so many words, and a block has room for its frames
+pub record Rings (a : Audio) (words : ℕ) : Type 0 where
+  pub received : InRing (a .received)
+  pub sending : InSending (a .sending) (words / 12)
+  pub block : a .block ≤ 2048
+  pub channels : 32 + 28 * a .channels ≤ 2048
+
+-- what the streams ask: queues within their arrays, rings, and a receive area with nothing in it
+pub record Flows (s : State) (words : ℕ) : Type 0 where
+  pub midi : s .lengths .midi ≤ 4096
+  pub serial : s .lengths .serial ≤ 4096
+  pub rings : Rings (s .audio) words
+  pub none : s .answer .received ≡ 0
+
+-- ---- the parts of the streams' step
+
+-- 501-504: MIDI input; 505-508: what the device stack adds; 500-508: the streams of an Overbridge device
+abbrev pub midiSteps : Settings → ℕ → Step
+midiSteps c t = when (λ w. c .«midi_in») (readsMidi (within (c .sleep) t) (c .«midi_every»))
+
+abbrev pub stackSteps : Bool → Step
+stackSteps stack = when (λ w. stack) (writesMidi then readsVendor)
+
+abbrev pub bridgeSteps : Settings → ℕ → Step
+bridgeSteps c t = streams then others c t
+
+-- ---- a World with what a function takes in its place
+
+-- with the parts of the streams: MIDI and serial queue, receive area, both rings
+abbrev pub atFlow : World → State → Memory → List ℕ → List ℕ → List ℕ → List ℕ → List ℕ → World
+atFlow w s m midi serial receive received k = record { settings = w .settings; packer = w .packer; state = s; memory = m; setups = w .setups; midi = midi; serial = serial; device = w .device; reply = w .reply; config = w .config; receive = receive; received = received; sending = k }
+
+-- ---- what a function does
+
+-- on state, memory and MIDI queue
+pub record Stacks (f : Step) (s : State) (m : Memory) (midi : List ℕ) (s′ : State) (m′ : Memory) (midi′ : List ℕ) : Type 0 where
+  pub leads : (w : World) → Leads f (atFlow w s m midi (w .serial) (w .receive) (w .received) (w .sending)) (atFlow w s′ m′ midi′ (w .serial) (w .receive) (w .received) (w .sending))
+  pub sized : Sized m′
+
+-- on state, memory, MIDI queue, receive area and rings
+pub record Bridges (f : Step) (s : State) (m : Memory) (midi receive received k : List ℕ) (s′ : State) (m′ : Memory) (midi′ receive′ received′ : List ℕ) : Type 0 where
+  pub leads : (w : World) → Leads f (atFlow w s m midi (w .serial) receive received k) (atFlow w s′ m′ midi′ (w .serial) receive′ received′ k)
+  pub sized : Sized m′
+
+-- on these and the serial queue
+pub record Transfers (f : Step) (s : State) (m : Memory) (midi serial receive received k : List ℕ) (s′ : State) (m′ : Memory) (midi′ serial′ receive′ received′ : List ℕ) : Type 0 where
+  pub leads : (w : World) → Leads f (atFlow w s m midi serial receive received k) (atFlow w s′ m′ midi′ serial′ receive′ received′ k)
+  pub sized : Sized m′

@@ -1,0 +1,79 @@
+-- The received ring as a list of frames, oldest first, and the frames that a run of the input endpoint brings (document 01, demand 3, `input-step`).
+use Prim.Native.Nat.{ℕ, zero, suc, _+_, _-_, _*_, _%_, _≤_, _<_}
+use mathlib.Core.Path.{_≡_}
+use mathlib.Core.List.{List, [], _∷_, _++_}
+use lib.ListN.{length, take, drop}
+use Rattle.bits.specs.Pick.{pick}
+use Rattle.bus.specs.Stores.{Store}
+use Rattle.usbdev.specs.Transfer.{totalOf}
+use Rattle.transfer.specs.Transfer.{pointers, bytesIn}
+use Rattle.dtd.specs.Dtd.{bitOf, queueHead, nextDtd, tokenOf, descriptor, finishing}
+use Rattle.record.specs.declared.Ring.{Ring}
+use Rattle.record.specs.World.{World, busOf}
+use Rattle.record.specs.Change.{FRAMES, WORDS}
+use Rattle.model.specs.Audio.{audioIn, BLOCK-FRAMES, good, wordsOf, blocksOf}
+
+-- the i-th frame of a ring's words
+unfoldable pub frameIn : List ℕ → ℕ → List ℕ
+frameIn ring i = take WORDS (drop (i * WORDS) ring)
+
+-- the frames at start, start + 1, .. modulo 48,000, so many of them: oldest first
+unfoldable pub contents : List ℕ → ℕ → ℕ → List (List ℕ)
+contents ring start zero = []
+contents ring start (suc len) = frameIn ring start ∷ contents ring ((start + 1) % FRAMES) len
+
+-- what the received ring holds
+abbrev pub ringFrames : World → List (List ℕ)
+ringFrames w = contents (w .received) (w .state .audio .received .start) (w .state .audio .received .len)
+
+-- a ring with room for 48,000 frames, and a place that lies in it
+pub record InOrder (ring : List ℕ) (place : Ring) : Type 0 where
+  pub room : length ring ≡ 576000
+  pub starts : place .start < FRAMES
+  pub holds : place .len ≤ FRAMES
+
+abbrev pub RingInOrder : World → Type 0
+RingInOrder w = InOrder (w .received) (w .state .audio .received)
+
+-- n frames of a block from the i-th on, behind its header of 32 bytes, 48 bytes each
+unfoldable pub framesFrom : ℕ → ℕ → List ℕ → List (List ℕ)
+framesFrom zero i b = []
+framesFrom (suc n) i b = wordsOf (take 48 (drop (32 + 48 * i) b)) ∷ framesFrom n (suc i) b
+
+-- the seven frames of a good block, and none of a bad one
+unfoldable pub framesOfBlock : List ℕ → List (List ℕ)
+framesOfBlock b = pick (good b) (framesFrom BLOCK-FRAMES 0 b) []
+
+-- those of some blocks, in order
+unfoldable pub framesOfBlocks : List (List ℕ) → List (List ℕ)
+framesOfBlocks [] = []
+framesOfBlocks (b ∷ bs) = framesOfBlock b ++ framesOfBlocks bs
+
+-- those of a run's bytes
+abbrev pub framesRead : List ℕ → List (List ℕ)
+framesRead bs = framesOfBlocks (blocksOf bs)
+
+-- the last n of a list, or all of it
+abbrev pub lastOf : ℕ → List (List ℕ) → List (List ℕ)
+lastOf n l = drop (length l - n) l
+
+-- ---- the descriptor that the input step retires
+
+-- the pointer to the endpoint's next descriptor, its token, and how many bytes it moves
+abbrev pub inPointer : World → ℕ
+inPointer x = nextDtd audioIn (x .memory)
+
+abbrev pub inToken : World → ℕ
+inToken x = tokenOf (inPointer x) (x .memory)
+
+abbrev pub inMoved : World → ℕ
+inMoved x = totalOf (inToken x)
+
+-- the bytes at its addresses
+abbrev pub inBytes : World → List ℕ
+inBytes x = bytesIn (x .memory) (pointers (x .memory) (descriptor (inPointer x))) (inMoved x)
+
+-- its retirement, and what follows it
+abbrev pub inStores : World → List Store
+inStores x =
+    finishing (queueHead audioIn (x .memory .page)) (inPointer x) (inToken x) (inMoved x) (bitOf audioIn) (busOf x)
