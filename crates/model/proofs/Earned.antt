@@ -32,7 +32,7 @@ pick-eq false p q = q
 
 -- ---- blocks in
 
-keeps-frames : (n : ℕ) (bs : List ℕ) → Keeps frames (keepsFrames n bs)
+pub keeps-frames : (n : ℕ) (bs : List ℕ) → Keeps frames (keepsFrames n bs)
 unfolding keepsFrames
 keeps-frames zero bs = keeps-nothing frames
 keeps-frames (suc n) bs = keeps-then frames _ _ (keeps-one frames _ (λ w. refl)) (keeps-frames n _)
@@ -45,10 +45,7 @@ counts-up v = refl
 frames-good : (b : List ℕ) (w : World) → framesOf (left (keepsGood b) w) ≡ earns 1 (framesOf w)
 unfolding keepsGood
 frames-good b w =
-    fields-then frames _ _ w ∙ fields-then frames _ _ _ ∙ counts-up _ ∙ ap (earns 1) (keeps-frames BLOCK-FRAMES _ w)
-
-bad-block : (w : World) → framesOf (left (one (λ w. count Rattle.record.specs.Record.«bad_blocks» 1)) w) ≡ framesOf w
-bad-block w = keeps-one frames _ (λ v. refl) w
+    fields-then frames _ _ w ∙ fields-then frames _ _ _ ∙ counts-up _ ∙ ap (earns 1) (keeps-frames _ _ w)
 
 by-good : (t : Bool) (f g : Step) (w : World) → framesOf (left f w) ≡ earns 1 (framesOf w) → framesOf (left g w) ≡ framesOf w
     → framesOf (left (pick t f g) w) ≡ earns (pick t 1 0) (framesOf w)
@@ -56,9 +53,9 @@ unfolding earned
 by-good true f g w p q = p
 by-good false f g w p q = q
 
-frames-block : (b : List ℕ) (w : World) → framesOf (left (keepsBlock b) w) ≡ earns (pick (good b) 1 0) (framesOf w)
+pub frames-block : (b : List ℕ) (w : World) → framesOf (left (keepsBlock b) w) ≡ earns (pick (good b) 1 0) (framesOf w)
 unfolding keepsBlock
-frames-block b w = by-good (good b) _ _ w (frames-good b w) (bad-block w)
+frames-block b w = by-good (good b) _ _ w (frames-good b w) (keeps-one frames _ (λ v. refl) w)
 
 more : (t : Bool) (n : ℕ) (m : Counts) → earned n (earned (pick t 1 0) m) ≡ earned (pick t 1 0 + n) m
 unfolding earned
@@ -159,9 +156,9 @@ frames-sends bs w =
     ∙ fields-then frames _ _ _
     ∙ fields-then frames _ _ _
     ∙ fields-then frames _ _ _
-    ∙ ap framesOf (left-runs frames audioOut bs _ _)
+    ∙ ap framesOf (left-runs frames audioOut _ _ _)
     ∙ counted-out _
-    ∙ ap sentMore (fields-ran frames audioOut bs _)
+    ∙ ap sentMore (fields-ran frames audioOut _ _)
 
 frames-outputs-by : (x : World) → framesOf (left outputs x) ≡ pick (primed audioOut (x .memory .page) && leb BLOCK-FRAMES (x .state .audio .credit)) (pick (nextActive audioOut (x .memory)) (sends (framesOf x)) (framesOf x)) (framesOf x)
 unfolding outputs here

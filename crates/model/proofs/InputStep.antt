@@ -1,30 +1,34 @@
 -- Demand 3 of one microframe, the input step (`input-step`): the descriptor that it retires, and what the received ring holds afterwards.
 use Prim.Native.Nat.{ℕ}
 use mathlib.Core.Path.{_≡_, refl, ap, ap₂, sym, subst, _∙_}
-use mathlib.Core.Bool.{Bool, true, false, not, _&&_}
+use mathlib.Core.Bool.{Bool, true, false, not, _&&_, _||_}
 use mathlib.Core.List.{List, [], _∷_, _++_, map, append-assoc}
 use native.Mathlib.Omega.{arith}
 use Rattle.bits.specs.Pick.{pick}
 use Rattle.bus.specs.Steps.{andThen, exec-then}
 use Rattle.bus.specs.Stores.{Store, droppedBy, when}
-use Rattle.dtd.specs.Dtd.{runDtds, primed, queueHead, dataOut, moves, bytesOf}
-use Rattle.dtd.proofs.Runs.{IsActive, active-stores, active-moved, active-retired, active-bytes}
+use Rattle.dtd.specs.Dtd.{runDtds, primed, interrupts, queueHead, dataOut, moves, bytesOf}
+use Rattle.dtd.proofs.Runs.{IsActive, active-stores, active-moved, active-done, active-retired, active-bytes}
 use Rattle.record.specs.declared.Phase.{Phase}
 use Rattle.record.specs.declared.Phase.the-variants.{Idle, Vbus, Reset, Enumerate, Stream}
 use Rattle.record.specs.declared.Settings.{Settings}
 use Rattle.record.specs.World.{World, busOf}
-use Rattle.record.specs.Change.{Change, bus, ran, lost, apply, FRAMES, Step, left, _then_, nothing, here, runs, ranStores}
+use Rattle.record.specs.Record.{«in_transfers»}
+use Rattle.record.specs.Change.{Change, bus, ran, lost, count, apply, FRAMES, Step, left, _then_, nothing, here, runs, ranStores}
 use Rattle.model.specs.Phases.{suspends, leaves}
-use Rattle.model.specs.Audio.{audioIn, overBudget, addsBudget, clearsBudget, blocks, keepsRun, inputs, hears, streams}
+use Rattle.model.specs.Streams.{nonempty}
+use Rattle.model.specs.Audio.{audioIn, overBudget, addsBudget, clearsBudget, blocks, blocksOf, inputs, hears, streams}
 use Rattle.model.specs.Microframe.{rsSet, goneAt, asleepAt, streaming, opens, frameOf, byPhase, atPhase, talks, transfers, others, enumerates, microframe}
 use Rattle.model.specs.Reach.{streamsIn, toPhase, phaseBy, streamBy, outputBy, inputBy, paced, bytesAt, reachesInput, inputReady, atInput}
-use Rattle.model.specs.Ring.{ringFrames, InOrder, RingInOrder, framesOfBlocks, framesRead, lastOf, inPointer, inToken, inMoved, inBytes, inStores}
-use Rattle.model.proofs.Fields.{fields-then, fields-if, keeps-nothing, ranWorld}
+use Rattle.model.specs.Ring.{ringFrames, InOrder, RingInOrder, framesOfBlocks, framesRead, lastOf, inPointer, inToken, inMoved, inBytes, inStores, blocksChanges, oneRun}
+use Rattle.model.proofs.Fields.{fields-then, fields-if, keeps-nothing, ranWorld, fields-ran}
+use Rattle.model.proofs.Frames.{Frames, frames}
 use Rattle.model.proofs.Placed.{Placed, placed-input, and-first, and-second, talking}
 use Rattle.model.proofs.Earned.{idle-bytes}
 use Rattle.model.proofs.Counts.{getsTo, gets-closed}
 use Rattle.model.proofs.Received.{Kept, keptOf, kept, keeps-adds, keeps-clears, keeps-enumerates, keeps-opens, keeps-suspends, keeps-leaves, keeps-sleeps, keeps-idles, keeps-powers, keeps-resets, keeps-serves, keeps-others, keeps-outputs}
 use Rattle.model.proofs.Ring.{Adds, held, adds-none, adds-inputs}
+use Rattle.model.proofs.InputList.{run-list}
 
 -- ---- the descriptor that is retired
 
@@ -48,20 +52,38 @@ in-bytes : (x : World) → inputReady x ≡ true → bytesAt x ≡ inBytes x
 unfolding bytesAt bytesOf
 in-bytes x e = active-bytes audioIn [] (busOf x) refl _ _ _ (in-active x e)
 
--- the changes of the input step: the retirement's stores, its mark, the bytes lost, and then what becomes of the run's bytes
-abbrev pub inList : World → List Store → ℕ → ℕ → List Change
+in-done : (x : World) → inputReady x ≡ true → runDtds audioIn [] (busOf x) .done ≡ interrupts (inToken x)
+in-done x e = active-done audioIn [] (busOf x) refl _ _ _ (in-active x e)
+
+-- what follows a run; d: whether it flagged a completion, bs: its bytes, c: the credit
+abbrev behind : Bool → List ℕ → ℕ → List Change
+behind d bs c = pick (d || nonempty bs) (count «in_transfers» 1 ∷ blocksChanges c (blocksOf bs)) []
+
+-- the step's changes with its run as it is: stores, mark, bytes lost, and what follows
+abbrev inList : World → List Store → ℕ → ℕ → List Change
 inList x ss k n =
-    map bus ss ++ (ran audioIn k n ∷ lost (droppedBy ss) ∷ keepsRun (runDtds audioIn [] (busOf x)) (ranWorld kept audioIn [] x))
+    map bus ss
+    ++ (ran audioIn k n
+    ∷ lost (droppedBy ss)
+    ∷ behind (runDtds audioIn [] (busOf x) .done) (runDtds audioIn [] (busOf x) .bytes) (ranWorld kept audioIn [] x .state .audio .credit))
 
 inputs-list : (x : World) → inputs x ≡ inList x (runDtds audioIn [] (busOf x) .stores) (runDtds audioIn [] (busOf x) .retired) (runDtds audioIn [] (busOf x) .moved)
 unfolding inputs runs andThen ranStores
-inputs-list x = append-assoc (map bus (runDtds audioIn [] (busOf x) .stores)) _ _
+inputs-list x =
+    let r = runDtds audioIn [] (busOf x) in
+    append-assoc (map bus (r .stores)) _ _
+    ∙ ap (λ (cs : List Change). map bus (r .stores) ++ (ran audioIn (r .retired) (r .moved) ∷ lost (droppedBy (r .stores)) ∷ cs)) (run-list r (ranWorld kept audioIn [] x))
 
-pub inputs-changes : (x : World) → inputReady x ≡ true → inputs x ≡ inList x (inStores x) 1 (inMoved x)
+pub inputs-changes : (x : World) → inputReady x ≡ true → inputs x ≡ oneRun x
+unfolding bytesAt
 inputs-changes x e =
+    let r = runDtds audioIn [] (busOf x) in
+    let rest : List Change → List Change = λ cs. map bus (inStores x) ++ (ran audioIn 1 (inMoved x) ∷ lost (droppedBy (inStores x)) ∷ cs) in
     inputs-list x
-    ∙ ap (λ (ss : List Store). inList x ss (runDtds audioIn [] (busOf x) .retired) (runDtds audioIn [] (busOf x) .moved)) (in-stores x e)
+    ∙ ap (λ (ss : List Store). inList x ss (r .retired) (r .moved)) (in-stores x e)
     ∙ ap₂ (λ (k n : ℕ). inList x (inStores x) k n) (in-retired x e) (in-moved x e)
+    ∙ ap (λ (c : ℕ). rest (behind (r .done) (r .bytes) c)) (ap (λ (k : Frames). k .counts .credit) (fields-ran frames audioIn [] x))
+    ∙ ap₂ (λ (d : Bool) (bs : List ℕ). rest (behind d bs (x .state .audio .credit))) (in-done x e) (in-bytes x e)
 
 -- ---- the ring up to the input step
 
@@ -172,11 +194,11 @@ kept-microframe t w = kept-frame t (rsSet w) (goneAt t w) (asleepAt t w) w
 
 -- ---- one microframe
 
--- the input step is reached, primed, its next descriptor active: its changes stand in the microframe's list, they retire that descriptor and
--- no other, and the ring holds the last 48,000 of its frames at entry and those of the descriptor's good blocks, at the step and at the end
+-- the input step is reached, primed, its next descriptor active: its changes stand in the microframe's list, whole: they retire that descriptor
+-- and no other, make no other store, and the ring holds the last 48,000 of its frames at entry and those of the descriptor's good blocks, at the step and at the end
 pub record InputStep (t : ℕ) (w : World) : Type 0 where
   pub placed : Placed (microframe t) w inputs (atInput w)
-  pub changes : inputs (atInput w) ≡ inList (atInput w) (inStores (atInput w)) 1 (inMoved (atInput w))
+  pub changes : inputs (atInput w) ≡ oneRun (atInput w)
   pub stores : runDtds audioIn [] (busOf (atInput w)) .stores ≡ inStores (atInput w)
   pub retired : runDtds audioIn [] (busOf (atInput w)) .retired ≡ 1
   pub bytes : bytesAt (atInput w) ≡ inBytes (atInput w)

@@ -11,4 +11,6 @@ pub mod Marks
 pub mod Claims
 pub mod Received
 pub mod Ring
+pub mod InputList
 pub mod InputStep
+pub mod Waking

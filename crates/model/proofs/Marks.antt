@@ -287,7 +287,7 @@ silent-frames (suc n) bs = silent-then _ _ (silent-one _ (λ w. refl)) (silent-f
 
 silent-good : (b : List ℕ) → Silent (keepsGood b)
 unfolding keepsGood retiredBy
-silent-good b = silent-then _ _ (silent-frames BLOCK-FRAMES _) (silent-then _ _ (silent-one _ (λ w. refl)) (silent-one _ (λ w. refl)))
+silent-good b = silent-then _ _ (silent-frames _ _) (silent-then _ _ (silent-one _ (λ w. refl)) (silent-one _ (λ w. refl)))
 
 silent-bad : Silent (one (λ w. count «bad_blocks» 1))
 unfolding retiredBy
@@ -346,15 +346,6 @@ silent-counted : (r : Run) → Silent (one (λ w. count «out_transfers» 1) the
 unfolding retiredBy
 silent-counted r = silent-then _ _ (silent-one _ (λ w. refl)) (silent-one _ (λ w. refl))
 
-sent-retired : (bs : List ℕ) (w : World) → audioOutRetired (sendsBlock bs w) ≡ runDtds audioOut bs (busOf w) .retired
-unfolding sendsBlock one retiredBy apply
-sent-retired bs w =
-    after-silent _ _ w (silent-one _ (λ v. refl))
-    ∙ after-silent _ _ _ (silent-one _ (λ v. refl))
-    ∙ after-silent _ _ _ (silent-one _ (λ v. refl))
-    ∙ after-silent _ _ _ (silent-one _ (λ v. refl))
-    ∙ run-retired bs _ _ silent-counted
-
 -- one descriptor, where the endpoint is ready
 one-retired : (bs : List ℕ) (x : World) → outputReady x ≡ true → runDtds audioOut bs (busOf x) .retired ≡ 1
 unfolding outputReady
@@ -363,6 +354,17 @@ one-retired bs x e =
     record { prime = and-first _ _ e; active = and-second (primed audioOut (x .memory .page)) _ e; head = refl; next = refl; token = refl } in
     active-retired audioOut bs (busOf x) refl _ _ _ is
 
+-- a block's run retires one
+sent-retired : (bs : List ℕ) (w : World) → outputReady w ≡ true → audioOutRetired (sendsBlock bs w) ≡ 1
+unfolding sendsBlock one retiredBy apply
+sent-retired bs w e =
+    after-silent _ _ w (silent-one _ (λ v. refl))
+    ∙ after-silent _ _ _ (silent-one _ (λ v. refl))
+    ∙ after-silent _ _ _ (silent-one _ (λ v. refl))
+    ∙ after-silent _ _ _ (silent-one _ (λ v. refl))
+    ∙ run-retired _ _ _ silent-counted
+    ∙ one-retired _ w e
+
 silent-unprimes : Silent unprimes
 unfolding unprimes
 silent-unprimes = silent-page _
@@ -370,7 +372,7 @@ silent-unprimes = silent-page _
 outputs-by : (x : World) (p c a : Bool) → primed audioOut (x .memory .page) ≡ p → leb BLOCK-FRAMES (x .state .audio .credit) ≡ c → nextActive audioOut (x .memory) ≡ a
     → audioOutRetired (pick (p && c) (pick a (sendsBlock (blockOf x) x) (unprimes x)) []) ≡ pick ((p && a) && c) 1 0
 unfolding audioOutRetired outputReady
-outputs-by x true true true ep ec ea = sent-retired (blockOf x) x ∙ one-retired (blockOf x) x (ap₂ _&&_ ep ea)
+outputs-by x true true true ep ec ea = sent-retired (blockOf x) x (ap₂ _&&_ ep ea)
 outputs-by x true true false ep ec ea = silent-unprimes x
 outputs-by x true false true ep ec ea = refl
 outputs-by x true false false ep ec ea = refl

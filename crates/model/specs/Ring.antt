@@ -1,16 +1,19 @@
 -- The received ring as a list of frames, oldest first, and the frames that a run of the input endpoint brings (document 01, demand 3, `input-step`).
 use Prim.Native.Nat.{ℕ, zero, suc, _+_, _-_, _*_, _%_, _≤_, _<_}
 use mathlib.Core.Path.{_≡_}
-use mathlib.Core.List.{List, [], _∷_, _++_}
+use mathlib.Core.Bool.{_||_}
+use mathlib.Core.List.{List, [], _∷_, _++_, map}
 use lib.ListN.{length, take, drop}
 use Rattle.bits.specs.Pick.{pick}
-use Rattle.bus.specs.Stores.{Store}
+use Rattle.bus.specs.Stores.{Store, droppedBy}
 use Rattle.usbdev.specs.Transfer.{totalOf}
 use Rattle.transfer.specs.Transfer.{pointers, bytesIn}
-use Rattle.dtd.specs.Dtd.{bitOf, queueHead, nextDtd, tokenOf, descriptor, finishing}
+use Rattle.dtd.specs.Dtd.{bitOf, queueHead, nextDtd, tokenOf, interrupts, descriptor, finishing}
 use Rattle.record.specs.declared.Ring.{Ring}
+use Rattle.record.specs.Record.{wrapped, «in_transfers», «in_frames», «bad_blocks»}
 use Rattle.record.specs.World.{World, busOf}
-use Rattle.record.specs.Change.{FRAMES, WORDS}
+use Rattle.record.specs.Change.{Change, bus, ran, lost, count, credit, frame, FRAMES, WORDS}
+use Rattle.model.specs.Streams.{nonempty}
 use Rattle.model.specs.Audio.{audioIn, BLOCK-FRAMES, good, wordsOf, blocksOf}
 
 -- the i-th frame of a ring's words
@@ -77,3 +80,23 @@ inBytes x = bytesIn (x .memory) (pointers (x .memory) (descriptor (inPointer x))
 abbrev pub inStores : World → List Store
 inStores x =
     finishing (queueHead audioIn (x .memory .page)) (inPointer x) (inToken x) (inMoved x) (bitOf audioIn) (busOf x)
+
+-- 876-891: what becomes of a block, where the credit was c, and of some blocks in order
+unfoldable pub blockChanges : ℕ → List ℕ → List Change
+blockChanges c b =
+    pick (good b)
+    (map frame (framesFrom BLOCK-FRAMES 0 b) ++ (count «in_frames» BLOCK-FRAMES ∷ credit (wrapped (c + BLOCK-FRAMES)) ∷ []))
+    (count «bad_blocks» 1 ∷ [])
+
+unfoldable pub blocksChanges : ℕ → List (List ℕ) → List Change
+blocksChanges c [] = []
+blocksChanges c (b ∷ bs) = blockChanges c b ++ blocksChanges (pick (good b) (wrapped (c + BLOCK-FRAMES)) c) bs
+
+-- 870-896: all that the input step changes then, in order
+abbrev pub oneRun : World → List Change
+oneRun x =
+    map bus (inStores x)
+    ++ (ran audioIn 1 (inMoved x)
+    ∷ lost (droppedBy (inStores x))
+    ∷ pick (interrupts (inToken x) || nonempty (inBytes x))
+    (count «in_transfers» 1 ∷ blocksChanges (x .state .audio .credit) (blocksOf (inBytes x))) [])
