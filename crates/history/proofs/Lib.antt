@@ -1,3 +1,4 @@
 pub mod Accepted
 pub mod History
 pub mod Table
+pub mod Accepts

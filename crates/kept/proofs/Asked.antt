@@ -10,7 +10,7 @@ use Rattle.record.specs.World.{World}
 use Rattle.record.specs.Change.{Change, bus, ran, lost, count, uf, phase, started, gone, suspended, running, credit, budget, counter, block, timers, control, queued, popped, pushed, cleared, reply, device, config, forgot, midi, serial, received, frame, taken, apply, drained}
 use Rattle.model.proofs.Fields.{Fields}
 
--- waiting and queue: how many setups wait, and their array; device and config: the descriptors' lengths; area: the configuration's
+-- waiting and queue: how many setups wait, and their array; device and config: the descriptors' lengths
 pub record Asked : Type 0 where
   pub phase : Phase
   pub control : Control
@@ -20,7 +20,6 @@ pub record Asked : Type 0 where
   pub uf : ℕ
   pub queue : List ℕ
   pub reply : List ℕ
-  pub area : List ℕ
 
 abbrev pub askedOf : World → Asked
 askedOf w =
@@ -33,7 +32,6 @@ askedOf w =
       uf = w .state .port .uf;
       queue = w .setups;
       reply = w .reply;
-      area = w .config;
     }
 
 abbrev pub askedOn : Change → Asked → Asked
@@ -41,8 +39,8 @@ askedOn (bus s) k = k
 askedOn (ran e r n) k = k
 askedOn (lost n) k = k
 askedOn (count c n) k = k
-askedOn (uf n) k = record { phase = k .phase; control = k .control; waiting = k .waiting; device = k .device; config = k .config; uf = n; queue = k .queue; reply = k .reply; area = k .area }
-askedOn (phase p) k = record { phase = p; control = k .control; waiting = k .waiting; device = k .device; config = k .config; uf = k .uf; queue = k .queue; reply = k .reply; area = k .area }
+askedOn (uf n) k = record { phase = k .phase; control = k .control; waiting = k .waiting; device = k .device; config = k .config; uf = n; queue = k .queue; reply = k .reply }
+askedOn (phase p) k = record { phase = p; control = k .control; waiting = k .waiting; device = k .device; config = k .config; uf = k .uf; queue = k .queue; reply = k .reply }
 askedOn (started n) k = k
 askedOn (gone b) k = k
 askedOn (suspended b) k = k
@@ -52,15 +50,15 @@ askedOn (budget n) k = k
 askedOn (counter n) k = k
 askedOn (block n m) k = k
 askedOn (timers ts) k = k
-askedOn (control c) k = record { phase = k .phase; control = c; waiting = k .waiting; device = k .device; config = k .config; uf = k .uf; queue = k .queue; reply = k .reply; area = k .area }
-askedOn (queued bs) k = record { phase = k .phase; control = k .control; waiting = k .waiting + length bs / 8; device = k .device; config = k .config; uf = k .uf; queue = sets (k .queue) (8 * k .waiting) bs; reply = k .reply; area = k .area }
-askedOn popped k = record { phase = k .phase; control = k .control; waiting = k .waiting - 1; device = k .device; config = k .config; uf = k .uf; queue = drained (k .queue) (8 * k .waiting) 8; reply = k .reply; area = k .area }
-askedOn (pushed bs) k = record { phase = k .phase; control = k .control; waiting = k .waiting + 1; device = k .device; config = k .config; uf = k .uf; queue = sets (k .queue) 0 (bs ++ take (8 * k .waiting) (k .queue)); reply = k .reply; area = k .area }
-askedOn cleared k = record { phase = k .phase; control = k .control; waiting = 0; device = k .device; config = k .config; uf = k .uf; queue = k .queue; reply = k .reply; area = k .area }
-askedOn (reply n bs) k = record { phase = k .phase; control = k .control; waiting = k .waiting; device = k .device; config = k .config; uf = k .uf; queue = k .queue; reply = sets (k .reply) n bs; area = k .area }
-askedOn (device bs) k = record { phase = k .phase; control = k .control; waiting = k .waiting; device = length bs; config = k .config; uf = k .uf; queue = k .queue; reply = k .reply; area = k .area }
-askedOn (config bs) k = record { phase = k .phase; control = k .control; waiting = k .waiting; device = k .device; config = length bs; uf = k .uf; queue = k .queue; reply = k .reply; area = sets (k .area) 0 bs }
-askedOn forgot k = record { phase = k .phase; control = k .control; waiting = k .waiting; device = 0; config = 0; uf = k .uf; queue = k .queue; reply = k .reply; area = k .area }
+askedOn (control c) k = record { phase = k .phase; control = c; waiting = k .waiting; device = k .device; config = k .config; uf = k .uf; queue = k .queue; reply = k .reply }
+askedOn (queued bs) k = record { phase = k .phase; control = k .control; waiting = k .waiting + length bs / 8; device = k .device; config = k .config; uf = k .uf; queue = sets (k .queue) (8 * k .waiting) bs; reply = k .reply }
+askedOn popped k = record { phase = k .phase; control = k .control; waiting = k .waiting - 1; device = k .device; config = k .config; uf = k .uf; queue = drained (k .queue) (8 * k .waiting) 8; reply = k .reply }
+askedOn (pushed bs) k = record { phase = k .phase; control = k .control; waiting = k .waiting + 1; device = k .device; config = k .config; uf = k .uf; queue = sets (k .queue) 0 (bs ++ take (8 * k .waiting) (k .queue)); reply = k .reply }
+askedOn cleared k = record { phase = k .phase; control = k .control; waiting = 0; device = k .device; config = k .config; uf = k .uf; queue = k .queue; reply = k .reply }
+askedOn (reply n bs) k = record { phase = k .phase; control = k .control; waiting = k .waiting; device = k .device; config = k .config; uf = k .uf; queue = k .queue; reply = sets (k .reply) n bs }
+askedOn (device bs) k = record { phase = k .phase; control = k .control; waiting = k .waiting; device = length bs; config = k .config; uf = k .uf; queue = k .queue; reply = k .reply }
+askedOn (config bs) k = record { phase = k .phase; control = k .control; waiting = k .waiting; device = k .device; config = length bs; uf = k .uf; queue = k .queue; reply = k .reply }
+askedOn forgot k = record { phase = k .phase; control = k .control; waiting = k .waiting; device = 0; config = 0; uf = k .uf; queue = k .queue; reply = k .reply }
 askedOn (midi n) k = k
 askedOn (serial n) k = k
 askedOn (received bs) k = k

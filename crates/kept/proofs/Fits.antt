@@ -8,6 +8,7 @@ use native.Mathlib.Omega.{arith}
 use lib.Bits.{bitAnd, and-le-r, or-lt}
 use lib.Dec.{ltb, lit<}
 use lib.ListN.{drop, set}
+use lib.Seq.{sets}
 use Rattle.bits.specs.Pick.{pick, pick-both}
 use Rattle.bits.specs.Word as W
 use Rattle.bits.specs.Word.{inv32, clear, any}
@@ -207,13 +208,17 @@ fits-turning qh n bs b h =
 
 -- ---- the bytes that it reads
 
-bytes-none : AllBytes []
+pub bytes-none : AllBytes []
 bytes-none i = lit< tt
 
-bytes-append : (xs ys : List ℕ) → AllBytes xs → AllBytes ys → AllBytes (xs ++ ys)
+pub bytes-append : (xs ys : List ℕ) → AllBytes xs → AllBytes ys → AllBytes (xs ++ ys)
 bytes-append [] ys h k i = k i
 bytes-append (x ∷ xs) ys h k zero = h zero
 bytes-append (x ∷ xs) ys h k (suc i) = bytes-append xs ys (λ j. h (suc j)) k i
+
+pub sets-bytes : (l : List ℕ) (i : ℕ) (vs : List ℕ) → AllBytes l → AllBytes vs → AllBytes (sets l i vs)
+sets-bytes l i [] h k = h
+sets-bytes l i (v ∷ vs) h k = sets-bytes _ (suc i) vs (set-lt l i v h (k 0)) (λ j. k (suc j))
 
 bytes-tabulate : (n : ℕ) (f : ℕ → ℕ) → ((k : ℕ) → f k < 256) → AllBytes (tabulate n f)
 unfolding tabulate

@@ -6,9 +6,11 @@ use mathlib.Core.List.{List, [], _∷_, _++_, flatMap}
 use native.Mathlib.Nat.{add-zero}
 use native.Mathlib.Omega.{arith}
 use borrow.Author.Tests.{eq-eqb, ne-eqb, lt-ltb, ltb-true, ltb-false}
-use lib.Dec.{eqb, ltb}
+use lib.Dec.{eqb, ltb, lit<}
 use lib.ListN.{length, getD, take, drop, length-take, length-drop, length-append, List·getD-append}
 use lib.Seq.{sets, sets-eq, getD-take, getD-drop, getD-append-add}
+use Rattle.config.specs.Config.{Bytes}
+use Rattle.config.proofs.Few.{bytes-take, bytes-drop}
 use Rattle.config.proofs.Cases.{by-test}
 use Rattle.record.specs.Change.{drained}
 use Rattle.record.specs.Setups.{little}
@@ -16,6 +18,7 @@ use Rattle.model.specs.Phases.{firstSetups}
 use Rattle.model.specs.Control.{setsConfiguration, setsInterface, interfaceSetups, fixedSetups}
 use Rattle.model.proofs.Placed.{and-first, and-second}
 use Rattle.bounds.specs.Bounds.{le, asksConfiguration, made, madeAt, allMade, other, noneAsks}
+use Rattle.kept.proofs.Fits.{bytes-none, bytes-append}
 use Rattle.kept.proofs.Pairs.{Pair, Pairs}
 use Rattle.kept.proofs.Tests.{and-both, or-second}
 
@@ -101,6 +104,11 @@ drained-alike q n i h l c k =
     up : (i c : ℕ) → 8 + (8 * i + c) ≡ 8 * suc i + c
     up i c = omega arith
 
+pub drained-bytes : (q : List ℕ) (len n : ℕ) → Bytes q → Bytes (drained q len n)
+unfolding drained
+drained-bytes q len n b =
+    bytes-append (take (len - n) (drop n q)) (drop (len - n) q) (bytes-take (len - n) (drop n q) (bytes-drop n q b)) (bytes-drop (len - n) q b)
+
 -- ---- put at the start
 
 pub sets-alike : (q bs : List ℕ) (i : ℕ) → length bs ≤ length q → 8 * i + 8 ≤ length bs → Alike (sets q 0 bs) bs i i
@@ -108,18 +116,20 @@ sets-alike q bs i h l c k =
     ap (λ (s : List ℕ). getD s (8 * i + c) 0) (sets-eq bs q 0 (omega arith))
     ∙ List·getD-append bs (drop (0 + length bs) q) 0 (8 * i + c) (omega arith)
 
--- ---- lists of setups that the source makes, a configuration request only as the last
+-- ---- lists of setups that the source makes, in bytes, a configuration request only as the last
 
 pub record Good (bs : List ℕ) (n : ℕ) : Type 0 where
   pub size : length bs ≡ 8 * n
   pub all-made : (i : ℕ) → i < n → madeAt bs i ≡ true
   pub last-asks : (i : ℕ) → suc i < n → other bs i ≡ true
+  pub bytes : Bytes bs
 
 -- one, of any length but no configuration request
 record Plain (s : List ℕ) : Type 0 where
   size : length s ≡ 8
   is-made : madeAt s 0 ≡ true
   is-other : other s 0 ≡ true
+  bytes : Bytes s
 
 module _ (s bs : List ℕ) (p : Plain s) where
   front-alike : Alike (s ++ bs) s 0 0
@@ -134,7 +144,7 @@ module _ (s bs : List ℕ) (p : Plain s) where
 
 good-none : Good [] 0
 good-none =
-    record { size = refl; all-made = λ i h. absurd (omega arith); last-asks = λ i h. absurd (omega arith) }
+    record { size = refl; all-made = λ i h. absurd (omega arith); last-asks = λ i h. absurd (omega arith); bytes = bytes-none }
 
 good-more : (s bs : List ℕ) (n : ℕ) → Plain s → Good bs n → Good (s ++ bs) (suc n)
 good-more s bs n p g =
@@ -142,6 +152,7 @@ good-more s bs n p g =
       size = length-append s bs ∙ total (p .size) (g .size);
       all-made = by-made;
       last-asks = by-other;
+      bytes = bytes-append s bs (p .bytes) (g .bytes);
     }
   where
     total : length s ≡ 8 → length bs ≡ 8 * n → length s + length bs ≡ 8 * suc n
@@ -157,9 +168,20 @@ good-more s bs n p g =
 
 -- ---- those of the source
 
+-- a test that every number is a byte
+unfoldable inBytes : List ℕ → Bool
+inBytes [] = true
+inBytes (x ∷ xs) = ltb x 256 && inBytes xs
+
+bytes-by : (xs : List ℕ) → inBytes xs ≡ true → Bytes xs
+unfolding inBytes
+bytes-by [] e k = lit< tt
+bytes-by (x ∷ xs) e zero = ltb-true x 256 (and-first (ltb x 256) (inBytes xs) e)
+bytes-by (x ∷ xs) e (suc k) = bytes-by xs (and-second (ltb x 256) (inBytes xs) e) k
+
 pub good-first : Good firstSetups 4
-unfolding madeAt made other
-good-first = record { size = refl; all-made = by-made; last-asks = by-other }
+unfolding madeAt made other inBytes
+good-first = record { size = refl; all-made = by-made; last-asks = by-other; bytes = bytes-by firstSetups refl }
   where
     by-made : (i : ℕ) → i < 4 → madeAt firstSetups i ≡ true
     by-made zero l = refl
@@ -175,9 +197,15 @@ good-first = record { size = refl; all-made = by-made; last-asks = by-other }
     by-other (suc (suc (suc i))) l = absurd (omega arith)
 
 -- 715: the whole configuration, of a length in two bytes
-pub good-whole : (b₂ b₃ : ℕ) → Good (0x80 ∷ 6 ∷ 0 ∷ 2 ∷ 0 ∷ 0 ∷ b₂ ∷ b₃ ∷ []) 1
-unfolding madeAt made other
-good-whole b₂ b₃ = record { size = refl; all-made = by-made; last-asks = λ i l. absurd (omega arith) }
+pub good-whole : (b₂ b₃ : ℕ) → b₂ < 256 → b₃ < 256 → Good (0x80 ∷ 6 ∷ 0 ∷ 2 ∷ 0 ∷ 0 ∷ b₂ ∷ b₃ ∷ []) 1
+unfolding madeAt made other inBytes
+good-whole b₂ b₃ l₂ l₃ =
+    record {
+      size = refl;
+      all-made = by-made;
+      last-asks = λ i l. absurd (omega arith);
+      bytes = bytes-by (0x80 ∷ 6 ∷ 0 ∷ 2 ∷ 0 ∷ 0 ∷ b₂ ∷ b₃ ∷ []) (simp (lt-ltb b₂ 256 l₂, lt-ltb b₃ 256 l₃));
+    }
   where
     low : (0 + 2 ^ 8 * 0 + 2 ^ 16 * b₂ + 2 ^ 24 * b₃) % 2 ^ 16 ≡ 0
     low = omega arith
@@ -187,8 +215,8 @@ good-whole b₂ b₃ = record { size = refl; all-made = by-made; last-asks = λ 
     by-made (suc i) l = absurd (omega arith)
 
 plain-configuration : Plain setsConfiguration
-unfolding madeAt made other
-plain-configuration = record { size = refl; is-made = refl; is-other = refl }
+unfolding madeAt made other inBytes
+plain-configuration = record { size = refl; is-made = refl; is-other = refl; bytes = bytes-by setsConfiguration refl }
 
 -- the last of the five kinds
 sets-made : (f s : ℕ) → (eqb (f % 2 ^ 16) (le 1 11 0 0) && (ltb 0 (f / 2 ^ 16) && (ltb (f / 2 ^ 16) 256 && ltb s 256))) ≡ true → made f s ≡ true
@@ -212,9 +240,13 @@ module _ (i a : ℕ) (p : Pair i a) where
   interface-other =
       ap not (ne-eqb (1 + 2 ^ 8 * 11 + 2 ^ 16 * a + 2 ^ 24 * 0) (le 0x80 6 0 2) (λ e. omega arith))
 
+  interface-bytes : Bytes (setsInterface i a)
+  unfolding inBytes
+  interface-bytes = bytes-by (setsInterface i a) (simp (lt-ltb a 256 (p .alternate-lt), lt-ltb i 256 (p .interface-lt)))
+
   plain-interface : Plain (setsInterface i a)
   unfolding madeAt other
-  plain-interface = record { size = refl; is-made = interface-made; is-other = interface-other }
+  plain-interface = record { size = refl; is-made = interface-made; is-other = interface-other; bytes = interface-bytes }
 
 good-interfaces : (ps : List (ℕ × ℕ)) → Pairs ps → Good (interfaceSetups ps) (length ps)
 unfolding interfaceSetups flatMap

@@ -2,11 +2,15 @@
 use Prim.Native.Nat.{ℕ, zero, suc, _+_, _*_, _/_, _%_, _^_, _≤_, _<_, min}
 use mathlib.Core.Path.{_≡_, refl, ap, sym, _∙_}
 use mathlib.Core.Bool.{Bool, true, false, not, _&&_, _||_}
+use mathlib.Core.List.{List}
 use native.Mathlib.Omega.{arith}
 use borrow.Author.Tests.{leb-true, le-leb, eqb-true, eq-eqb}
 use lib.Dec.{eqb, leb}
 use lib.ListN.{length}
 use Rattle.bits.specs.Pick.{pick}
+use Rattle.midi.specs.declared.Packer.{Packer}
+use Rattle.config.specs.Config.{Bytes as AllBytes}
+use Rattle.record.specs.declared.State.{State}
 use Rattle.record.specs.World.{World}
 use Rattle.record.specs.Change.{left, FRAMES, WORDS}
 use Rattle.model.specs.Control.{wLength}
@@ -18,12 +22,12 @@ use Rattle.bounds.specs.Bounds.{MOST, times, setupsOk, enumeratingOk, requestOk
 use Rattle.kept.proofs.Credit.{SMALL, sent-le, sent-seven}
 use Rattle.kept.proofs.Timers.{timers-kept}
 use Rattle.kept.proofs.Queues.{Queues, queues-kept}
-use Rattle.kept.proofs.Shape.{Shape, shape-kept}
+use Rattle.kept.proofs.Shape.{Shape, shape-kept, SameArrays, arrays-kept}
 use Rattle.kept.proofs.Rings.{received-kept, sending-kept}
 use Rattle.kept.proofs.Audio.{audio-kept}
 use Rattle.kept.proofs.Counted.{counted-of, counted-kept, counts-kept}
 use Rattle.kept.proofs.Counters.{counters-kept}
-use Rattle.kept.proofs.Setups.{Requests, Entry, requests-kept}
+use Rattle.kept.proofs.Setups.{Requests, Entry, requests-kept, setups-kept, config-kept}
 
 -- every bound, of a record in its World
 pub record Bounded (w : World) : Type 0 where
@@ -90,25 +94,26 @@ apart w b =
     }
 
 -- what number 5 says of a running request
-abbrev running : World → Bool
-running w =
-    made (w .state .control .first) (w .state .control .second)
-    && ((not (asksConfiguration (w .state .control .first)) || eqb (w .state .lengths .setups) 0)
-    && (leb (w .state .control .t0) (w .state .port .uf) && leb (w .state .control .got) (wLength (w .state .control))))
+abbrev running : State → Bool
+running s =
+    made (s .control .first) (s .control .second)
+    && ((not (asksConfiguration (s .control .first)) || eqb (s .lengths .setups) 0)
+    && (leb (s .control .t0) (s .port .uf) && leb (s .control .got) (wLength (s .control))))
 
 -- a running request's reply lies in its area, which has at least 65,535 bytes
-reply-inside : (w : World) → Requests w → 65535 ≤ length (w .reply) → not (w .state .control .on) || leb (w .state .control .got) (length (w .reply)) ≡ true
+reply-inside : (s : State) (reply : ℕ) → requestOk (s .control) (s .lengths .setups) (s .port .uf) ≡ true → s .control .second < 2 ^ 32 → 65535 ≤ reply
+    → not (s .control .on) || leb (s .control .got) reply ≡ true
 unfolding requestOk
-reply-inside w r h = by-on (w .state .control .on) refl (r .request)
+reply-inside s reply r short h = by-on (s .control .on) refl r
   where
-    by-on : (b : Bool) → w .state .control .on ≡ b → (not b || running w) ≡ true → not b || leb (w .state .control .got) (length (w .reply)) ≡ true
+    by-on : (b : Bool) → s .control .on ≡ b → (not b || running s) ≡ true → not b || leb (s .control .got) reply ≡ true
     by-on false e q = refl
     by-on true e q =
-        let q₁ = and-second (made (w .state .control .first) (w .state .control .second)) _ q in
-        let q₂ = and-second (not (asksConfiguration (w .state .control .first)) || eqb (w .state .lengths .setups) 0) _ q₁ in
-        let q₃ = and-second (leb (w .state .control .t0) (w .state .port .uf)) _ q₂ in
-        let le = leb-true (w .state .control .got) (wLength (w .state .control)) q₃ in
-        le-leb (w .state .control .got) (length (w .reply)) (omega (arith, le, h, r .second))
+        let q₁ = and-second (made (s .control .first) (s .control .second)) _ q in
+        let q₂ = and-second (not (asksConfiguration (s .control .first)) || eqb (s .lengths .setups) 0) _ q₁ in
+        let q₃ = and-second (leb (s .control .t0) (s .port .uf)) _ q₂ in
+        let le = leb-true (s .control .got) (wLength (s .control)) q₃ in
+        le-leb (s .control .got) reply (omega (arith, le, h, short))
 
 together : (w : World) → 65535 ≤ length (w .reply) → Parts w → Bounded w
 unfolding inBounds queuesOk areasOk
@@ -119,7 +124,7 @@ together w h p =
           both _ _ (both _ _ (r .setups) (both _ _ (r .enumeration) (r .request)))
           (both _ _ (both _ _ (both _ _ (p .queues .midi) (both _ _ (p .queues .packets) (both _ _ (p .queues .serial) (r .device)))) (p .packer))
           (both _ _ (both _ _ (p .counts) (both _ _ (p .counters) (both _ _ (p .credit) (p .timers)))) (p .audio)));
-      areas = both _ _ (r .config) (reply-inside w r h);
+      areas = both _ _ (r .config) (reply-inside (w .state) (length (w .reply)) (r .request) (r .second) h);
       received = p .received;
       sending = p .sending;
       second = r .second;
@@ -205,3 +210,36 @@ pub bounds-kept : (t : ℕ) (w : World) → Entry w → Bounded w → Bounded (l
 bounds-kept t w e b =
     let long = ap (λ (x : Shape). x .reply) (shape-kept t w) in
     together (left (microframe t) w) (omega (arith, long, e .reply-length)) (of-parts t w e (apart w b))
+
+-- ---- what else lasts from one microframe to the next
+
+-- one microframe more, bytes in the array of setups, a configuration of at most 65,535 bytes, and arrays of the same lengths
+pub record Lasts (w v : World) : Type 0 where
+  pub number : v .state .port .uf ≡ w .state .port .uf + 1
+  pub setups-bytes : AllBytes (v .setups)
+  pub config : w .state .lengths .config ≤ 65535 → v .state .lengths .config ≤ 65535
+  pub arrays : SameArrays w v
+
+pub lasts : (t : ℕ) (w : World) → Entry w → Bounded w → 4096 ≤ length (w .midi) → 4096 ≤ length (w .serial) → Lasts w (left (microframe t) w)
+unfolding setupsOk
+lasts t w e b midi serial =
+    let p = apart w b in
+    let n = w .state .lengths in
+    let setups = leb-true (n .setups) 257 (and-first (leb (n .setups) 257) _ (p .requests .setups)) in
+    record {
+      number = counted-kept (w .state .port .uf) (e .uf) t w (counted-of (w .state) (p .counts)) .numbered;
+      setups-bytes = setups-kept t w (p .requests) e;
+      config = config-kept t w (p .requests) e;
+      arrays =
+          arrays-kept t w (omega (arith, setups, e .setups-length)) (omega (arith, leb-true (n .midi) 4096 (p .queues .midi), midi))
+          (omega (arith, leb-true (n .serial) 4096 (p .queues .serial), serial));
+    }
+
+-- a record in bounds whose configuration has at most 65,535 bytes fits any areas of the right lengths
+pub areas-fit : (s : State) (p : Packer) (setups : List ℕ) (reply config : ℕ) → inBounds s p setups ≡ true → s .control .second < 2 ^ 32 → s .lengths .config ≤ 65535
+    → 65535 ≤ reply → 65535 ≤ config → areasOk s reply config ≡ true
+unfolding inBounds areasOk
+areas-fit s p setups reply config e short few long wide =
+    let asked = and-first (askedOk s setups) _ e in
+    let request = and-second (enumeratingOk s) _ (and-second (setupsOk (s .lengths .setups) setups) _ asked) in
+    both _ _ (le-leb (s .lengths .config) config (omega (arith, few, wide))) (reply-inside s reply request short long)
