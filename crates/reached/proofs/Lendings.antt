@@ -1,0 +1,108 @@
+-- What the memories of the lists hold: their lengths and bytes by law, and what their words bring by computing.
+use Prim.Native.Nat.{ℕ, _^_}
+use mathlib.Core.Path.{_≡_, refl, ap, ap₂, _∙_}
+use mathlib.Core.Bool.{Bool, true, false, _&&_}
+use mathlib.Core.List.{List, [], _∷_, _++_}
+use lib.Dec.{eqb, ltb}
+use lib.ListN.{length, replicate, length-replicate}
+use borrow.Author.Tests.{ltb-true, leb-true}
+use Rattle.bits.specs.Word.{any}
+use Rattle.bus.specs.Memory.{word, at, place, read, write, peek8, peek32, poke8, poke32, after}
+use Rattle.bus.specs.Sized.{isPower, isSized}
+use Rattle.bus.specs.Words.{wordAt, wordPut}
+use Rattle.bus.specs.Steps.{andThen}
+use Rattle.bus.specs.Stores.{putting, when, store}
+use Rattle.bus.proofs.Registers.{length-put, put-lt}
+use Rattle.usbdev.specs.Offsets.{USBCMD, USBSTS, EPCR0}
+use Rattle.usbdev.specs.Registers as R
+use Rattle.usbdev.specs.Registers.{setting, lineOf}
+use Rattle.usbdev.specs.Transfer.{nextFrindex, totalOf, tokenAfter}
+use Rattle.transfer.specs.Transfer.{pointers, bytesIn, tabulate, dataAddr}
+use Rattle.dtd.specs.Dtd.{primed, queueHead, nextOf, nextActive, runDtds, turns, settled, joined, turning, dataOut, moves, bytesOf, retiring, closing, advancing, completing, framed, followed, following, settling, unpriming, reporting, listEnds}
+use Rattle.model.specs.Audio.{blocksOf, blocks, good}
+use Rattle.model.specs.Earned.{goodBlocks}
+use Rattle.model.proofs.Placed.{and-first, and-second}
+use Rattle.reached.specs.Lists.{puts, window, words, stalledPage, stoppedPage, primedPage, blockAt400, blockAt600, roomAt420, roomAt620}
+use Rattle.reached.proofs.Page.{framedPage, framedMemory}
+use Rattle.reached.proofs.Summed.{bytesAsked, bytesRead, ranMemory}
+use Rattle.reached.proofs.Leading.{Fit}
+use Rattle.reached.proofs.Queued.{Below, below-zeros}
+use Rattle.reached.proofs.Streamed.{Silent, Brings}
+
+-- ---- lengths and bytes
+
+length-puts : (ps : List (ℕ × ℕ)) (l : List ℕ) → length (puts l ps) ≡ length l
+unfolding puts
+length-puts [] l = refl
+length-puts (p ∷ ps) l = length-puts ps (wordPut l (p .0) (p .1)) ∙ length-put l (p .0) (p .1)
+
+length-window : (ps : List (ℕ × ℕ)) → length (window ps) ≡ 4096
+length-window ps = length-puts ps (replicate 4096 0) ∙ length-replicate {A = ℕ} 4096 0
+
+-- every value is a word of 32 bits
+abbrev pub allWords : List (ℕ × ℕ) → Bool
+allWords [] = true
+allWords (p ∷ ps) = ltb (p .1) (2 ^ 32) && allWords ps
+
+below-puts : (ps : List (ℕ × ℕ)) (l : List ℕ) → allWords ps ≡ true → Below l → Below (puts l ps)
+unfolding puts
+below-puts [] l e h = h
+below-puts (p ∷ ps) l e h =
+    below-puts ps (wordPut l (p .0) (p .1)) (and-second (ltb (p .1) (2 ^ 32)) (allWords ps) e)
+    (put-lt l (p .0) (p .1) h (ltb-true (p .1) (2 ^ 32) (and-first (ltb (p .1) (2 ^ 32)) (allWords ps) e)))
+
+pub fit-words : (f : List ℕ) (ds ps : List (ℕ × ℕ)) → length f ≡ 65536 → Below f → allWords ds ≡ true → allWords ps ≡ true → Fit (words f ds ps)
+unfolding isSized isPower
+fit-words f ds ps long bytes d p =
+    record {
+      sized =
+          ap (λ (n : ℕ). eqb n 65536 && (eqb (length (window ps)) 4096 && isPower (length (window ds)))) long
+          ∙ ap₂ (λ (i j : ℕ). eqb i 4096 && isPower j) (length-window ps) (length-window ds);
+      bytes = record {
+        dynamic = below-puts ds (replicate 4096 0) d (below-zeros 4096);
+        sram = bytes;
+        page = below-puts ps (replicate 4096 0) p (below-zeros 4096);
+      };
+    }
+
+-- ---- what the words bring
+
+-- RS on the four pages; URI and the stall of endpoint 0
+pub record Pages : Type 0 where
+  pub rs-stalled : any (wordAt (window stalledPage) USBCMD) 1 ≡ true
+  pub uri-stalled : any (wordAt (window stalledPage) USBSTS) 0x40 ≡ false
+  pub stall : any (wordAt (window stalledPage) EPCR0) 0x10001 ≡ true
+  pub rs-in : any (wordAt (window (primedPage 0x80000)) USBCMD) 1 ≡ true
+  pub rs-out : any (wordAt (window (primedPage 8)) USBCMD) 1 ≡ true
+  pub rs-both : any (wordAt (window (primedPage 0x80008)) USBCMD) 1 ≡ true
+  pub rs-stopped : any (wordAt (window stoppedPage) USBCMD) 1 ≡ false
+
+pub pages : Pages
+unfolding puts wordAt wordPut word
+pages = record { rs-stalled = refl; uri-stalled = refl; stall = refl; rs-in = refl; rs-out = refl; rs-both = refl; rs-stopped = refl }
+
+-- the memories of the lists
+pub record Contents (f : List ℕ) : Type 0 where
+  pub waits : Silent (words f [] stalledPage) false
+  pub good-block : Brings (words f (blockAt400 0x0700_0000) (primedPage 0x80000)) 1 false
+  pub bad-block : Brings (words f (blockAt400 0x0800_0000) (primedPage 0x80000)) 0 false
+  pub bad-bytes : blocksOf (bytesRead (framedMemory (words f (blockAt400 0x0800_0000) (primedPage 0x80000)))) ≡ (8 ∷ replicate 367 0) ∷ []
+  pub other-block : Brings (words f blockAt600 (primedPage 0x80000)) 1 false
+  pub room : Silent (words f roomAt420 (primedPage 8)) true
+  pub other-room : Silent (words f roomAt620 (primedPage 8)) true
+  pub both : Brings (words f (blockAt400 0x0700_0000 ++ roomAt420) (primedPage 0x80008)) 1 true
+
+module _ (f : List ℕ) where
+  pub contents : Contents f
+  unfolding puts framedPage primed nextActive nextOf queueHead wordAt wordPut word at place read peek8 peek32 after nextFrindex totalOf ranMemory runDtds turns settled joined turning dataOut moves bytesOf retiring closing advancing completing framed followed following settling unpriming reporting listEnds andThen putting when store setting R.following R.store R.onBus lineOf poke8 poke32 write tokenAfter pointers bytesIn tabulate dataAddr goodBlocks blocks good
+  contents =
+      record {
+        waits = record { unprimed = refl; output = refl };
+        good-block = record { input = refl; small = leb-true (bytesAsked (framedMemory (words f (blockAt400 0x0700_0000) (primedPage 0x80000)))) 368 refl; blocks = refl; output = λ l. refl };
+        bad-block = record { input = refl; small = leb-true (bytesAsked (framedMemory (words f (blockAt400 0x0800_0000) (primedPage 0x80000)))) 368 refl; blocks = refl; output = λ l. refl };
+        bad-bytes = refl;
+        other-block = record { input = refl; small = leb-true (bytesAsked (framedMemory (words f blockAt600 (primedPage 0x80000)))) 368 refl; blocks = refl; output = λ l. refl };
+        room = record { unprimed = refl; output = refl };
+        other-room = record { unprimed = refl; output = refl };
+        both = record { input = refl; small = leb-true (bytesAsked (framedMemory (words f (blockAt400 0x0700_0000 ++ roomAt420) (primedPage 0x80008)))) 368 refl; blocks = refl; output = λ l. refl };
+      }

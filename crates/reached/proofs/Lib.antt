@@ -1,0 +1,13 @@
+pub mod Standing
+pub mod Keeping
+pub mod Opening
+pub mod Page
+pub mod Early
+pub mod Summed
+pub mod Leading
+pub mod Queued
+pub mod Waits
+pub mod Streamed
+pub mod Resets
+pub mod Lendings
+pub mod Reached

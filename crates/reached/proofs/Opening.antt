@@ -1,0 +1,173 @@
+-- A microframe up to the choice by phase, of a host that neither goes nor sleeps, and the forms of a step by its tests.
+use Prim.Native.Nat.{ℕ, _+_, _<_}
+use mathlib.Core.Path.{_≡_, refl, ap, sym, _∙_}
+use mathlib.Core.Bool.{Bool, true, false}
+use native.Mathlib.Omega.{arith}
+use Rattle.bits.specs.Pick.{pick}
+use Rattle.bus.specs.Steps.{andThen, exec-then, exec-choose}
+use Rattle.record.specs.declared.Settings.{Settings}
+use Rattle.record.specs.Record.{counted, wrapped}
+use Rattle.record.specs.World.{World}
+use Rattle.record.specs.Change.{apply, Step, left, _then_, nothing, if, when, one, here}
+use Rattle.model.specs.Phases.{counts, ticks, cable, suspends, leaves}
+use Rattle.record.specs.declared.Phase.{Phase}
+use Rattle.bounds.specs.Bounds.{MOST}
+use Rattle.model.specs.Microframe.{rsSet, goneAt, asleepAt, opens, frameOf, byPhase, atPhase, microframe}
+use Rattle.model.proofs.Fields.{keeps-nothing}
+use Rattle.model.specs.Reach.{toPhase, phaseBy}
+use Rattle.reached.proofs.Standing.{Stand, Held, heldOf, held}
+
+-- ---- a step by its test
+
+pub if-true : (t : World → Bool) (f g : Step) (w : World) → t w ≡ true → left (if t f g) w ≡ left f w
+if-true t f g w e = exec-choose apply t f g w ∙ ap (λ (b : Bool). pick b (left f w) (left g w)) e
+
+pub if-false : (t : World → Bool) (f g : Step) (w : World) → t w ≡ false → left (if t f g) w ≡ left g w
+if-false t f g w e = exec-choose apply t f g w ∙ ap (λ (b : Bool). pick b (left f w) (left g w)) e
+
+pub when-true : (t : World → Bool) (f : Step) (w : World) → t w ≡ true → left (when t f) w ≡ left f w
+when-true t f w e = if-true t f nothing w e
+
+pub when-false : (t : World → Bool) (f : Step) (w : World) → t w ≡ false → left (when t f) w ≡ w
+unfolding nothing
+when-false t f w e = if-false t f nothing w e
+
+-- ---- the microframe up to the choice by phase
+
+four : (a b c d : Step) (w : World) → left (a then b then c then d) w ≡ left d (left (a then b then c) w)
+four a b c d w =
+    exec-then apply a (b then c then d) w
+    ∙ exec-then apply b (c then d) (left a w)
+    ∙ exec-then apply c d (left b (left a w))
+    ∙ ap (left d) (sym (exec-then apply a (b then c) w ∙ exec-then apply b c (left a w)))
+
+by-tests : (t : ℕ) (rs g s : Bool) (w : World) → g ≡ false → s ≡ false → left (frameOf (w .settings) t rs g s) w ≡ left (byPhase (w .settings) t rs) (phaseBy rs w)
+unfolding frameOf phaseBy toPhase
+by-tests t rs true s w e f = let z : _≡_ {A = ℕ} 0 1 = cc in absurd (omega arith)
+by-tests t rs false true w e f = let z : _≡_ {A = ℕ} 0 1 = cc in absurd (omega arith)
+by-tests t rs false false w e f = four (opens (w .settings) false) (suspends false) (leaves (w .settings .«device_stack») rs) (byPhase (w .settings) t rs) w
+
+pub frame-plain : (t : ℕ) (w : World) → goneAt t w ≡ false → asleepAt t w ≡ false → left (microframe t) w ≡ left (byPhase (w .settings) t (rsSet w)) (phaseBy (rsSet w) w)
+unfolding microframe here
+frame-plain t w e f = by-tests t (rsSet w) (goneAt t w) (asleepAt t w) w e f
+
+same-gone : (w : World) → left counts w .state .port .gone ≡ w .state .port .gone
+unfolding counts andThen one apply counted
+same-gone w = refl
+
+same-suspended : (w : World) → left counts w .state .port .suspended ≡ w .state .port .suspended
+unfolding counts andThen one apply counted
+same-suspended w = refl
+
+opens-plain : (c : Settings) (w : World) → c .«midi_in» ≡ false → w .state .port .gone ≡ false → left (opens c false) w ≡ left counts w
+unfolding opens cable
+opens-plain c w e f =
+    exec-then apply counts _ w
+    ∙ exec-then apply (when (λ v. c .«midi_in») ticks) _ (left counts w)
+    ∙ ap (left (cable false)) (when-false (λ v. c .«midi_in») ticks (left counts w) e)
+    ∙ when-false (λ v. v .state .port .gone) _ (left counts w) (same-gone w ∙ f)
+
+pub phase-plain : (rs : Bool) (w : World) → w .settings .«midi_in» ≡ false → w .state .port .gone ≡ false → w .state .port .suspended ≡ false
+    → phaseBy rs w ≡ left (leaves (w .settings .«device_stack») rs) (left counts w)
+unfolding phaseBy toPhase suspends
+phase-plain rs w e f g =
+    let c = w .settings in
+    exec-then apply (opens c false) _ w
+    ∙ exec-then apply (suspends false) (leaves (c .«device_stack») rs) (left (opens c false) w)
+    ∙ ap (λ (v : World). left (leaves (c .«device_stack») rs) (left (suspends false) v)) (opens-plain c w e f)
+    ∙ ap (left (leaves (c .«device_stack») rs)) (when-false (λ v. v .state .port .suspended) _ (left counts w) (same-suspended w ∙ g))
+
+-- ---- what the opening leaves
+
+-- one microframe more, and RS seen by a device stack
+abbrev pub opened : Bool → Stand → Stand
+opened stack k =
+    record { phase = k .phase; on = k .on; waiting = k .waiting; uf = k .uf + 1; t = k .t; gone = k .gone; suspended = k .suspended; running = pick stack true (k .running) }
+
+abbrev pub openedHeld : Bool → Held → Held
+openedHeld stack k = record { stand = opened stack (k .stand); queue = k .queue }
+
+-- a microframe at the time t in which the host neither goes, nor is back, nor sleeps, and RS is set; no MIDI input, no serial device
+pub record Plain (t : ℕ) (w : World) : Type 0 where
+  pub midi : w .settings .«midi_in» ≡ false
+  pub audio : w .settings .cdc ≡ false
+  pub there : goneAt t w ≡ false
+  pub awake : asleepAt t w ≡ false
+  pub rs : rsSet w ≡ true
+  pub still : w .state .port .gone ≡ false
+  pub woken : w .state .port .suspended ≡ false
+  pub few : w .state .port .uf < MOST
+
+abbrev pub counting : ℕ → Held → Held
+counting n k =
+    record {
+      stand = record { phase = k .stand .phase; on = k .stand .on; waiting = k .stand .waiting; uf = n; t = k .stand .t; gone = k .stand .gone; suspended = k .stand .suspended; running = k .stand .running };
+      queue = k .queue;
+    }
+
+pub held-counts : (w : World) → heldOf (left counts w) ≡ counting (wrapped (w .state .port .uf + 1)) (heldOf w)
+unfolding counts andThen one apply counted
+held-counts w = refl
+
+abbrev pub seeing : Bool → Held → Held
+seeing b k =
+    record {
+      stand = record { phase = k .stand .phase; on = k .stand .on; waiting = k .stand .waiting; uf = k .stand .uf; t = k .stand .t; gone = k .stand .gone; suspended = k .stand .suspended; running = b };
+      queue = k .queue;
+    }
+
+pub held-leaves : (stack : Bool) (v : World) → heldOf (left (leaves stack true) v) ≡ seeing (pick stack true (v .state .port .running)) (heldOf v)
+unfolding leaves one apply
+held-leaves true v = refl
+held-leaves false v = keeps-nothing held v
+
+module _ (t : ℕ) (w : World) (p : Plain t w) where
+  pub opened-held : heldOf (phaseBy true w) ≡ openedHeld (w .settings .«device_stack») (heldOf w)
+  opened-held =
+      let few = p .few in
+      let more : wrapped (w .state .port .uf + 1) ≡ w .state .port .uf + 1 = omega arith in
+      ap heldOf (phase-plain true w (p .midi) (p .still) (p .woken))
+      ∙ held-leaves (w .settings .«device_stack») (left counts w)
+      ∙ ap (λ (k : Held). seeing (pick (w .settings .«device_stack») true (k .stand .running)) k) (held-counts w)
+      ∙ ap (λ (n : ℕ). openedAt n) more
+    where
+      openedAt : ℕ → Held
+      openedAt n = seeing (pick (w .settings .«device_stack») true (w .state .port .running)) (counting n (heldOf w))
+
+  pub frame-in : (q : Phase) → w .state .phase ≡ q → left (microframe t) w ≡ left (atPhase (w .settings) t true q) (phaseBy true w)
+  unfolding byPhase here
+  frame-in q e =
+      frame-plain t w (p .there) (p .awake)
+      ∙ ap (λ (b : Bool). left (byPhase (w .settings) t b) (phaseBy b w)) (p .rs)
+      ∙ ap (λ (x : Phase). left (atPhase (w .settings) t true x) (phaseBy true w)) (ap (λ (k : Held). k .stand .phase) opened-held ∙ e)
+
+-- memory and budget are as they were
+same-leaves : (stack : Bool) (v : World) → left (leaves stack true) v .memory ≡ v .memory
+unfolding leaves one apply nothing
+same-leaves true v = refl
+same-leaves false v = refl
+
+same-counts : (w : World) → left counts w .memory ≡ w .memory
+unfolding counts andThen one apply counted
+same-counts w = refl
+
+pub opened-memory : (t : ℕ) (w : World) → Plain t w → phaseBy true w .memory ≡ w .memory
+opened-memory t w p =
+    ap (λ (v : World). v .memory) (phase-plain true w (p .midi) (p .still) (p .woken))
+    ∙ same-leaves (w .settings .«device_stack») (left counts w)
+    ∙ same-counts w
+
+budget-leaves : (stack : Bool) (v : World) → left (leaves stack true) v .state .audio .budget ≡ v .state .audio .budget
+unfolding leaves one apply nothing
+budget-leaves true v = refl
+budget-leaves false v = refl
+
+budget-counts : (w : World) → left counts w .state .audio .budget ≡ w .state .audio .budget
+unfolding counts andThen one apply counted
+budget-counts w = refl
+
+pub opened-budget : (t : ℕ) (w : World) → Plain t w → phaseBy true w .state .audio .budget ≡ w .state .audio .budget
+opened-budget t w p =
+    ap (λ (v : World). v .state .audio .budget) (phase-plain true w (p .midi) (p .still) (p .woken))
+    ∙ budget-leaves (w .settings .«device_stack») (left counts w)
+    ∙ budget-counts w

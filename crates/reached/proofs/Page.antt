@@ -1,0 +1,64 @@
+-- The register page after a microframe's start of frame: two words are new, and every other is as it was.
+use Prim.Native.Nat.{ℕ, _+_, _≤_}
+use mathlib.Core.Path.{_≡_, ap, _∙_}
+use mathlib.Core.List.{List}
+use mathlib.Core.Logic.{_⊎_, inl, inr}
+use native.Mathlib.Omega.{arith}
+use Rattle.bits.specs.Word.{set}
+use Rattle.bus.specs.Memory.{Memory, memory}
+use Rattle.bus.specs.Words.{wordAt, wordPut}
+use Rattle.bus.specs.Steps.{andThen}
+use Rattle.bus.specs.Stores as S
+use Rattle.bus.proofs.Registers.{word-apart}
+use Rattle.usbdev.specs.Offsets.{USBSTS, FRINDEX}
+use Rattle.usbdev.specs.Registers.{PageStep, registers, store, setting, following, raising, lifted}
+use Rattle.usbdev.specs.Registers as R
+use Rattle.usbdev.specs.Transfer.{nextFrindex}
+use Rattle.usbdev.proofs.Laws.{on-bus}
+use Rattle.record.specs.World.{World, busOf, withBus}
+use Rattle.record.specs.Change.{left, onPage}
+use Rattle.record.proofs.Laws.{replay-bus}
+use Rattle.model.specs.Phases.{changing, startsFrame}
+
+-- 493-495: FRINDEX goes on by one, and USBSTS has SRI, bit 7
+unfoldable pub framedPage : List ℕ → List ℕ
+framedPage p =
+    wordPut (wordPut p FRINDEX (nextFrindex 1 (wordAt p FRINDEX))) USBSTS
+    (set (wordAt (wordPut p FRINDEX (nextFrindex 1 (wordAt p FRINDEX))) USBSTS) 0x80)
+
+abbrev pub framedMemory : Memory → Memory
+framedMemory m = memory (m .dynamic) (m .sram) (framedPage (m .page))
+
+abbrev sof : PageStep
+sof = R._then_ (changing FRINDEX (nextFrindex 1)) (raising 0x80)
+
+framed-bus : (v : World) → S.stored (lifted sof (busOf v)) (busOf v) .memory ≡ framedMemory (v .memory)
+unfolding framedPage changing andThen setting following store
+framed-bus v =
+    let l = v .state .port .line in
+    ap (λ (b : S.Bus). b .memory)
+    (on-bus (sof (registers (v .memory .page) l)) (v .memory .dynamic) (v .memory .sram) (v .memory .page) l (omega arith, (omega arith, tt)))
+
+-- the World after the start of frame: only the bus is another
+pub framed-is : (v : World) → left startsFrame v ≡ withBus v (S.stored (lifted sof (busOf v)) (busOf v))
+unfolding startsFrame onPage
+framed-is v = replay-bus (lifted sof (busOf v)) v
+
+pub framed-memory : (v : World) → left startsFrame v .memory ≡ framedMemory (v .memory)
+framed-memory v = ap (λ (w : World). w .memory) (framed-is v) ∙ framed-bus v
+
+pub framed-budget : (v : World) → left startsFrame v .state .audio .budget ≡ v .state .audio .budget
+framed-budget v = ap (λ (w : World). w .state .audio .budget) (framed-is v)
+
+-- every word but those two
+pub framed-word : (p : List ℕ) (o : ℕ) → (o + 4 ≤ USBSTS) ⊎ (FRINDEX + 4 ≤ o) → wordAt (framedPage p) o ≡ wordAt p o
+unfolding framedPage
+framed-word p o h = word-apart _ USBSTS _ o (below h) ∙ word-apart p FRINDEX _ o (above h)
+  where
+    below : (o + 4 ≤ USBSTS) ⊎ (FRINDEX + 4 ≤ o) → (o + 4 ≤ USBSTS) ⊎ (USBSTS + 4 ≤ o)
+    below (inl a) = inl a
+    below (inr b) = inr (omega arith)
+
+    above : (o + 4 ≤ USBSTS) ⊎ (FRINDEX + 4 ≤ o) → (o + 4 ≤ FRINDEX) ⊎ (FRINDEX + 4 ≤ o)
+    above (inl a) = inl (omega arith)
+    above (inr b) = inr b

@@ -1,0 +1,117 @@
+-- What decides the way of a host to its stream: phase, request, setups, counts, and whether it is gone, suspended or was seen running.
+use Prim.Native.Nat.{ℕ, _+_, _-_, _*_, _/_}
+use mathlib.Core.Bool.{Bool}
+use mathlib.Core.List.{List, _++_}
+use mathlib.Core.Path.{_≡_, refl}
+use lib.ListN.{length, take}
+use lib.Seq.{sets}
+use Rattle.record.specs.declared.Phase.{Phase}
+use Rattle.record.specs.World.{World}
+use Rattle.record.specs.Change.{Change, bus, ran, lost, count, uf, phase, started, gone, suspended, running, credit, budget, counter, block, timers, control, queued, popped, pushed, cleared, reply, device, config, forgot, midi, serial, received, frame, taken, apply, drained}
+use Rattle.model.proofs.Fields.{Fields}
+
+-- on: a request runs; waiting: how many setups wait; t: the phase's start
+pub record Stand : Type 0 where
+  pub phase : Phase
+  pub on : Bool
+  pub waiting : ℕ
+  pub uf : ℕ
+  pub t : ℕ
+  pub gone : Bool
+  pub suspended : Bool
+  pub running : Bool
+
+-- and the array of setups
+pub record Held : Type 0 where
+  pub stand : Stand
+  pub queue : List ℕ
+
+abbrev pub standOf : World → Stand
+standOf w =
+    record {
+      phase = w .state .phase;
+      on = w .state .control .on;
+      waiting = w .state .lengths .setups;
+      uf = w .state .port .uf;
+      t = w .state .port .t;
+      gone = w .state .port .gone;
+      suspended = w .state .port .suspended;
+      running = w .state .port .running;
+    }
+
+abbrev pub heldOf : World → Held
+heldOf w = record { stand = standOf w; queue = w .setups }
+
+abbrev pub heldOn : Change → Held → Held
+heldOn (bus s) k = k
+heldOn (ran e r n) k = k
+heldOn (lost n) k = k
+heldOn (count c n) k = k
+heldOn (uf n) k = record { stand = record { phase = k .stand .phase; on = k .stand .on; waiting = k .stand .waiting; uf = n; t = k .stand .t; gone = k .stand .gone; suspended = k .stand .suspended; running = k .stand .running }; queue = k .queue }
+heldOn (phase p) k = record { stand = record { phase = p; on = k .stand .on; waiting = k .stand .waiting; uf = k .stand .uf; t = k .stand .t; gone = k .stand .gone; suspended = k .stand .suspended; running = k .stand .running }; queue = k .queue }
+heldOn (started n) k = record { stand = record { phase = k .stand .phase; on = k .stand .on; waiting = k .stand .waiting; uf = k .stand .uf; t = n; gone = k .stand .gone; suspended = k .stand .suspended; running = k .stand .running }; queue = k .queue }
+heldOn (gone b) k = record { stand = record { phase = k .stand .phase; on = k .stand .on; waiting = k .stand .waiting; uf = k .stand .uf; t = k .stand .t; gone = b; suspended = k .stand .suspended; running = k .stand .running }; queue = k .queue }
+heldOn (suspended b) k = record { stand = record { phase = k .stand .phase; on = k .stand .on; waiting = k .stand .waiting; uf = k .stand .uf; t = k .stand .t; gone = k .stand .gone; suspended = b; running = k .stand .running }; queue = k .queue }
+heldOn (running b) k = record { stand = record { phase = k .stand .phase; on = k .stand .on; waiting = k .stand .waiting; uf = k .stand .uf; t = k .stand .t; gone = k .stand .gone; suspended = k .stand .suspended; running = b }; queue = k .queue }
+heldOn (credit n) k = k
+heldOn (budget n) k = k
+heldOn (counter n) k = k
+heldOn (block n m) k = k
+heldOn (timers ts) k = k
+heldOn (control c) k = record { stand = record { phase = k .stand .phase; on = c .on; waiting = k .stand .waiting; uf = k .stand .uf; t = k .stand .t; gone = k .stand .gone; suspended = k .stand .suspended; running = k .stand .running }; queue = k .queue }
+heldOn (queued bs) k = record { stand = record { phase = k .stand .phase; on = k .stand .on; waiting = k .stand .waiting + length bs / 8; uf = k .stand .uf; t = k .stand .t; gone = k .stand .gone; suspended = k .stand .suspended; running = k .stand .running }; queue = sets (k .queue) (8 * k .stand .waiting) bs }
+heldOn popped k = record { stand = record { phase = k .stand .phase; on = k .stand .on; waiting = k .stand .waiting - 1; uf = k .stand .uf; t = k .stand .t; gone = k .stand .gone; suspended = k .stand .suspended; running = k .stand .running }; queue = drained (k .queue) (8 * k .stand .waiting) 8 }
+heldOn (pushed bs) k = record { stand = record { phase = k .stand .phase; on = k .stand .on; waiting = k .stand .waiting + 1; uf = k .stand .uf; t = k .stand .t; gone = k .stand .gone; suspended = k .stand .suspended; running = k .stand .running }; queue = sets (k .queue) 0 (bs ++ take (8 * k .stand .waiting) (k .queue)) }
+heldOn cleared k = record { stand = record { phase = k .stand .phase; on = k .stand .on; waiting = 0; uf = k .stand .uf; t = k .stand .t; gone = k .stand .gone; suspended = k .stand .suspended; running = k .stand .running }; queue = k .queue }
+heldOn (reply n bs) k = k
+heldOn (device bs) k = k
+heldOn (config bs) k = k
+heldOn forgot k = k
+heldOn (midi n) k = k
+heldOn (serial n) k = k
+heldOn (received bs) k = k
+heldOn (frame f) k = k
+heldOn (taken n) k = k
+
+pub held-apply : (c : Change) (w : World) → heldOf (apply c w) ≡ heldOn c (heldOf w)
+unfolding apply
+held-apply (bus s) w = refl
+held-apply (ran e r n) w = refl
+held-apply (lost n) w = refl
+held-apply (count c n) w = refl
+held-apply (uf n) w = refl
+held-apply (phase p) w = refl
+held-apply (started n) w = refl
+held-apply (gone b) w = refl
+held-apply (suspended b) w = refl
+held-apply (running b) w = refl
+held-apply (credit n) w = refl
+held-apply (budget n) w = refl
+held-apply (counter n) w = refl
+held-apply (block n m) w = refl
+held-apply (timers ts) w = refl
+held-apply (control c) w = refl
+held-apply (queued bs) w = refl
+held-apply popped w = refl
+held-apply (pushed bs) w = refl
+held-apply cleared w = refl
+held-apply (reply n bs) w = refl
+held-apply (device bs) w = refl
+held-apply (config bs) w = refl
+held-apply forgot w = refl
+held-apply (midi n) w = refl
+held-apply (serial n) w = refl
+held-apply (received bs) w = refl
+held-apply (frame f) w = refl
+held-apply (taken n) w = refl
+
+abbrev pub held : Fields Held
+held =
+    record {
+      of = heldOf;
+      on = heldOn;
+      applies = held-apply;
+      stores = λ s k. refl;
+      marks = λ e n m k. refl;
+      drops = λ n k. refl;
+    }
