@@ -10,14 +10,9 @@ use Rattle.model.proofs.Placed.{and-first, and-second}
 use Rattle.bounds.specs.Bounds.{MOST, times, askedOk, heldOk, countsOk, countersOk, creditOk, timersOk, audioOk, inBounds}
 use Rattle.usbhost.specs.declared.Host.{Host}
 use Rattle.usbhost.specs.Host.{stateOf}
-use Rattle.usbhost.specs.Calls.{bounded, fewSpans}
-use Rattle.bus.specs.Sized.{isSized}
-use Rattle.usbhost.specs.Frame.{Lent, areaLengths, boundsOk, frameBounds, frameNumber}
-
--- a chain of tests that gives 0 has passed them all
-passed : (n : ℕ) (t : Bool) (k : ℕ) → pick t k (suc n) ≡ 0 → (t ≡ true) × (k ≡ 0)
-passed n true k e = (refl, e)
-passed n false k e = absurd (omega arith)
+use Rattle.usbhost.specs.Calls.{bounded}
+use Rattle.usbhost.specs.Frame.{Lent, boundsOk, frameNumber}
+use Rattle.usbhost.proofs.Frame.{accepted-tests}
 
 pub record Small (h : Host) : Type 0 where
   pub credit : h .audio .credit ≤ 623 * MOST
@@ -53,28 +48,6 @@ small-bounded h e =
       received = omega (arith, leb-true (h .stats .«in_frames») _ (and-first _ _ a₂), bound-le 32767 (h .stats .microframes));
       sent = omega (arith, leb-true (h .stats .«out_frames») _ (and-first _ _ a₃), bound-le 32767 (h .stats .microframes));
     }
-
--- the tests of an accepted microframe
-pub record Accepted (h : Host) (l : Lent) : Type 0 where
-  pub sized : isSized (l .memory) ≡ true
-  pub lengths : areaLengths l ≡ true
-  pub spans : fewSpans h ≡ true
-  pub bounds : frameBounds h l ≡ true
-  pub before : ltb (h .port .uf) MOST ≡ true
-
-pub accepted-tests : (h : Host) (l : Lent) → frameNumber h l ≡ 0 → Accepted h l
-unfolding frameNumber
-accepted-tests h l e =
-    let six : ℕ = pick (ltb (h .port .uf) MOST) 0 6 in
-    let five : ℕ = pick (frameBounds h l) six 5 in
-    let three : ℕ = pick (fewSpans h) five 3 in
-    let two : ℕ = pick (areaLengths l) three 2 in
-    let p₁ = passed 0 (isSized (l .memory)) two e in
-    let p₂ = passed 1 (areaLengths l) three (p₁ .1) in
-    let p₃ = passed 2 (fewSpans h) five (p₂ .1) in
-    let p₄ = passed 4 (frameBounds h l) six (p₃ .1) in
-    let p₅ = passed 5 (ltb (h .port .uf) MOST) 0 (p₄ .1) in
-    record { sized = p₁ .0; lengths = p₂ .0; spans = p₃ .0; bounds = p₄ .0; before = p₅ .0 }
 
 pub accepted-small : (h : Host) (l : Lent) → frameNumber h l ≡ 0 → Small h
 unfolding boundsOk

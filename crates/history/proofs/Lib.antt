@@ -2,3 +2,4 @@ pub mod Accepted
 pub mod History
 pub mod Table
 pub mod Accepts
+pub mod Contracts

@@ -2,3 +2,4 @@ pub mod Laws
 pub mod Outcomes
 pub mod Entries
 pub mod Kept
+pub mod Frame

@@ -13,6 +13,7 @@ use Rattle.record.specs.Change.{FRAMES, WORDS, left}
 use Rattle.bounds.specs.Bounds.{MOST, areasOk, receivedOk, sendingOk}
 use Rattle.model.specs.Microframe as M
 use Rattle.usbhost.specs.declared.Host.{Host}
+use Rattle.usbhost.specs.declared.Framed.{Framed}
 use Rattle.usbhost.specs.Host.{stateOf, hostOf}
 use Rattle.usbhost.specs.Calls.{fewSpans, bounded, unless, sendingLength}
 
@@ -24,6 +25,10 @@ pub record Lent : Type 0 where
   pub receive : List ℕ
   pub received : List ℕ
   pub sending : List ℕ
+
+abbrev pub lent : Memory → List ℕ → List ℕ → List ℕ → List ℕ → List ℕ → Lent
+lent m reply config receive received sending =
+    record { memory = m; reply = reply; config = config; receive = receive; received = received; sending = sending }
 
 -- the World of a record and what it is lent, with nothing received and nothing dropped so far
 abbrev pub worldOf : Host → Lent → World
@@ -85,3 +90,14 @@ frameNumber h l =
 -- what a microframe at the time t leaves: a refused one leaves all as it was
 unfoldable pub framed : ℕ → Host → Lent → World
 framed t h l = pick (eqb (frameNumber h l) 0) (left (M.microframe t) (worldOf h l)) (worldOf h l)
+
+-- the answer: the number, how many MIDI or serial bytes stand in the receive area, the bytes that no window took, and the next record;
+-- of a refused microframe the number and the record alone
+unfoldable pub frameAnswer : ℕ → Host → Lent → Framed
+frameAnswer t h l =
+    record {
+      refusal = frameNumber h l;
+      received = framed t h l .state .answer .received;
+      dropped = framed t h l .state .answer .dropped;
+      host = hostIn (framed t h l);
+    }

@@ -2,3 +2,4 @@ pub mod Host
 pub mod Calls
 pub mod Promises
 pub mod Frame
+pub mod Limits

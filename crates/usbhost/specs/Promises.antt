@@ -1,5 +1,5 @@
 -- What the calls on parts promise: with any settings of that count of gone spans, and any arrays that are not lent, the record by its parts
--- goes as Calls says, and the state's answer, which is no part of the record, stays.
+-- goes as Calls says, and the state's answer, which is no part of the record, stays but in a microframe.
 use Prim.Native.Nat.{ℕ}
 use mathlib.Core.Path.{_≡_}
 use mathlib.Core.List.{List, []}
@@ -7,6 +7,7 @@ use Rattle.midi.specs.declared.Packer.{Packer}
 use Rattle.usbdev.specs.declared.Value.{Value}
 use Rattle.record.specs.declared.Settings.{Settings}
 use Rattle.record.specs.declared.State.{State}
+use Rattle.record.specs.World.{World}
 use Rattle.usbhost.specs.declared.Host.{Host}
 use Rattle.usbhost.specs.declared.Sent.{Sent}
 use Rattle.usbhost.specs.declared.Taken.{Taken}
@@ -16,6 +17,7 @@ use Rattle.usbhost.specs.declared.Stored.{Stored}
 use Rattle.usbhost.specs.declared.TakenFrame.{TakenFrame}
 use Rattle.usbhost.specs.Host.{hostOf, noSettings}
 use Rattle.usbhost.specs.Calls.{midiSent, serialSent, given, givenRing, takenFrame, deviceRead, deviceWritten, writtenPage}
+use Rattle.usbhost.specs.Frame.{Lent, frameNumber, framed}
 
 -- settings with a count of gone spans
 abbrev pub withSpans : Settings → ℕ → Settings
@@ -78,3 +80,29 @@ pub record WritePromise (s : State) (spans : ℕ) (p : Packer) (setups page : Li
       ≡ deviceWritten (hostOf s (withSpans c spans) p setups midi serial device) page off size v
   pub written : (c : Settings) (midi serial device : List ℕ)
       → page′ ≡ writtenPage (hostOf s (withSpans c spans) p setups midi serial device) page off size v
+
+-- ---- the microframe
+
+-- the World by its parts: a state with its answer, settings, packer, the four arrays, and what is lent
+abbrev pub worldBy : State → Settings → Packer → List ℕ → List ℕ → List ℕ → List ℕ → Lent → World
+worldBy s c p setups midi serial device l =
+    record {
+      settings = c;
+      packer = p;
+      state = s;
+      memory = l .memory;
+      setups = setups;
+      midi = midi;
+      serial = serial;
+      device = device;
+      reply = l .reply;
+      config = l .config;
+      receive = l .receive;
+      received = l .received;
+      sending = l .sending;
+    }
+
+-- the record h and what it is lent go as Frame says; the state's answer is the call's
+pub record FramePromise (t : ℕ) (h : Host) (l : Lent) (r : Stored) (setups midi serial device : List ℕ) (l′ : Lent) : Type 0 where
+  pub number : r .refusal ≡ frameNumber h l
+  pub outcome : worldBy (r .state) (h .settings) (h .packer) setups midi serial device l′ ≡ framed t h l

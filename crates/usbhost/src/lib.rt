@@ -1,4 +1,4 @@
-// The host record, and the calls on it but the microframe: MIDI and serial send, frames given and taken, device access.
+// The host record, and the calls on it: microframe, MIDI and serial send, frames given and taken, device access.
 ghost use mathlib.Core.Path.{_≡_};
 ghost use mathlib.Core.List.{List, _++_};
 ghost use Prim.Native.Nat.{ℕ, _+_, _-_, _*_, _≤_};
@@ -8,8 +8,10 @@ ghost use lib.Seq.{sets};
 ghost use Rattle.bits.specs.Pick.{pick};
 ghost use Rattle.bounds.specs.Bounds.{inBounds};
 ghost use Rattle.usbhost.specs.Calls.{unless, sendingLength, midiSent, serialSent, given, givenRing, giveNumber, takenFrame, takeNumber, deviceRead, deviceWritten, writtenPage, accessNumber};
-ghost use Rattle.usbhost.specs.Promises.{bare, MidiPromise, SerialPromise, GivePromise, TakePromise, ReadPromise, WritePromise};
-ghost use Rattle.usbhost.specs.Frame.{lengthsOk, boundsOk};
+ghost use Rattle.usbhost.specs.Promises.{bare, MidiPromise, SerialPromise, GivePromise, TakePromise, ReadPromise, WritePromise, FramePromise};
+ghost use Rattle.usbhost.specs.Frame.{lengthsOk, boundsOk, frameNumber, lent, lentIn, framed, frameAnswer};
+ghost use Rattle.bus.specs.Memory.{shown};
+ghost use Rattle.record.specs.Record.{withAnswer};
 ghost use Rattle.record.specs.declared.Settings.{Settings as Record·Settings};
 ghost use Rattle.usbhost.specs.Host.{stateOf, hostOf, noSettings, newHost, created, isStream};
 use gptimers::Timer;
@@ -70,6 +72,15 @@ pub struct Taken {
 pub struct Read {
     pub refusal: u8,
     pub value: u32,
+    pub host: Host,
+}
+
+// A microframe: 0 or the number of its refusal, how many MIDI or serial bytes stand in the receive area, the bytes that no window took, and
+// the next record.
+pub struct Framed {
+    pub refusal: u8,
+    pub received: usize,
+    pub dropped: u64,
     pub host: Host,
 }
 
@@ -516,6 +527,120 @@ fn frame_bounds(
     bounded & (areas & (heard & sent))
 }
 
+// Numbers 1, 2, 3, 5 and 6 of a microframe, or 0.
+fn microframe_number(
+    s: State,
+    spans: usize,
+    p: Packer,
+    setups: &[u8; 2056],
+    dynamic: &[u8],
+    sram: &[u8],
+    page: &[u8],
+    reply: &[u8],
+    config: &[u8],
+    receive: &[u8],
+    received: &[u32],
+    sending: &[u32],
+) -> u8
+    ensures { λ r. ⌜ r ≡ frameNumber (bare s spans p (now (setups .entry))) (lent (shown (dynamic .entry) (sram .entry) (page .entry)) (now (reply .entry)) (now (config .entry)) (now (receive .entry)) (now (received .entry)) (now (sending .entry))) ⌝ }
+{
+    let sized = bus::sized(dynamic, sram, page);
+    let lengths = lengths_ok(
+        reply.len(),
+        config.len(),
+        receive.len(),
+        received.len(),
+        sending.len(),
+    );
+    let bounded = frame_bounds(s, p, setups, reply.len(), config.len(), sending.len());
+    frame_number(
+        sized,
+        lengths,
+        spans <= 16,
+        bounded,
+        s.port.uf < 1_099_511_627_776,
+    )
+}
+
+// The state with nothing received and nothing dropped yet.
+fn unanswered(s: State) -> State
+    ensures { λ r. ⌜ r ≡ withAnswer s (record { received = 0; dropped = 0 }) ⌝ }
+{
+    let none = Answer {
+        received: 0,
+        dropped: 0,
+    };
+    let mut next = s;
+    next.answer = none;
+    next
+}
+
+// One microframe of 125 microseconds at a time; the answer is in the state.
+pub fn run_microframe(
+    s: State,
+    c: Settings,
+    p: Packer,
+    setups: &mut [u8; 2056],
+    midi: &mut [u8; 4096],
+    serial: &mut [u8; 4096],
+    device: &mut [u8; 64],
+    dynamic: &mut [u8],
+    sram: &mut [u8],
+    page: &mut [u8],
+    reply: &mut [u8],
+    config: &mut [u8],
+    receive: &mut [u8],
+    received: &mut [u32],
+    sending: &[u32],
+    time: u64,
+) -> Stored
+    ensures { λ r. ⌜ FramePromise time (hostOf s c p (now (setups .entry)) (now (midi .entry)) (now (serial .entry)) (now (device .entry))) (lent (shown (dynamic .entry) (sram .entry) (page .entry)) (now (reply .entry)) (now (config .entry)) (now (receive .entry)) (now (received .entry)) (now (sending .entry))) r (now (setups .exit)) (now (midi .exit)) (now (serial .exit)) (now (device .exit)) (lent (shown (dynamic .exit) (sram .exit) (page .exit)) (now (reply .exit)) (now (config .exit)) (now (receive .exit)) (now (received .exit)) (now (sending .entry))) ⌝ }
+{
+    let spans = c.spans;
+    let fresh = unanswered(s);
+    let number = microframe_number(
+        fresh,
+        spans,
+        p,
+        &*setups,
+        &*dynamic,
+        &*sram,
+        &*page,
+        &*reply,
+        &*config,
+        &*receive,
+        &*received,
+        sending,
+    );
+    if number != 0 {
+        return Stored {
+            refusal: number,
+            state: fresh,
+        };
+    }
+    let next = frames::microframe(
+        fresh,
+        c,
+        setups,
+        midi,
+        serial,
+        device,
+        dynamic,
+        sram,
+        page,
+        reply,
+        config,
+        receive,
+        received,
+        sending,
+        time,
+    );
+    Stored {
+        refusal: 0,
+        state: next,
+    }
+}
+
 // Takes the oldest frame from the received ring, or finds it empty.
 pub fn take_frame(
     s: State,
@@ -705,6 +830,56 @@ impl Host {
         let serial = self.serial;
         let device = self.device;
         host_of(s, settings, packer, setups, midi, serial, device)
+    }
+
+    // One microframe of 125 microseconds at a time.
+    pub fn microframe(
+        self,
+        time: u64,
+        dynamic: &mut [u8],
+        sram: &mut [u8],
+        page: &mut [u8],
+        reply: &mut [u8],
+        config: &mut [u8],
+        receive: &mut [u8],
+        received: &mut [u32],
+        sending: &[u32],
+    ) -> Framed
+        ensures { λ r. ⌜ (r ≡ frameAnswer time self (lent (shown (dynamic .entry) (sram .entry) (page .entry)) (now (reply .entry)) (now (config .entry)) (now (receive .entry)) (now (received .entry)) (now (sending .entry)))) × (lent (shown (dynamic .exit) (sram .exit) (page .exit)) (now (reply .exit)) (now (config .exit)) (now (receive .exit)) (now (received .exit)) (now (sending .entry)) ≡ lentIn (framed time self (lent (shown (dynamic .entry) (sram .entry) (page .entry)) (now (reply .entry)) (now (config .entry)) (now (receive .entry)) (now (received .entry)) (now (sending .entry))))) ⌝ }
+    {
+        let s = self.state();
+        let settings = self.settings;
+        let p = self.packer;
+        let mut setups = self.setups;
+        let mut midi = self.midi;
+        let mut serial = self.serial;
+        let mut device = self.device;
+        let done = run_microframe(
+            s,
+            settings,
+            p,
+            &mut setups,
+            &mut midi,
+            &mut serial,
+            &mut device,
+            dynamic,
+            sram,
+            page,
+            reply,
+            config,
+            receive,
+            received,
+            sending,
+            time,
+        );
+        let state = done.state;
+        let answer = state.answer;
+        Framed {
+            refusal: done.refusal,
+            received: answer.received,
+            dropped: answer.dropped,
+            host: host_of(state, settings, p, setups, midi, serial, device),
+        }
     }
 
     // Sends MIDI bytes to the device.
