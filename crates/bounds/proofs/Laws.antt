@@ -1,6 +1,6 @@
 -- Facts on the tests of the bounds.
 use Prim.Native.Nat.{ℕ, zero, suc, _+_, _-_, _*_, _^_, _<_, _≤_}
-use mathlib.Core.Bool.{Bool, true, false, _&&_}
+use mathlib.Core.Bool.{Bool, true, false, _&&_, _||_}
 use mathlib.Core.List.{List}
 use mathlib.Core.Path.{_≡_, refl, sym, ap, ap₂, _∙_}
 use native.Mathlib.Numerals.{add-one}
@@ -23,3 +23,8 @@ made-more q n = rw add-one refl
 pub asks-more : (q : List ℕ) (n : ℕ) → (noneAsks q n && other q n) ≡ noneAsks q (n + 1)
 unfolding noneAsks
 asks-more q n = rw add-one refl
+
+-- a test or one that holds
+pub or-true : (b : Bool) → (b || true) ≡ true
+or-true true = refl
+or-true false = refl

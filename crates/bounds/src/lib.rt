@@ -144,10 +144,13 @@ pub fn enumerating_ok(s: State) -> bool
 pub fn request_ok(c: Control, waiting: usize, uf: u64) -> bool
     ensures { λ r. ⌜ r ≡ B.requestOk c waiting uf ⌝ }
 {
+    if !c.on {
+        return true;
+    }
     let known = made(c.first, c.second);
     let alone = !(c.first == ASKS_CONFIGURATION) | (waiting == 0);
     let asked = (c.second / 0x1_0000) as usize;
-    !c.on | (known & (alone & ((c.t0 <= uf) & (c.got <= asked))))
+    known & (alone & ((c.t0 <= uf) & (c.got <= asked)))
 }
 
 // The queues and the device descriptor.
@@ -161,8 +164,11 @@ pub fn queues_ok(l: Lengths) -> bool
 pub fn packer_ok(p: Packer) -> bool
     ensures { λ r. ⌜ r ≡ B.packerOk p ⌝ }
 {
+    if p.held == 0 {
+        return true;
+    }
     let two = midi::message_length(p.status) == 2;
-    (p.held <= 2) & (p.sysex | ((p.held == 0) | !two))
+    (p.held <= 2) & (p.sysex | !two)
 }
 
 // The two microframe counts and the phase's start.
@@ -211,8 +217,11 @@ pub fn credit_ok(credit: u64, n: u64) -> bool
 pub fn timer_ok(t: Timer, n: u64) -> bool
     ensures { λ r. ⌜ r ≡ B.timerOk t n ⌝ }
 {
+    if !t.set {
+        return true;
+    }
     let least = ZERO - 125 * at_most(n);
-    !t.set | ((least <= t.count) & (t.count <= 0x4_0000_0100_0000))
+    (least <= t.count) & (t.count <= 0x4_0000_0100_0000)
 }
 
 // Both timers.

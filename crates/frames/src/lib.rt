@@ -1,9 +1,10 @@
 // The chain of a microframe's steps over parts: each function makes one step, and stops or goes on.
+ghost use mathlib.Core.Path.{_≡_};
 ghost use Prim.Native.Nat.{_≤_};
 ghost use lib.ListN.{length};
 ghost use Rattle.bus.specs.Memory.{shown};
 ghost use Rattle.bus.specs.Sized.{Sized};
-ghost use Rattle.model.specs.Phases.{within};
+ghost use Rattle.model.specs.Phases.{within, anySpan};
 ghost use Rattle.model.specs.Microframe as M;
 ghost use Rattle.frames.specs.Promises as P;
 use record::Phase;
@@ -216,6 +217,18 @@ fn after_gone(
     )
 }
 
+// Whether the host is gone at a time; the table is read only where it has spans.
+fn in_gone(c: Settings, time: u64) -> bool
+    requires { ⌜ c .spans ≤ 16 ⌝ }
+    ensures { λ r. ⌜ r ≡ anySpan (c .gone) 0 (c .spans) time ⌝ }
+{
+    if c.spans == 0 {
+        return false;
+    }
+    let table = c.gone;
+    phases::any_span(&table, c.spans, time)
+}
+
 // One microframe of 125 microseconds at a time.
 pub fn microframe(
     s: State,
@@ -240,8 +253,7 @@ pub fn microframe(
     ensures { λ r. ⌜ P.Frame time c s (shown (dynamic .entry) (sram .entry) (page .entry)) (P.areas (now (setups .entry)) (now (midi .entry)) (now (serial .entry)) (now (device .entry)) (now (reply .entry)) (now (config .entry)) (now (receive .entry)) (now (received .entry))) (now (sending .entry)) r (shown (dynamic .exit) (sram .exit) (page .exit)) (P.areas (now (setups .exit)) (now (midi .exit)) (now (serial .exit)) (now (device .exit)) (now (reply .exit)) (now (config .exit)) (now (receive .exit)) (now (received .exit))) ⌝ }
 {
     let running = bits::any(bus::word_at(&*page, USBCMD), 1);
-    let table = c.gone;
-    let gone = phases::any_span(&table, c.spans, time);
+    let gone = in_gone(c, time);
     let next = framing::opened(s, c, page, gone);
     after_gone(
         next,

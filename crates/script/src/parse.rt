@@ -1,5 +1,5 @@
 // The words of a line: numbers and byte strings in lower-case hexadecimal.
-ghost use Prim.Native.Nat.{_/_, _≤_};
+ghost use Prim.Native.Nat.{_+_, _*_, _/_, _≤_};
 ghost use lib.ListN.{length};
 
 // A number behind a space: whether one stands there, and the place behind it.
@@ -165,6 +165,63 @@ pub fn read_bytes(text: &[u8], at: usize, into: &mut [u8]) -> Bytes
         }
     }
     no_bytes(false)
+}
+
+// A byte string at the end of a line, checked where it stands: where its digits begin, and how many bytes it has.
+pub struct Text {
+    pub good: bool,
+    pub start: usize,
+    pub count: usize,
+}
+
+// Whether all that stands from `start` on is digits.
+fn all_digits(text: &[u8], start: usize) -> bool {
+    let mut i = start;
+    while i < text.len() {
+        if digit(text[i]) == 16 {
+            return false;
+        }
+        i += 1;
+    }
+    true
+}
+
+// A space and a byte string, which ends the line.
+pub fn find_bytes(text: &[u8], at: usize) -> Text
+    ensures { λ r. ⌜ r .start + 2 * r .count ≤ length (now (text .entry)) ⌝ }
+{
+    if text.len() <= at {
+        return Text {
+            good: false,
+            start: 0,
+            count: 0,
+        };
+    }
+    let start = at + 1;
+    let spaced = text[at] == b' ';
+    if is_dash(text, start) {
+        return Text {
+            good: spaced,
+            start: 0,
+            count: 0,
+        };
+    }
+    let left = text.len() - start;
+    let good = spaced & ((left != 0) & ((left % 2 == 0) & all_digits(text, start)));
+    Text {
+        good,
+        start,
+        count: left / 2,
+    }
+}
+
+// The byte whose two digits stand from `i` on.
+pub fn byte_at(text: &[u8], i: usize) -> u8
+    requires { ⌜ i + 2 ≤ length (now text) ⌝ }
+{
+    let high = digit(text[i]) % 16;
+    let low = digit(text[i + 1]) % 16;
+    high * 16 + low
 }
 
 // Whether one dash is all that stands from `start` on: no bytes.

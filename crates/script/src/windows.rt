@@ -14,17 +14,78 @@ pub fn clear(bytes: &mut [u8]) {
     }
 }
 
-// The first `count` bytes from the address `a` on; those outside the windows are dropped.
-fn store(dynamic: &mut [u8], sram: &mut [u8], page: &mut [u8], a: u32, bytes: &[u8], count: usize)
-    requires { ⌜ count ≤ length (now bytes) ⌝ }
+// The bytes whose digits stand from `start` on, at a place in a window.
+fn put_pairs(window: &mut [u8], place: usize, line: &[u8], start: usize, count: usize)
+    requires { ⌜ (place + count ≤ length (now window)) × (start + 2 * count ≤ length (now line)) ⌝ }
+{
+    let mut i = 0;
+    while i < count {
+        window[place + i] = parse::byte_at(line, start + 2 * i);
+        i += 1;
+    }
+}
+
+// The same at the address `a`, byte by byte; those outside the windows are dropped.
+fn poke_pairs(
+    dynamic: &mut [u8],
+    sram: &mut [u8],
+    page: &mut [u8],
+    a: u32,
+    line: &[u8],
+    start: usize,
+    count: usize,
+)
+    requires { ⌜ start + 2 * count ≤ length (now line) ⌝ }
 {
     let mut address = a;
     let mut i = 0;
     while i < count {
-        bus::checked_poke8(dynamic, sram, page, address, bytes[i]);
+        bus::checked_poke8(
+            dynamic,
+            sram,
+            page,
+            address,
+            parse::byte_at(line, start + 2 * i),
+        );
         address = wrapping_add_u32(address, 1);
         i += 1;
     }
+}
+
+// The same; bytes that lie together in dynamic memory or on the page are put there at once. Windows of wrong lengths keep theirs.
+fn store(
+    dynamic: &mut [u8],
+    sram: &mut [u8],
+    page: &mut [u8],
+    a: u32,
+    line: &[u8],
+    start: usize,
+    count: usize,
+)
+    requires { ⌜ start + 2 * count ≤ length (now line) ⌝ }
+{
+    if !bus::sized(&*dynamic, &*sram, &*page) {
+        return;
+    }
+    if 0x4000_0000 <= a {
+        let place = (a - 0x4000_0000) as usize;
+        if place < dynamic.len() {
+            if count <= dynamic.len() - place {
+                put_pairs(dynamic, place, line, start, count);
+                return;
+            }
+        }
+    }
+    if 0xFC0B_0000 <= a {
+        let place = (a - 0xFC0B_0000) as usize;
+        if place < page.len() {
+            if count <= page.len() - place {
+                put_pairs(page, place, line, start, count);
+                return;
+            }
+        }
+    }
+    poke_pairs(dynamic, sram, page, a, line, start, count);
 }
 
 // `count` bytes of one value from the address `a` on.
@@ -80,11 +141,10 @@ pub fn write_line(
     requires { ⌜ at ≤ 40000 ⌝ }
     ensures { λ r. ⌜ r ≤ 65536 ⌝ }
 {
-    let mut bytes = [0u8; 8192];
     let a = parse::read_word(line, 1);
-    let got = parse::read_bytes(line, a.next, &mut bytes);
+    let got = parse::find_bytes(line, a.next);
     if a.good & got.good {
-        store(dynamic, sram, page, a.value, &bytes, got.count);
+        store(dynamic, sram, page, a.value, line, got.start, got.count);
         return at;
     }
     text::bad_line(out, at)
