@@ -1,0 +1,581 @@
+// The state of a run, and the calls that a line makes beside microframes.
+// An answer has at most 16,387 bytes, so that one that starts at 40,000 or before is inside the output's buffer.
+ghost use Prim.Native.Nat.{_+_, _*_, _≤_, _<_};
+ghost use lib.ListN.{length};
+use crate::log;
+use crate::log::Came;
+use crate::turns;
+use midi::Packer;
+use record::Settings;
+use record::State;
+use script::hash;
+use script::parse;
+use script::text;
+use script::windows;
+
+// What a run holds beside its areas: `length` bytes of dynamic memory, `space` frames of the sending ring, the microframes that are still asked
+// for, how many calls were refused and bytes dropped, and what came in all. A run that is not live passes over its lines; behind a bad line all
+// lines are passed over. A run that goes `through` stays live where a byte was dropped.
+pub struct Run {
+    pub number: u64,
+    pub live: bool,
+    pub stopped: bool,
+    pub through: bool,
+    pub mode: u8,
+    pub length: usize,
+    pub space: usize,
+    pub left: u64,
+    pub time: u64,
+    pub step: u64,
+    pub refused: u64,
+    pub dropped: u64,
+    pub settings: Settings,
+    pub state: State,
+    pub packer: Packer,
+    pub all: Came,
+}
+
+// The run after a line, and where the output's answers end.
+pub struct Next {
+    pub run: Run,
+    pub at: usize,
+}
+
+// A run's state at its start.
+pub fn fresh(
+    number: u64,
+    live: bool,
+    through: bool,
+    length: usize,
+    space: usize,
+    settings: Settings,
+) -> Run {
+    Run {
+        number,
+        live,
+        stopped: false,
+        through,
+        mode: 1,
+        length,
+        space,
+        left: 0,
+        time: 0,
+        step: 0,
+        refused: 0,
+        dropped: 0,
+        settings,
+        state: usbhost::new_state(),
+        packer: Packer::new(),
+        all: log::nothing_came(),
+    }
+}
+
+// The words of a ring of `space` frames, or of all that fit in `most` words.
+pub fn ring_words(space: usize, most: usize) -> usize
+    ensures { λ r. ⌜ r ≤ most ⌝ }
+{
+    log::at_most(space, most / 12) * 12
+}
+
+fn with_state(run: Run, state: State) -> Run {
+    let mut next = run;
+    next.state = state;
+    next
+}
+
+pub fn bad(run: Run, out: &mut [u8; 65536], at: usize) -> Next
+    requires { ⌜ at ≤ 40000 ⌝ }
+    ensures { λ r. ⌜ r .at ≤ 65536 ⌝ }
+{
+    let mut next = run;
+    next.stopped = true;
+    let end = text::bad_line(out, at);
+    Next { run: next, at: end }
+}
+
+// What a call of a part answers: its refusal or `ok`.
+fn stored(run: Run, state: State, refusal: u8, out: &mut [u8; 65536], at: usize) -> Next
+    requires { ⌜ at ≤ 40000 ⌝ }
+    ensures { λ r. ⌜ r .at ≤ 65536 ⌝ }
+{
+    let end = text::outcome(out, at, refusal);
+    let refused = turns::counted(run.refused, refusal);
+    let mut next = with_state(run, state);
+    next.refused = refused;
+    Next { run: next, at: end }
+}
+
+// `h M`: what a microframe logs.
+fn set_mode(run: Run, line: &[u8], out: &mut [u8; 65536], at: usize) -> Next
+    requires { ⌜ at ≤ 40000 ⌝ }
+    ensures { λ r. ⌜ r .at ≤ 65536 ⌝ }
+{
+    let mode = parse::read_word(line, 1);
+    let value = mode.value;
+    if mode.good & ((mode.next == line.len()) & (value <= 2)) {
+        let mut next = run;
+        next.mode = (value % 256) as u8;
+        return Next { run: next, at };
+    }
+    bad(run, out, at)
+}
+
+// `r SIZE OFF`: a device read.
+fn device_read(
+    run: Run,
+    line: &[u8],
+    setups: &[u8; 2056],
+    page: &[u8],
+    out: &mut [u8; 65536],
+    at: usize,
+) -> Next
+    requires { ⌜ at ≤ 40000 ⌝ }
+    ensures { λ r. ⌜ r .at ≤ 65536 ⌝ }
+{
+    let size = parse::read_word(line, 1);
+    let off = parse::read_word(line, size.next);
+    if size.good & (off.good & (off.next == line.len())) {
+        let read = usbhost::read_device(
+            run.state,
+            run.settings.spans,
+            run.packer,
+            setups,
+            page,
+            off.value,
+            size.value,
+        );
+        if read.refusal != 0 {
+            let state = run.state;
+            return stored(run, state, read.refusal, out, at);
+        }
+        let end = text::single(out, at, b'r', read.value as u64);
+        return Next { run, at: end };
+    }
+    bad(run, out, at)
+}
+
+// `d SIZE OFF VALUE`: a device write.
+fn device_write(
+    run: Run,
+    line: &[u8],
+    setups: &[u8; 2056],
+    page: &mut [u8],
+    out: &mut [u8; 65536],
+    at: usize,
+) -> Next
+    requires { ⌜ at ≤ 40000 ⌝ }
+    ensures { λ r. ⌜ r .at ≤ 65536 ⌝ }
+{
+    let size = parse::read_word(line, 1);
+    let off = parse::read_word(line, size.next);
+    let value = parse::read_word(line, off.next);
+    if size.good & (off.good & (value.good & (value.next == line.len()))) {
+        let written = usbhost::write_device(
+            run.state,
+            run.settings.spans,
+            run.packer,
+            setups,
+            page,
+            off.value,
+            size.value,
+            value.value,
+        );
+        return stored(run, written.state, written.refusal, out, at);
+    }
+    bad(run, out, at)
+}
+
+// The run after a line through the windows, of whose answers only `bad line` begins with a b.
+fn reached(run: Run, out: &[u8; 65536], at: usize, end: usize) -> Next
+    requires { ⌜ (at ≤ 40000) × (end ≤ 65536) ⌝ }
+    ensures { λ r. ⌜ r .at ≤ 65536 ⌝ }
+{
+    let mut next = run;
+    if at < end {
+        next.stopped = out[at] == b'b';
+    }
+    Next { run: next, at: end }
+}
+
+// `w`, `f` and `p`: lines through the windows; dynamic memory is as long as the run's.
+fn reach(
+    run: Run,
+    line: &[u8],
+    dynamic: &mut [u8],
+    sram: &mut [u8],
+    page: &mut [u8],
+    out: &mut [u8; 65536],
+    at: usize,
+) -> Next
+    requires { ⌜ at ≤ 40000 ⌝ }
+    ensures { λ r. ⌜ r .at ≤ 65536 ⌝ }
+{
+    let letter = parse::letter(line);
+    if letter == b'w' {
+        let end = windows::write_line(line, dynamic, sram, page, out, at);
+        return reached(run, out, at, end);
+    }
+    if letter == b'f' {
+        let end = windows::fill_line(line, dynamic, sram, page, out, at);
+        return reached(run, out, at, end);
+    }
+    if letter == b'p' {
+        let end = windows::look_line(line, dynamic, sram, page, out, at);
+        return reached(run, out, at, end);
+    }
+    bad(run, out, at)
+}
+
+// A line on memory, registers or the log, or a bad one.
+pub fn access(
+    run: Run,
+    line: &[u8],
+    setups: &[u8; 2056],
+    dynamic: &mut [u8],
+    sram: &mut [u8],
+    page: &mut [u8],
+    out: &mut [u8; 65536],
+    at: usize,
+) -> Next
+    requires { ⌜ at ≤ 40000 ⌝ }
+    ensures { λ r. ⌜ r .at ≤ 65536 ⌝ }
+{
+    let letter = parse::letter(line);
+    if letter == b'h' {
+        return set_mode(run, line, out, at);
+    }
+    if letter == b'r' {
+        return device_read(run, line, setups, page, out, at);
+    }
+    if letter == b'd' {
+        return device_write(run, line, setups, page, out, at);
+    }
+    let length = log::at_most(run.length, dynamic.len());
+    reach(run, line, &mut dynamic[..length], sram, page, out, at)
+}
+
+// The first `count` bytes of a buffer for the MIDI queue.
+fn midi_queue(
+    run: Run,
+    bytes: &[u8],
+    count: usize,
+    setups: &[u8; 2056],
+    midi: &mut [u8; 4096],
+    out: &mut [u8; 65536],
+    at: usize,
+) -> Next
+    requires { ⌜ (at ≤ 40000) × (count ≤ length (now bytes)) ⌝ }
+    ensures { λ r. ⌜ r .at ≤ 65536 ⌝ }
+{
+    let sent = usbhost::send_midi(
+        run.state,
+        run.settings.spans,
+        run.packer,
+        &bytes[..count],
+        setups,
+        midi,
+    );
+    let packer = sent.packer;
+    let mut next = run;
+    next.packer = packer;
+    stored(next, sent.state, sent.refusal, out, at)
+}
+
+// `m BYTES`: a MIDI send.
+fn midi_send(
+    run: Run,
+    line: &[u8],
+    setups: &[u8; 2056],
+    midi: &mut [u8; 4096],
+    bytes: &mut [u8; 8192],
+    out: &mut [u8; 65536],
+    at: usize,
+) -> Next
+    requires { ⌜ at ≤ 40000 ⌝ }
+    ensures { λ r. ⌜ r .at ≤ 65536 ⌝ }
+{
+    let got = parse::read_bytes(line, 1, bytes);
+    if got.good {
+        return midi_queue(run, &*bytes, got.count, setups, midi, out, at);
+    }
+    bad(run, out, at)
+}
+
+// The first `count` bytes of a buffer for the serial queue.
+fn serial_queue(
+    run: Run,
+    bytes: &[u8],
+    count: usize,
+    setups: &[u8; 2056],
+    serial: &mut [u8; 4096],
+    out: &mut [u8; 65536],
+    at: usize,
+) -> Next
+    requires { ⌜ (at ≤ 40000) × (count ≤ length (now bytes)) ⌝ }
+    ensures { λ r. ⌜ r .at ≤ 65536 ⌝ }
+{
+    let sent = usbhost::send_serial(
+        run.state,
+        run.settings.spans,
+        run.packer,
+        &bytes[..count],
+        setups,
+        serial,
+    );
+    stored(run, sent.state, sent.refusal, out, at)
+}
+
+// `s BYTES`: a serial send.
+fn serial_send(
+    run: Run,
+    line: &[u8],
+    setups: &[u8; 2056],
+    serial: &mut [u8; 4096],
+    bytes: &mut [u8; 8192],
+    out: &mut [u8; 65536],
+    at: usize,
+) -> Next
+    requires { ⌜ at ≤ 40000 ⌝ }
+    ensures { λ r. ⌜ r .at ≤ 65536 ⌝ }
+{
+    let got = parse::read_bytes(line, 1, bytes);
+    if got.good {
+        return serial_queue(run, &*bytes, got.count, setups, serial, out, at);
+    }
+    bad(run, out, at)
+}
+
+// Twelve words at the end of a line, and whether they stand there.
+struct Frame {
+    good: bool,
+    words: [u32; 12],
+}
+
+fn read_frame(line: &[u8]) -> Frame {
+    let mut words = [0u32; 12];
+    let mut good = true;
+    let mut next = 1;
+    let mut i = 0;
+    while i < 12 {
+        let word = parse::read_word(line, next);
+        good = good & word.good;
+        words[i] = word.value;
+        next = word.next;
+        i += 1;
+    }
+    Frame {
+        good: good & (next == line.len()),
+        words,
+    }
+}
+
+// `g W0 .. W11`: a frame given.
+fn frame_give(
+    run: Run,
+    line: &[u8],
+    setups: &[u8; 2056],
+    sending: &mut [u32],
+    out: &mut [u8; 65536],
+    at: usize,
+) -> Next
+    requires { ⌜ at ≤ 40000 ⌝ }
+    ensures { λ r. ⌜ r .at ≤ 65536 ⌝ }
+{
+    let frame = read_frame(line);
+    if frame.good {
+        let words = frame.words;
+        let space = ring_words(run.space, sending.len());
+        let given = usbhost::give_frame(
+            run.state,
+            run.settings.spans,
+            run.packer,
+            &words,
+            setups,
+            &mut sending[..space],
+        );
+        return stored(run, given.state, given.refusal, out, at);
+    }
+    bad(run, out, at)
+}
+
+fn show_frame(words: [u32; 12], out: &mut [u8; 65536], at: usize) -> usize
+    requires { ⌜ at ≤ 40000 ⌝ }
+    ensures { λ r. ⌜ r ≤ 65536 ⌝ }
+{
+    let mut end = text::put(out, at, b't');
+    let mut i = 0;
+    while i < 12 {
+        end = text::field(out, end, words[i] as u64);
+        i += 1;
+    }
+    text::put(out, end, b'\n')
+}
+
+// `t`: a frame taken.
+fn frame_take(
+    run: Run,
+    setups: &[u8; 2056],
+    received: &[u32],
+    out: &mut [u8; 65536],
+    at: usize,
+) -> Next
+    requires { ⌜ at ≤ 40000 ⌝ }
+    ensures { λ r. ⌜ r .at ≤ 65536 ⌝ }
+{
+    let taken = usbhost::take_frame(run.state, run.settings.spans, run.packer, setups, received);
+    if taken.empty {
+        let end = text::append(out, at, b"t empty\n");
+        return Next { run, at: end };
+    }
+    let words = taken.frame;
+    let end = show_frame(words, out, at);
+    Next {
+        run: with_state(run, taken.state),
+        at: end,
+    }
+}
+
+// Frames taken: how many, and the hash of their words.
+struct Drained {
+    state: State,
+    count: u64,
+    hash: u64,
+}
+
+// One frame more, unless there is none.
+fn drain_one(
+    before: Drained,
+    spans: usize,
+    packer: Packer,
+    setups: &[u8; 2056],
+    received: &[u32],
+) -> Drained {
+    let taken = usbhost::take_frame(before.state, spans, packer, setups, received);
+    if taken.empty {
+        return before;
+    }
+    let state = taken.state;
+    let words = taken.frame;
+    Drained {
+        state,
+        count: std::num::wrapping_add_u64(before.count, 1),
+        hash: log::mixed_frame(before.hash, &words, 0),
+    }
+}
+
+// Up to `most` frames, until the ring is empty.
+fn drain(
+    state: State,
+    spans: usize,
+    packer: Packer,
+    setups: &[u8; 2056],
+    received: &[u32],
+    most: u64,
+) -> Drained {
+    let audio = state.audio;
+    let ring = audio.received;
+    let held = ring.len as u64;
+    let mut left = if most < held { most } else { held };
+    let mut drained = Drained {
+        state,
+        count: 0,
+        hash: hash::START,
+    };
+    while left > 0 {
+        drained = drain_one(drained, spans, packer, setups, received);
+        left -= 1;
+    }
+    drained
+}
+
+// `T COUNT`: up to that many frames taken.
+fn frames_take(
+    run: Run,
+    line: &[u8],
+    setups: &[u8; 2056],
+    received: &[u32],
+    out: &mut [u8; 65536],
+    at: usize,
+) -> Next
+    requires { ⌜ at ≤ 40000 ⌝ }
+    ensures { λ r. ⌜ r .at ≤ 65536 ⌝ }
+{
+    let most = parse::read_number(line, 1);
+    if most.good & (most.next == line.len()) {
+        let drained = drain(
+            run.state,
+            run.settings.spans,
+            run.packer,
+            setups,
+            received,
+            most.value,
+        );
+        let mut end = text::put(out, at, b'T');
+        end = text::field(out, end, drained.count);
+        end = text::field(out, end, drained.hash);
+        end = text::put(out, end, b'\n');
+        return Next {
+            run: with_state(run, drained.state),
+            at: end,
+        };
+    }
+    bad(run, out, at)
+}
+
+// A line that takes frames, or a bad one.
+fn take(
+    run: Run,
+    line: &[u8],
+    setups: &[u8; 2056],
+    received: &[u32],
+    out: &mut [u8; 65536],
+    at: usize,
+) -> Next
+    requires { ⌜ at ≤ 40000 ⌝ }
+    ensures { λ r. ⌜ r .at ≤ 65536 ⌝ }
+{
+    if parse::letter(line) == b'T' {
+        return frames_take(run, line, setups, received, out, at);
+    }
+    if line.len() == 1 {
+        return frame_take(run, setups, received, out, at);
+    }
+    bad(run, out, at)
+}
+
+// A line on the queues and the rings: m, s, g, t and T.
+pub fn queue(
+    run: Run,
+    line: &[u8],
+    setups: &[u8; 2056],
+    midi: &mut [u8; 4096],
+    serial: &mut [u8; 4096],
+    received: &[u32],
+    sending: &mut [u32],
+    bytes: &mut [u8; 8192],
+    out: &mut [u8; 65536],
+    at: usize,
+) -> Next
+    requires { ⌜ at ≤ 40000 ⌝ }
+    ensures { λ r. ⌜ r .at ≤ 65536 ⌝ }
+{
+    let letter = parse::letter(line);
+    if letter == b'm' {
+        return midi_send(run, line, setups, midi, bytes, out, at);
+    }
+    if letter == b's' {
+        return serial_send(run, line, setups, serial, bytes, out, at);
+    }
+    if letter == b'g' {
+        return frame_give(run, line, setups, sending, out, at);
+    }
+    take(run, line, setups, received, out, at)
+}
+
+// Whether a line is one of those.
+pub fn is_queue(letter: u8) -> bool {
+    match letter {
+        b'm' | b's' | b'g' | b't' | b'T' => true,
+        _ => false,
+    }
+}
