@@ -7,6 +7,7 @@ use native.Mathlib.Omega.{arith}
 use lib.ListN.{length, drop}
 use Rattle.bits.specs.Pick.{pick}
 use Rattle.bits.specs.Word.{any}
+use Rattle.bits.proofs.Tests.{false-true}
 use Rattle.bus.specs.Memory.{Memory}
 use Rattle.bus.specs.Steps.{exec, andThen, replay, replay-append, exec-then}
 use borrow.Author.Tests.{ne-eqb}
@@ -282,3 +283,22 @@ module _ (tok total count held : ℕ) (is-total : total ≡ totalOf tok) (is-cou
 -- no more bytes are lost than are sent
 pub lost-few : (ps bs : List ℕ) (n : ℕ) (b : Bus) {lost : ℕ} → lost ≡ droppedBy (sending ps bs n b) → lost ≤ n
 lost-few ps bs n b e = omega (arith, e, sending-dropped ps bs n b, dropped-le ps n)
+
+-- an endpoint that is not ready reads nothing and retires nothing
+pub record Idles (r : Run) : Type 0 where
+  pub bytes : r .bytes ≡ []
+  pub retired : r .retired ≡ 0
+
+pub idle-run : (e : Endpoint) (bs : List ℕ) (b : Bus) → most e ≡ 1 → (primed e (b .memory .page) && nextActive e (b .memory)) ≡ false → Idles (runDtds e bs b)
+unfolding settled
+idle-run e bs b one h = by-prime (primed e (b .memory .page)) refl
+  where
+    by-active : primed e (b .memory .page) ≡ true → (a : Bool) → nextActive e (b .memory) ≡ a → Idles (runDtds e bs b)
+    by-active p true q = absurd (false-true (sym h ∙ ap₂ _&&_ p q))
+    by-active p false q =
+        record { bytes = ap (λ (r : Run). r .bytes) (run-ended e bs b one p q); retired = ap (λ (r : Run). r .retired) (run-ended e bs b one p q) }
+
+    by-prime : (a : Bool) → primed e (b .memory .page) ≡ a → Idles (runDtds e bs b)
+    by-prime true p = by-active p (nextActive e (b .memory)) refl
+    by-prime false p =
+        record { bytes = ap (λ (r : Run). r .bytes) (run-unprimed e bs b p); retired = ap (λ (r : Run). r .retired) (run-unprimed e bs b p) }

@@ -6,7 +6,7 @@ use native.Mathlib.Omega.{arith}
 use borrow.Author.Tests.{leb-true, eqb-true}
 use lib.Dec.{eqb, leb, ltb}
 use Rattle.bits.specs.Pick.{pick}
-use Rattle.model.proofs.Placed.{and-first, and-second}
+use Rattle.bits.proofs.Tests.{and-first, and-second}
 use Rattle.bounds.specs.Bounds.{MOST, times, askedOk, heldOk, countsOk, countersOk, creditOk, timersOk, audioOk, inBounds}
 use Rattle.usbhost.specs.declared.Host.{Host}
 use Rattle.usbhost.specs.Host.{stateOf}

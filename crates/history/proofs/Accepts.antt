@@ -17,7 +17,7 @@ use Rattle.config.specs.Config.{Bytes}
 use Rattle.record.specs.declared.Settings.{Settings}
 use Rattle.record.specs.Change.{WORDS, left}
 use Rattle.model.specs.Microframe as M
-use Rattle.model.proofs.Placed.{and-first, and-second}
+use Rattle.bits.proofs.Tests.{and-first, and-second}
 use Rattle.bounds.specs.Bounds.{MOST, receivedOk, sendingOk}
 use Rattle.kept.proofs.Shape.{Shape, shape-kept}
 use Rattle.kept.proofs.Setups.{Entry}

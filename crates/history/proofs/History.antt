@@ -16,7 +16,7 @@ use Rattle.model.specs.Microframe as M
 use Rattle.model.specs.Microframe.{rsSet, goneAt, asleepAt}
 use Rattle.model.specs.Reach.{reachesInput, reachesOutput, comesBack, deviceLeft, atStream, atInput, atOutput, inputReady, outputReady, paced, inputBy, outputBy, streamBy}
 use Rattle.model.specs.Earned.{Counts, countsOf, earned, sentOne, zeroed, blocksRead, resetCounts, heardCounts, sentCounts}
-use Rattle.model.proofs.Counts.{counts-microframe}
+use Rattle.model.proofs.History.{counts-microframe}
 use Rattle.kept.proofs.Credit.{SMALL, added, heard-plain, reset-received, blocks-few}
 use Rattle.bounds.specs.Bounds.{MOST}
 use Rattle.usbhost.specs.declared.Host.{Host}

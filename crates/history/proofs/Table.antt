@@ -17,7 +17,7 @@ use Rattle.model.specs.Microframe as M
 use Rattle.model.specs.Microframe.{rsSet, goneAt, asleepAt}
 use Rattle.model.specs.Reach.{reachesOutput, atOutput, outputReady, streamBy, backBy, leftBy}
 use Rattle.model.specs.Earned.{Counts, countsOf, sentOne, zeroed, blocksRead, resetCounts, heardCounts, sentCounts}
-use Rattle.model.proofs.Counts.{counts-microframe}
+use Rattle.model.proofs.History.{counts-microframe}
 use Rattle.kept.proofs.Credit.{SMALL, added, heard-plain, reset-received}
 use Rattle.usbhost.specs.declared.Host.{Host}
 use Rattle.usbhost.specs.Host.{newHost}

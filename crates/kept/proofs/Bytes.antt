@@ -13,9 +13,8 @@ use Rattle.usbdev.proofs.Tokens.{total-lt}
 use Rattle.transfer.specs.Transfer.{pointers}
 use Rattle.transfer.proofs.Laws.{length-bytesIn}
 use Rattle.dtd.specs.Dtd.{Endpoint, runDtds, most, nextActive, primed, nextDtd, tokenOf, descriptor, bytesOf, queueHead}
-use Rattle.dtd.proofs.Runs.{IsActive, active-bytes}
-use Rattle.model.proofs.Placed.{and-first, and-second}
-use Rattle.model.proofs.Earned.{idle-bytes}
+use Rattle.dtd.proofs.Runs.{IsActive, active-bytes, idle-run}
+use Rattle.bits.proofs.Tests.{and-first, and-second}
 
 bytes-le : (e : Endpoint) (n : ℕ) (m : Memory) → length (bytesOf e n m) ≤ 32767
 unfolding bytesOf
@@ -33,4 +32,4 @@ run-bytes e single bs b = by-ready (primed e (b .memory .page) && nextActive e (
         let is : IsActive e (b .memory) (queueHead e (b .memory .page)) (nextDtd e (b .memory)) (tokenOf (nextDtd e (b .memory)) (b .memory)) =
         record { prime = and-first _ _ r; active = and-second (primed e (b .memory .page)) _ r; head = refl; next = refl; token = refl } in
         rw (active-bytes e bs b single _ _ _ is) (bytes-le e _ (b .memory))
-    by-ready false r = rw (idle-bytes e bs b single r) (omega arith)
+    by-ready false r = rw (idle-run e bs b single r .bytes) (omega arith)

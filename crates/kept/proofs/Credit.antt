@@ -16,8 +16,8 @@ use Rattle.model.specs.Audio.{audioIn, BLOCK, BLOCK-FRAMES, blocks, blocksOf, g
 use Rattle.model.specs.Microframe.{rsSet, goneAt, asleepAt, microframe}
 use Rattle.model.specs.Reach.{streamBy, inputBy, outputBy, backBy, leftBy, paced, inputReady, outputReady, bytesAt}
 use Rattle.model.specs.Earned.{Counts, countsOf, oneEarned, earned, sentOne, zeroed, goodBlocks, blocksRead, resetCounts, heardCounts, sentCounts}
-use Rattle.model.proofs.Placed.{and-first}
-use Rattle.model.proofs.Counts.{counts-microframe}
+use Rattle.bits.proofs.Tests.{and-first}
+use Rattle.model.proofs.History.{counts-microframe}
 use Rattle.kept.proofs.Bytes.{run-bytes}
 
 -- ---- at most 89 good blocks in a run

@@ -10,7 +10,6 @@ pub mod Audio
 pub mod Counted
 pub mod Still
 pub mod Counters
-pub mod Tests
 pub mod Asked
 pub mod Unasked
 pub mod Fits

@@ -10,7 +10,7 @@ use lib.ListN.{length, take, drop}
 use Rattle.bits.specs.Pick.{pick, pick-both}
 use Rattle.config.specs.Config.{Choice, Interface, Walk, Bytes, at, whole, cut, isInterface, interfaceOf, isEndpoint, isInterrupt, isInput, packetSize, counts, member, interfaces, placed, slot, chosen, step, walked, start, parsed}
 use Rattle.config.proofs.Few.{bytes-take, bytes-drop}
-use Rattle.model.proofs.Placed.{and-first, and-second}
+use Rattle.bits.proofs.Tests.{and-first, and-second}
 
 pub record Pair (interface alternate : ℕ) : Type 0 where
   pub interface-lt : interface < 256

@@ -16,11 +16,10 @@ use Rattle.record.specs.Change.{drained}
 use Rattle.record.specs.Setups.{little}
 use Rattle.model.specs.Phases.{firstSetups}
 use Rattle.model.specs.Control.{setsConfiguration, setsInterface, interfaceSetups, fixedSetups}
-use Rattle.model.proofs.Placed.{and-first, and-second}
 use Rattle.bounds.specs.Bounds.{le, asksConfiguration, made, madeAt, allMade, other, noneAsks}
 use Rattle.kept.proofs.Fits.{bytes-none, bytes-append}
 use Rattle.kept.proofs.Pairs.{Pair, Pairs}
-use Rattle.kept.proofs.Tests.{and-both, or-second}
+use Rattle.bits.proofs.Tests.{and-first, and-second, and-both, or-second}
 
 -- ---- a test of each of the first n
 

@@ -30,10 +30,9 @@ use Rattle.model.specs.Phases.{now, counts, ticks, dropsRequest, forgets, retur
 use Rattle.model.specs.Control.{requestType, request, wLength, begun, posted, posts, enumerating, configured, toStatus, keepsReply, dataStage, asksFor, replied, asksWhole, setsConfiguration, interfaceSetups, fixedSetups, chooses, configures, finishes, statusEnds, statusStage, unstalls, stages, controls}
 use Rattle.model.specs.Microframe.{rsSet, goneAt, asleepAt, transfers, enumerates, talks, atPhase, byPhase, opens, frameOf, microframe}
 use Rattle.model.proofs.Fields.{Keeps, fields-then, left-runs, fields-ran, ranWorld, keeps-then, keeps-if, keeps-nothing, keeps-one, keeps-bus, keeps-page}
-use Rattle.model.proofs.Placed.{and-first, and-second}
 use Rattle.bounds.specs.Bounds.{le, asksConfiguration, made, madeAt, allMade, other, setupsOk, enumeratingOk, requestOk}
 use Rattle.kept.proofs.Holding.{Holds, holds-then, holds-seq, holds-if, holds-nothing}
-use Rattle.kept.proofs.Tests.{false-true, and-both, or-case, or-other, or-by, imp-other, imp-by}
+use Rattle.bits.proofs.Tests.{false-true, and-first, and-second, and-both, or-case, or-other, or-by, imp-other, imp-by}
 use Rattle.kept.proofs.Asked.{Asked, askedOf, askedOn, asked, asked-apply}
 use Rattle.kept.proofs.Unasked.{keeps-ticks, keeps-unplugs, keeps-sleeps, keeps-suspends, keeps-frame, keeps-transfers}
 use Rattle.kept.proofs.Fits.{InBytes, bytes-ticks, bytes-wakes, bytes-frame, bytes-read, sets-bytes}

@@ -16,8 +16,8 @@ use Rattle.record.specs.Change.{left, FRAMES, WORDS}
 use Rattle.model.specs.Control.{wLength}
 use Rattle.model.specs.Microframe.{rsSet, goneAt, asleepAt, microframe}
 use Rattle.model.specs.Earned.{Counts, countsOf, sentCounts}
-use Rattle.model.proofs.Placed.{and-first, and-second}
-use Rattle.model.proofs.Counts.{counts-microframe}
+use Rattle.bits.proofs.Tests.{and-first, and-second}
+use Rattle.model.proofs.History.{counts-microframe}
 use Rattle.bounds.specs.Bounds.{MOST, times, setupsOk, enumeratingOk, requestOk, made, asksConfiguration, queuesOk, packerOk, countsOk, countersOk, creditOk, timersOk, audioOk, askedOk, heldOk, countedOk, inBounds, ringOk, areasOk}
 use Rattle.kept.proofs.Credit.{SMALL, sent-le, sent-seven}
 use Rattle.kept.proofs.Timers.{timers-kept}

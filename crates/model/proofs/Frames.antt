@@ -1,27 +1,25 @@
--- The fields that the history reads: credit, the two counters of frames, the stream counter and the sending ring, gone, and RS seen set.
+-- What the history reads: the credit, the two counters of frames, gone, and RS seen set.
 use Prim.Native.Nat.{ℕ, _+_}
 use mathlib.Core.Path.{_≡_, refl}
 use mathlib.Core.Bool.{Bool, true, false}
 use Rattle.record.specs.Record.{wrapped, counted, Counter, microframes, «in_transfers», «out_transfers», «in_frames», «out_frames», «bad_blocks», «midi_dtds», «midi_asleep», «out_underruns», «midi_packets_out», «vendor_in_bytes», restarts, enumerations}
 use Rattle.record.specs.World.{World}
-use Rattle.record.specs.Change.{Change, bus, ran, lost, count, uf, phase, started, gone, suspended, running, credit, budget, counter, block, timers, control, queued, popped, pushed, cleared, reply, device, config, forgot, midi, serial, received, frame, taken, takenFrom, apply}
-use Rattle.model.specs.Earned.{Counts, countsOf, Out, outOf}
+use Rattle.record.specs.Change.{Change, bus, ran, lost, count, uf, phase, started, gone, suspended, running, credit, budget, counter, block, timers, control, queued, popped, pushed, cleared, reply, device, config, forgot, midi, serial, received, frame, taken, apply}
+use Rattle.model.specs.Earned.{Counts, countsOf}
+use Rattle.bits.proofs.Tests.{false-true}
 use Rattle.model.proofs.Fields.{Fields}
+use Rattle.model.proofs.Reading.{Reading, readingOf, quiet, quietCounter}
 
 pub record Frames : Type 0 where
   pub counts : Counts
   pub gone : Bool
   pub running : Bool
-  pub out : Out
 
 abbrev pub framesOf : World → Frames
-framesOf w = record { counts = countsOf w; gone = w .state .port .gone; running = w .state .port .running; out = outOf w }
+framesOf w = record { counts = countsOf w; gone = w .state .port .gone; running = w .state .port .running }
 
 abbrev pub withCounts : Frames → Counts → Frames
-withCounts k m = record { counts = m; gone = k .gone; running = k .running; out = k .out }
-
-abbrev pub withOut : Frames → Out → Frames
-withOut k o = record { counts = k .counts; gone = k .gone; running = k .running; out = o }
+withCounts k m = record { counts = m; gone = k .gone; running = k .running }
 
 abbrev pub onCounts : Counter → ℕ → Counts → Counts
 onCounts microframes n m = m
@@ -46,12 +44,12 @@ onFrames (count c n) k = withCounts k (onCounts c n (k .counts))
 onFrames (uf n) k = k
 onFrames (phase p) k = k
 onFrames (started n) k = k
-onFrames (gone b) k = record { counts = k .counts; gone = b; running = k .running; out = k .out }
+onFrames (gone b) k = record { counts = k .counts; gone = b; running = k .running }
 onFrames (suspended b) k = k
-onFrames (running b) k = record { counts = k .counts; gone = k .gone; running = b; out = k .out }
+onFrames (running b) k = record { counts = k .counts; gone = k .gone; running = b }
 onFrames (credit n) k = withCounts k (record { credit = n; received = k .counts .received; sent = k .counts .sent })
 onFrames (budget n) k = k
-onFrames (counter n) k = withOut k (record { counter = n; sending = k .out .sending; capacity = k .out .capacity })
+onFrames (counter n) k = k
 onFrames (block n m) k = k
 onFrames (timers ts) k = k
 onFrames (control c) k = k
@@ -67,7 +65,7 @@ onFrames (midi n) k = k
 onFrames (serial n) k = k
 onFrames (received bs) k = k
 onFrames (frame f) k = k
-onFrames (taken n) k = withOut k (record { counter = k .out .counter; sending = takenFrom (k .out .capacity) n (k .out .sending); capacity = k .out .capacity })
+onFrames (taken n) k = k
 
 frames-count : (c : Counter) (n : ℕ) (w : World) → framesOf (apply (count c n) w) ≡ onFrames (count c n) (framesOf w)
 unfolding apply counted
@@ -127,3 +125,52 @@ frames =
       marks = λ e n m k. refl;
       drops = λ n k. refl;
     }
+
+frames-counter : (c : Counter) → quietCounter c ≡ true → (n : ℕ) (k : Frames) → onFrames (count c n) k ≡ k
+frames-counter microframes e n k = refl
+frames-counter «in_transfers» e n k = refl
+frames-counter «out_transfers» e n k = refl
+frames-counter «in_frames» e n k = absurd (false-true e)
+frames-counter «out_frames» e n k = absurd (false-true e)
+frames-counter «bad_blocks» e n k = refl
+frames-counter «midi_dtds» e n k = refl
+frames-counter «midi_asleep» e n k = refl
+frames-counter «out_underruns» e n k = refl
+frames-counter «midi_packets_out» e n k = refl
+frames-counter «vendor_in_bytes» e n k = refl
+frames-counter restarts e n k = refl
+frames-counter enumerations e n k = refl
+
+pub frames-leaves : (c : Change) → quiet c ≡ true → (k : Frames) → onFrames c k ≡ k
+frames-leaves (bus s) h k = refl
+frames-leaves (ran e r n) h k = refl
+frames-leaves (lost n) h k = refl
+frames-leaves (count c n) h k = frames-counter c h n k
+frames-leaves (uf n) h k = refl
+frames-leaves (phase p) h k = refl
+frames-leaves (started n) h k = refl
+frames-leaves (gone b) h k = absurd (false-true h)
+frames-leaves (suspended b) h k = refl
+frames-leaves (running b) h k = absurd (false-true h)
+frames-leaves (credit n) h k = absurd (false-true h)
+frames-leaves (budget n) h k = refl
+frames-leaves (counter n) h k = refl
+frames-leaves (block n m) h k = refl
+frames-leaves (timers ts) h k = refl
+frames-leaves (control c) h k = refl
+frames-leaves (queued bs) h k = refl
+frames-leaves popped h k = refl
+frames-leaves (pushed bs) h k = refl
+frames-leaves cleared h k = refl
+frames-leaves (reply n bs) h k = refl
+frames-leaves (device bs) h k = refl
+frames-leaves (config bs) h k = refl
+frames-leaves forgot h k = refl
+frames-leaves (midi n) h k = refl
+frames-leaves (serial n) h k = refl
+frames-leaves (received bs) h k = refl
+frames-leaves (frame f) h k = refl
+frames-leaves (taken n) h k = refl
+
+abbrev pub framesReading : Reading Frames
+framesReading = readingOf frames frames-leaves

@@ -1,9 +1,12 @@
--- The phase alone.
+-- What the phase reads: itself alone.
 use Rattle.record.specs.declared.Phase.{Phase}
 use mathlib.Core.Path.{_≡_, refl}
 use Rattle.record.specs.World.{World}
 use Rattle.record.specs.Change.{Change, bus, ran, lost, count, uf, phase, started, gone, suspended, running, credit, budget, counter, block, timers, control, queued, popped, pushed, cleared, reply, device, config, forgot, midi, serial, received, frame, taken, apply}
+use mathlib.Core.Bool.{Bool, true, false, not}
+use Rattle.bits.proofs.Tests.{false-true}
 use Rattle.model.proofs.Fields.{Fields}
+use Rattle.model.proofs.Reading.{Reading, readingOf, quiet}
 
 abbrev pub phasesOf : World → Phase
 phasesOf w = w .state .phase
@@ -81,3 +84,37 @@ phases =
       marks = λ e n m k. refl;
       drops = λ n k. refl;
     }
+
+pub phases-leaves : (c : Change) → quiet c ≡ true → (k : Phase) → phasesOn c k ≡ k
+phases-leaves (bus s) h k = refl
+phases-leaves (ran e r n) h k = refl
+phases-leaves (lost n) h k = refl
+phases-leaves (count c n) h k = refl
+phases-leaves (uf n) h k = refl
+phases-leaves (phase p) h k = absurd (false-true h)
+phases-leaves (started n) h k = refl
+phases-leaves (gone b) h k = refl
+phases-leaves (suspended b) h k = refl
+phases-leaves (running b) h k = refl
+phases-leaves (credit n) h k = refl
+phases-leaves (budget n) h k = refl
+phases-leaves (counter n) h k = refl
+phases-leaves (block n m) h k = refl
+phases-leaves (timers ts) h k = refl
+phases-leaves (control c) h k = refl
+phases-leaves (queued bs) h k = refl
+phases-leaves popped h k = refl
+phases-leaves (pushed bs) h k = refl
+phases-leaves cleared h k = refl
+phases-leaves (reply n bs) h k = refl
+phases-leaves (device bs) h k = refl
+phases-leaves (config bs) h k = refl
+phases-leaves forgot h k = refl
+phases-leaves (midi n) h k = refl
+phases-leaves (serial n) h k = refl
+phases-leaves (received bs) h k = refl
+phases-leaves (frame f) h k = refl
+phases-leaves (taken n) h k = refl
+
+abbrev pub phasesReading : Reading Phase
+phasesReading = readingOf phases phases-leaves

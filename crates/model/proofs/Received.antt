@@ -1,24 +1,14 @@
--- The received ring and its place, and the steps that leave them alone: all but the input step.
-use Prim.Native.Nat.{ℕ, zero, suc}
+-- What the received ring reads: its words and its place.
+use Prim.Native.Nat.{ℕ}
 use mathlib.Core.Path.{_≡_, refl}
-use mathlib.Core.Bool.{Bool, true, false}
+use mathlib.Core.Bool.{Bool, true, false, not}
 use mathlib.Core.List.{List}
-use Rattle.bits.specs.Pick.{pick}
-use Rattle.dtd.specs.Dtd.{Run}
-use Rattle.config.specs.Config.{Choice}
-use Rattle.record.specs.declared.Phase.{Phase}
+use Rattle.bits.proofs.Tests.{false-true}
 use Rattle.record.specs.declared.Ring.{Ring}
-use Rattle.record.specs.declared.Settings.{Settings}
 use Rattle.record.specs.World.{World}
-use Rattle.record.specs.Change.{Change, bus, ran, lost, count, uf, phase, started, gone, suspended, running, credit, budget, counter, block, timers, control, queued, popped, pushed, cleared, reply, device, config, forgot, midi, serial, received, frame, taken, apply, ringed, ringedPlace, Step}
-use Rattle.model.specs.Phases.{counts, ticks, dropsRequest, forgets, returns, cable, sleeps, suspends, departs, leaves, enters, idles, powers, resets, startsFrame}
-use Rattle.model.specs.Control.{toStatus, posted, posts, configured, keepsReply, dataStage, asksWhole, chooses, configures, finishes, statusEnds, statusStage, unstalls, stages, controls}
-use Rattle.model.specs.Streams.{naks, reads, readsMidi, drainsSerial, serves, drainsMidi, writesMidi, readsVendor}
-use Rattle.model.specs.Audio.{addsBudget, clearsBudget, sendsBlock, unprimes, outputs}
-use Rattle.model.specs.Microframe.{opens, others, enumerates}
-use Rattle.model.proofs.Fields.{Fields, Keeps, keeps-then, keeps-if, keeps-nothing, keeps-one, keeps-bus, keeps-page, keeps-runs, keeps-here}
-
--- ---- the ring and its place, and what each change does to them
+use Rattle.record.specs.Change.{Change, bus, ran, lost, count, uf, phase, started, gone, suspended, running, credit, budget, counter, block, timers, control, queued, popped, pushed, cleared, reply, device, config, forgot, midi, serial, received, frame, taken, apply, ringed, ringedPlace}
+use Rattle.model.proofs.Fields.{Fields}
+use Rattle.model.proofs.Reading.{Reading, readingOf, Lasting, quiet}
 
 pub record Kept : Type 0 where
   pub ring : List ℕ
@@ -104,207 +94,39 @@ kept =
       drops = λ n k. refl;
     }
 
--- ---- the steps that leave them
+pub kept-leaves : (c : Change) → quiet c ≡ true → (k : Kept) → keptOn c k ≡ k
+kept-leaves (bus s) h k = refl
+kept-leaves (ran e r n) h k = refl
+kept-leaves (lost n) h k = refl
+kept-leaves (count c n) h k = refl
+kept-leaves (uf n) h k = refl
+kept-leaves (phase p) h k = refl
+kept-leaves (started n) h k = refl
+kept-leaves (gone b) h k = refl
+kept-leaves (suspended b) h k = refl
+kept-leaves (running b) h k = refl
+kept-leaves (credit n) h k = refl
+kept-leaves (budget n) h k = refl
+kept-leaves (counter n) h k = refl
+kept-leaves (block n m) h k = refl
+kept-leaves (timers ts) h k = refl
+kept-leaves (control c) h k = refl
+kept-leaves (queued bs) h k = refl
+kept-leaves popped h k = refl
+kept-leaves (pushed bs) h k = refl
+kept-leaves cleared h k = refl
+kept-leaves (reply n bs) h k = refl
+kept-leaves (device bs) h k = refl
+kept-leaves (config bs) h k = refl
+kept-leaves forgot h k = refl
+kept-leaves (midi n) h k = refl
+kept-leaves (serial n) h k = refl
+kept-leaves (received bs) h k = refl
+kept-leaves (frame f) h k = absurd (false-true h)
+kept-leaves (taken n) h k = refl
 
-ruleset keeps-rules = (keeps-then, keeps-if, keeps-nothing, keeps-one, keeps-bus, keeps-page, keeps-runs, keeps-here)
+abbrev pub keptReading : Reading Kept
+keptReading = readingOf kept kept-leaves
 
--- the one or the other step
-keeps-pick : (t : Bool) (f g : Step) → Keeps kept f → Keeps kept g → Keeps kept (pick t f g)
-keeps-pick true f g p q = p
-keeps-pick false f g p q = q
-
-pub keeps-counts : Keeps kept counts
-unfolding counts
-keeps-counts = search keeps-rules
-
-pub keeps-ticks : Keeps kept ticks
-unfolding ticks
-keeps-ticks = search keeps-rules depth 8
-
-pub keeps-drops : Keeps kept dropsRequest
-unfolding dropsRequest
-keeps-drops = search keeps-rules
-
-pub keeps-sleeps : Keeps kept sleeps
-unfolding sleeps
-keeps-sleeps = search keeps-rules
-
-pub keeps-suspends : (s : Bool) → Keeps kept (suspends s)
-unfolding suspends
-keeps-suspends true = search keeps-rules
-keeps-suspends false = search keeps-rules
-
-keeps-enters : (p : Phase) → Keeps kept (enters p)
-unfolding enters
-keeps-enters p = search keeps-rules
-
-pub keeps-idles : Keeps kept idles
-unfolding idles
-keeps-idles = search (keeps-rules, keeps-enters)
-
-pub keeps-powers : (rs : Bool) → Keeps kept (powers rs)
-unfolding powers
-keeps-powers rs = search (keeps-rules, keeps-enters)
-
-pub keeps-resets : Keeps kept resets
-unfolding resets
-keeps-resets = search (keeps-rules, keeps-enters) depth 8
-
-keeps-frame : Keeps kept startsFrame
-unfolding startsFrame
-keeps-frame = search keeps-rules
-
-keeps-status : Keeps kept toStatus
-unfolding toStatus
-keeps-status = search keeps-rules
-
-keeps-posted : (qh first second : ℕ) → Keeps kept (posted qh first second)
-unfolding posted
-keeps-posted qh first second = search keeps-rules depth 12
-
-keeps-posts : Keeps kept posts
-unfolding posts
-keeps-posts = search (keeps-rules, keeps-posted)
-
-keeps-configured : Keeps kept configured
-unfolding configured
-keeps-configured = search keeps-rules
-
-keeps-reply : (r : Run) → Keeps kept (keepsReply r)
-unfolding keepsReply
-keeps-reply r = search (keeps-rules, keeps-status) depth 8
-
-keeps-data : Keeps kept dataStage
-unfolding dataStage
-keeps-data = search (keeps-rules, keeps-status, keeps-reply)
-
-keeps-whole : Keeps kept asksWhole
-unfolding asksWhole
-keeps-whole = search keeps-rules
-
-keeps-chooses : (c : Choice) → Keeps kept (chooses c)
-unfolding chooses
-keeps-chooses c = search keeps-rules
-
-keeps-configures : (stack : Bool) → Keeps kept (configures stack)
-unfolding configures
-keeps-configures stack = search (keeps-rules, keeps-chooses, keeps-pick) depth 8
-
-keeps-finishes : (stack : Bool) → Keeps kept (finishes stack)
-unfolding finishes
-keeps-finishes stack = search (keeps-rules, keeps-drops, keeps-whole, keeps-configures) depth 8
-
-keeps-ends : (stack : Bool) (r : Run) → Keeps kept (statusEnds stack r)
-unfolding statusEnds
-keeps-ends stack r = search (keeps-rules, keeps-finishes, keeps-drops)
-
-keeps-last : (stack : Bool) → Keeps kept (statusStage stack)
-unfolding statusStage
-keeps-last stack = search (keeps-rules, keeps-ends)
-
-keeps-unstalls : Keeps kept unstalls
-unfolding unstalls
-keeps-unstalls = search (keeps-rules, keeps-drops)
-
-keeps-stages : (stack : Bool) → Keeps kept (stages stack)
-unfolding stages
-keeps-stages stack = search (keeps-rules, keeps-last, keeps-data, keeps-drops)
-
-keeps-controls : (stack : Bool) → Keeps kept (controls stack)
-unfolding controls
-keeps-controls stack = search (keeps-rules, keeps-stages, keeps-unstalls, keeps-configured, keeps-posts)
-
-pub keeps-enumerates : (c : Settings) → Keeps kept (enumerates c)
-unfolding enumerates
-keeps-enumerates c = search (keeps-rules, keeps-frame, keeps-controls)
-
-keeps-reads : (n : ℕ) → Keeps kept (reads n)
-unfolding reads
-keeps-reads zero = keeps-nothing kept
-keeps-reads (suc n) =
-    let rest : Keeps kept (reads n) = keeps-reads n in
-    search (keeps-rules, rest) depth 8
-
-keeps-naks : Keeps kept naks
-unfolding naks
-keeps-naks = search keeps-rules
-
-keeps-midi : (asleep : Bool) (every : ℕ) → Keeps kept (readsMidi asleep every)
-unfolding readsMidi
-keeps-midi true every = keeps-sleeps
-keeps-midi false every = search (keeps-rules, keeps-naks, keeps-reads) depth 8
-
-keeps-serial : (n : ℕ) → Keeps kept (drainsSerial n)
-unfolding drainsSerial
-keeps-serial n = search keeps-rules depth 8
-
-pub keeps-serves : Keeps kept serves
-unfolding serves
-keeps-serves = search (keeps-rules, keeps-serial) depth 8
-
-keeps-drains : (n : ℕ) → Keeps kept (drainsMidi n)
-unfolding drainsMidi
-keeps-drains n = search keeps-rules depth 8
-
-keeps-writes : Keeps kept writesMidi
-unfolding writesMidi
-keeps-writes = search (keeps-rules, keeps-drains)
-
-keeps-vendor : Keeps kept readsVendor
-unfolding readsVendor
-keeps-vendor = search keeps-rules
-
-pub keeps-others : (c : Settings) (t : ℕ) → Keeps kept (others c t)
-unfolding others
-keeps-others c t = search (keeps-rules, keeps-midi, keeps-writes, keeps-vendor) depth 8
-
-pub keeps-adds : Keeps kept addsBudget
-unfolding addsBudget
-keeps-adds = search keeps-rules
-
-pub keeps-clears : Keeps kept clearsBudget
-unfolding clearsBudget
-keeps-clears = search keeps-rules
-
-pub keeps-unprimes : Keeps kept unprimes
-unfolding unprimes
-keeps-unprimes = search keeps-rules
-
--- ---- the cable, and a device that left
-
-keeps-forgets : Keeps kept forgets
-unfolding forgets
-keeps-forgets = search (keeps-rules, keeps-drops) depth 12
-
-keeps-returns : Keeps kept returns
-unfolding returns
-keeps-returns = search (keeps-rules, keeps-forgets) depth 8
-
-keeps-cable : (g : Bool) → Keeps kept (cable g)
-unfolding cable
-keeps-cable true = search keeps-rules
-keeps-cable false = search (keeps-rules, keeps-returns) depth 8
-
-pub keeps-opens : (c : Settings) (g : Bool) → Keeps kept (opens c g)
-unfolding opens
-keeps-opens c g = search (keeps-rules, keeps-counts, keeps-ticks, keeps-cable) depth 8
-
-keeps-departs : Keeps kept departs
-unfolding departs
-keeps-departs = search (keeps-rules, keeps-forgets, keeps-enters) depth 12
-
-pub keeps-leaves : (stack rs : Bool) → Keeps kept (leaves stack rs)
-unfolding leaves
-keeps-leaves false rs = keeps-nothing kept
-keeps-leaves true true = search keeps-rules
-keeps-leaves true false = search (keeps-rules, keeps-departs)
-
--- ---- the output step
-
-keeps-sends : (bs : List ℕ) → Keeps kept (sendsBlock bs)
-unfolding sendsBlock
-keeps-sends bs = search keeps-rules depth 12
-
-pub keeps-outputs : Keeps kept outputs
-unfolding outputs
-keeps-outputs = search (keeps-rules, keeps-sends, keeps-unprimes) depth 8
+abbrev pub keptLasting : Lasting keptReading
+keptLasting = record { phases = λ p k. refl; goes = λ b k. refl; runs = λ b k. refl; credits = λ n k. refl; budgets = λ n k. refl }

@@ -1,26 +1,22 @@
--- What the audio input step keeps: the received ring holds the last 48,000 of its frames and those of the good blocks (demand 3, `input-step`).
+-- The received ring after a list of frames: it holds the last 48,000 of its own and of those, oldest first.
 use Prim.Native.Nat.{ℕ, zero, suc, _+_, _-_, _*_, _%_, _≤_, _<_}
 use mathlib.Core.Path.{_≡_, refl, ap, ap₂, sym, subst, _∙_}
 use mathlib.Core.Logic.{_≢_}
 use mathlib.Core.Bool.{Bool, true, false, _||_}
-use mathlib.Core.List.{List, [], _∷_, _++_, append-assoc, append-nil}
+use mathlib.Core.List.{List, [], _∷_, _++_, map, append-assoc, append-nil}
 use native.Mathlib.Omega.{arith}
 use borrow.Author.Tests.{ltb-true, ltb-false, eqb-true, eqb-false}
 use lib.Dec.{eqb, ltb}
 use lib.ListN.{length, take, drop, set, length-append, length-drop}
 use lib.Seq.{sets, length-sets, length-take-le, sets-eq, take-at, drop-at, take-set-le, drop-set-lt, drop-append-le, drop-drop, take-nil}
 use Rattle.bits.specs.Pick.{pick}
+use Rattle.bus.specs.Steps.{replay, replay-append}
 use Rattle.transfer.specs.Transfer.{tabulate}
-use Rattle.dtd.specs.Dtd.{Run, runDtds}
-use Rattle.record.specs.Record.{«in_transfers», «bad_blocks»}
-use Rattle.record.specs.World.{World, busOf}
-use Rattle.record.specs.Change.{count, frame, apply, FRAMES, WORDS, ringed, ringedPlace, Step, left, _then_, nothing, one}
-use Rattle.model.specs.Streams.{nonempty, brought}
-use Rattle.model.specs.Audio.{audioIn, BLOCK-FRAMES, wordsOf, blocks, blocksOf, good, keepsFrames, keepsGood, keepsBlock, keepsBlocks, keepsRun, inputs}
-use Rattle.model.specs.Reach.{bytesAt}
-use Rattle.model.specs.Ring.{frameIn, contents, ringFrames, InOrder, RingInOrder, framesFrom, framesOfBlock, framesOfBlocks, framesRead, lastOf}
-use Rattle.model.proofs.Received.{Kept, keptBy, keptOf, keptOn, kept-apply, kept}
-use Rattle.model.proofs.Fields.{Keeps, fields-then, fields-if, keeps-nothing, keeps-then, keeps-one, ranWorld, left-runs, fields-ran}
+use Rattle.record.specs.Record.{wrapped, «in_frames», «bad_blocks»}
+use Rattle.record.specs.Change.{Change, count, credit, frame, FRAMES, WORDS, ringed, ringedPlace}
+use Rattle.model.specs.Audio.{BLOCK-FRAMES, wordsOf, good}
+use Rattle.model.specs.Ring.{frameIn, contents, InOrder, framesFrom, framesOfBlock, framesOfBlocks, lastOf, blockChanges, blocksChanges}
+use Rattle.model.proofs.Received.{Kept, keptBy, keptOn}
 
 -- ---- lists
 
@@ -186,10 +182,6 @@ module _ (k : Kept) (f : List ℕ) (whole : length f ≡ WORDS) (o : InOrder (k 
   unfolding ringed ringedPlace
   adds-frame = by-room (eqb (k .place .len) FRAMES) refl
 
--- one frame to the ring
-pub ring-frame : (f : List ℕ) (w : World) → length f ≡ WORDS → RingInOrder w → Adds (f ∷ []) (keptOf w) (keptOf (apply (frame f) w))
-ring-frame f w h o = subst (Adds (f ∷ []) (keptOf w)) (sym (kept-apply (frame f) w)) (adds-frame (keptOf w) f h o)
-
 pub adds-none : (k : Kept) → InOrder (k .ring) (k .place) → Adds [] k k
 adds-none k o =
     let long : length (held k) ≡ k .place .len = length-contents (k .ring) (k .place .start) (k .place .len) in
@@ -204,93 +196,40 @@ adds-both xs ys k k₁ k₂ p q =
       order = q .order;
     }
 
--- ---- steps
-
--- a step that puts fs behind the newest
-abbrev pub Brings : Step → List (List ℕ) → Type 0
-Brings f fs = (w : World) → RingInOrder w → Adds fs (keptOf w) (keptOf (left f w))
-
-brings-none : (f : Step) → Keeps kept f → Brings f []
-brings-none f p w o = subst (Adds [] (keptOf w)) (sym (p w)) (adds-none (keptOf w) o)
-
-brings-then : (f g : Step) (xs ys : List (List ℕ)) → Brings f xs → Brings g ys → Brings (f then g) (xs ++ ys)
-brings-then f g xs ys p q w o =
-    let first = p w o in
-    subst (Adds (xs ++ ys) (keptOf w)) (sym (fields-then kept f g w))
-    (adds-both xs ys (keptOf w) (keptOf (left f w)) _ first (q (left f w) (first .order)))
-
--- the other counts of a good block leave the ring
-brings-more : (f g : Step) (xs : List (List ℕ)) → Brings f xs → Keeps kept g → Brings (f then g) xs
-brings-more f g xs p q w o = subst (λ (fs : List (List ℕ)). Adds fs (keptOf w) (keptOf (left (f then g) w))) (append-nil xs) (brings-then f g xs [] p (brings-none g q) w o)
+-- ---- lists of changes
 
 length-words : (bs : List ℕ) → length (wordsOf bs) ≡ WORDS
 unfolding tabulate
 length-words bs = refl
 
-brings-one : (bs : List ℕ) → Brings (one (λ w. frame (wordsOf bs))) (wordsOf bs ∷ [])
-unfolding one
-brings-one bs w o = ring-frame (wordsOf bs) w (length-words bs) o
+-- frames of a block, one behind the other
+adds-from : (n i : ℕ) (b : List ℕ) (k : Kept) → InOrder (k .ring) (k .place) → Adds (framesFrom n i b) k (replay keptOn (map frame (framesFrom n i b)) k)
+unfolding framesFrom
+adds-from zero i b k o = adds-none k o
+adds-from (suc n) i b k o =
+    let f = wordsOf (take 48 (drop (32 + 48 * i) b)) in
+    let first = adds-frame k f (length-words (take 48 (drop (32 + 48 * i) b))) o in
+    adds-both (f ∷ []) (framesFrom n (suc i) b) k (keptOn (frame f) k) _ first (adds-from n (suc i) b (keptOn (frame f) k) (first .order))
 
-brings-frames : (n i : ℕ) (b : List ℕ) → Brings (keepsFrames n (drop (32 + 48 * i) b)) (framesFrom n i b)
-unfolding keepsFrames framesFrom
-brings-frames zero i b = brings-none nothing (keeps-nothing kept)
-brings-frames (suc n) i b =
-    let e : 32 + 48 * i + 48 ≡ 32 + 48 * suc i = omega arith in
-    brings-then _ _ (wordsOf (take 48 (drop (32 + 48 * i) b)) ∷ []) (framesFrom n (suc i) b) (brings-one (take 48 (drop (32 + 48 * i) b)))
-    (subst (λ (l : List ℕ). Brings (keepsFrames n l) (framesFrom n (suc i) b)) (sym (drop-drop 48 (32 + 48 * i) b ∙ ap (λ (j : ℕ). drop j b) e)) (brings-frames n (suc i) b))
-
-brings-good : (b : List ℕ) → Brings (keepsGood b) (framesFrom BLOCK-FRAMES 0 b)
-unfolding keepsGood
-brings-good b =
-    brings-more (keepsFrames BLOCK-FRAMES (drop 32 b)) _ (framesFrom BLOCK-FRAMES 0 b) (brings-frames BLOCK-FRAMES 0 b)
-    (keeps-then kept _ _ (keeps-one kept _ (λ w. refl)) (keeps-one kept _ (λ w. refl)))
-
-brings-pick : (t : Bool) (f g : Step) (xs : List (List ℕ)) → Brings f xs → Brings g [] → Brings (pick t f g) (pick t xs [])
-brings-pick true f g xs p q = p
-brings-pick false f g xs p q = q
-
-brings-block : (b : List ℕ) → Brings (keepsBlock b) (framesOfBlock b)
-unfolding keepsBlock framesOfBlock
-brings-block b =
-    brings-pick (good b) (keepsGood b) (one (λ w. count «bad_blocks» 1)) (framesFrom BLOCK-FRAMES 0 b) (brings-good b)
-    (brings-none (one (λ w. count «bad_blocks» 1)) (keeps-one kept (λ w. count «bad_blocks» 1) (λ w. refl)))
-
-brings-blocks : (bs : List (List ℕ)) → Brings (keepsBlocks bs) (framesOfBlocks bs)
-unfolding keepsBlocks framesOfBlocks
-brings-blocks [] = brings-none nothing (keeps-nothing kept)
-brings-blocks (b ∷ bs) = brings-then _ _ (framesOfBlock b) (framesOfBlocks bs) (brings-block b) (brings-blocks bs)
-
--- a run that brought nothing has no frame
-nothing-brought : (d : Bool) (bs : List ℕ) → (d || nonempty bs) ≡ false → framesRead bs ≡ []
-unfolding blocks framesOfBlocks
-nothing-brought true bs e = absurd (let z : _≡_ {A = ℕ} 0 1 = cc in omega arith)
-nothing-brought false [] e = refl
-nothing-brought false (b ∷ bs) e = absurd (let z : _≡_ {A = ℕ} 0 1 = cc in omega arith)
-
-pub brings-run : (r : Run) → Brings (keepsRun r) (framesRead (r .bytes))
-unfolding keepsRun
-brings-run r w o =
-    subst (Adds (framesRead (r .bytes)) (keptOf w)) (sym (fields-if kept (λ v. brought r) _ nothing w)) (by-test (brought r) refl)
+-- what becomes of a block, and of some
+adds-block : (c : ℕ) (b : List ℕ) (k : Kept) → InOrder (k .ring) (k .place) → Adds (framesOfBlock b) k (replay keptOn (blockChanges c b) k)
+unfolding framesOfBlock blockChanges
+adds-block c b k o = by (good b)
   where
-    counting : Step
-    counting = one (λ w. count «in_transfers» 1)
+    fs : List (List ℕ)
+    fs = framesFrom BLOCK-FRAMES 0 b
 
-    by-test : (t : Bool) → brought r ≡ t → Adds (framesRead (r .bytes)) (keptOf w) (pick t (keptOf (left (counting then keepsBlocks (blocksOf (r .bytes))) w)) (keptOf (left nothing w)))
-    by-test true e = brings-then counting _ [] (framesRead (r .bytes)) (brings-none counting (keeps-one kept _ (λ w. refl))) (brings-blocks (blocksOf (r .bytes))) w o
-    by-test false e =
-        subst (λ (fs : List (List ℕ)). Adds fs (keptOf w) (keptOf (left nothing w))) (sym (nothing-brought (r .done) (r .bytes) e)) (brings-none nothing (keeps-nothing kept) w o)
+    rest : List Change
+    rest = count «in_frames» BLOCK-FRAMES ∷ credit (wrapped (c + BLOCK-FRAMES)) ∷ []
 
--- the input step: the run itself leaves the ring, and its bytes bring their frames
-pub adds-inputs : (w : World) → RingInOrder w → Adds (framesRead (bytesAt w)) (keptOf w) (keptOf (left inputs w))
-unfolding inputs bytesAt
-adds-inputs w o =
-    let r = runDtds audioIn [] (busOf w) in
-    let same = fields-ran kept audioIn [] w in
-    let order : InOrder (keptOf (ranWorld kept audioIn [] w) .ring) (keptOf (ranWorld kept audioIn [] w) .place) =
-    subst (λ (k : Kept). InOrder (k .ring) (k .place)) (sym same) o in
-    subst (Adds (framesRead (r .bytes)) (keptOf w)) (sym (ap keptOf (left-runs kept audioIn [] keepsRun w)))
-    (subst (λ (k : Kept). Adds (framesRead (r .bytes)) k (keptOf (left (keepsRun r) (ranWorld kept audioIn [] w)))) same
-    (brings-run r (ranWorld kept audioIn [] w) order))
+    by : (t : Bool) → Adds (pick t fs []) k (replay keptOn (pick t (map frame fs ++ rest) (count «bad_blocks» 1 ∷ [])) k)
+    by true = subst (Adds fs k) (sym (replay-append keptOn (map frame fs) rest k)) (adds-from BLOCK-FRAMES 0 b k o)
+    by false = adds-none k o
 
-pub ring-inputs : (w : World) → RingInOrder w → ringFrames (left inputs w) ≡ lastOf FRAMES (ringFrames w ++ framesRead (bytesAt w))
-ring-inputs w o = adds-inputs w o .frames
+pub adds-blocks : (c : ℕ) (bs : List (List ℕ)) (k : Kept) → InOrder (k .ring) (k .place) → Adds (framesOfBlocks bs) k (replay keptOn (blocksChanges c bs) k)
+unfolding framesOfBlocks blocksChanges
+adds-blocks c [] k o = adds-none k o
+adds-blocks c (b ∷ bs) k o =
+    let first = adds-block c b k o in
+    subst (Adds (framesOfBlock b ++ framesOfBlocks bs) k) (sym (replay-append keptOn (blockChanges c b) _ k))
+    (adds-both (framesOfBlock b) (framesOfBlocks bs) k (replay keptOn (blockChanges c b) k) _ first (adds-blocks _ bs _ (first .order)))

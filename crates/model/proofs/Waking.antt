@@ -11,32 +11,17 @@ use Rattle.record.specs.World.{World}
 use Rattle.record.specs.Change.{gone, apply, left, _then_, nothing, when, one, here}
 use Rattle.model.specs.Phases.{counts, ticks, dropsRequest, forgets, returns, cable, suspends, enters, departs, leaves, idles, powers}
 use Rattle.model.specs.Microframe.{rsSet, goneAt, asleepAt, opens, byPhase, atPhase, frameOf, microframe}
-use Rattle.model.proofs.Fields.{Keeps, fields-then, fields-if, keeps-then, keeps-if, keeps-nothing, keeps-one, keeps-page, keeps-here}
-use Rattle.model.proofs.Phase.{phases}
-
-ruleset keeps-rules = (keeps-then, keeps-if, keeps-nothing, keeps-one, keeps-page, keeps-here)
+use Rattle.model.proofs.Fields.{fields-then, fields-if, keeps-if, keeps-nothing, keeps-one}
+use Rattle.model.proofs.Reading.{silent-keeps, silent-counts, silent-ticks, silent-suspends}
+use Rattle.model.proofs.Phase.{phases, phasesReading}
+use Rattle.model.proofs.OneBlock.{idle-returns}
 
 -- ---- up to the choice by phase: idle, or, where the device left, at VBUS
 
-both : {A : Type 0} (t : Bool) {x y z : A} → x ≡ z → y ≡ z → pick t x y ≡ z
-both true p q = p
-both false p q = q
-
-back : (v : World) → left (one (λ w. gone false) then returns) v .state .phase ≡ Idle
-unfolding returns forgets dropsRequest andThen one apply
-back v = refl
-
-keeps-counts : Keeps phases counts
-unfolding counts
-keeps-counts = search keeps-rules
-
-keeps-ticks : Keeps phases ticks
-unfolding ticks
-keeps-ticks = search keeps-rules depth 8
-
-still-suspends : Keeps phases (suspends false)
-unfolding suspends
-still-suspends = search keeps-rules
+-- both branches are one value
+pick-one : {A : Type 0} (t : Bool) {x y z : A} → x ≡ z → y ≡ z → pick t x y ≡ z
+pick-one true p q = p
+pick-one false p q = q
 
 idle-opens : (c : Settings) (w : World) → w .state .phase ≡ Idle → left (opens c false) w .state .phase ≡ Idle
 unfolding opens cable
@@ -45,8 +30,9 @@ idle-opens c w e =
     fields-then phases _ _ w
     ∙ fields-then phases _ _ (left counts w)
     ∙ fields-if phases _ _ _ u
-    ∙ both (u .state .port .gone) (back u)
-    (keeps-nothing phases u ∙ keeps-if phases (λ v. c .«midi_in») ticks nothing keeps-ticks (keeps-nothing phases) (left counts w) ∙ keeps-counts w ∙ e)
+    ∙ pick-one (u .state .port .gone) (idle-returns u)
+    (keeps-nothing phases u ∙ keeps-if phases (λ v. c .«midi_in») ticks nothing (silent-keeps phases ticks (silent-ticks phasesReading)) (keeps-nothing phases) (left counts w)
+    ∙ silent-keeps phases counts (silent-counts phasesReading) w ∙ e)
 
 departed : (v : World) → left departs v .state .phase ≡ Vbus
 unfolding departs enters forgets dropsRequest andThen one apply
@@ -89,7 +75,7 @@ frame-wakes t rs w e =
     fields-then phases _ _ w
     ∙ fields-then phases _ _ _
     ∙ fields-then phases _ _ _
-    ∙ by-leaves (w .settings) t (w .settings .«device_stack») rs _ (still-suspends _ ∙ idle-opens (w .settings) w e)
+    ∙ by-leaves (w .settings) t (w .settings .«device_stack») rs _ (silent-keeps phases (suspends false) (silent-suspends phasesReading false) _ ∙ idle-opens (w .settings) w e)
 
 pub idle-wakes : (t : ℕ) (w : World) → goneAt t w ≡ false → asleepAt t w ≡ false → w .state .phase ≡ Idle → left (microframe t) w .state .phase ≡ Vbus
 unfolding microframe here

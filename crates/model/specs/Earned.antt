@@ -22,22 +22,30 @@ abbrev pub countsOf : World → Counts
 countsOf w =
     record { credit = w .state .audio .credit; received = w .state .stats .«in_frames»; sent = w .state .stats .«out_frames» }
 
--- the stream counter, and the place of the sending ring, which has room for so many frames
+-- the stream counter, the place of the sending ring, which has room for so many frames, and the frames counted as sent
 pub record Out : Type 0 where
   pub counter : ℕ
   pub sending : Ring
   pub capacity : ℕ
+  pub sent : ℕ
 
 abbrev pub outOf : World → Out
-outOf w = record { counter = w .state .audio .counter; sending = w .state .audio .sending; capacity = length (w .sending) / WORDS }
+outOf w =
+    record {
+      counter = w .state .audio .counter;
+      sending = w .state .audio .sending;
+      capacity = length (w .sending) / WORDS;
+      sent = w .state .stats .«out_frames»;
+    }
 
--- a block sent: the counter goes up by seven, modulo 2^16, and seven frames leave the ring, or all that it has
+-- a block sent: the counter goes up by seven, modulo 2^16, seven frames leave the ring, or all that it has, and seven are counted
 unfoldable pub sentOut : Out → Out
 sentOut o =
     record {
       counter = (o .counter + BLOCK-FRAMES) % 2 ^ 16;
       sending = takenFrom (o .capacity) (min BLOCK-FRAMES (o .sending .len)) (o .sending);
       capacity = o .capacity;
+      sent = wrapped (o .sent + BLOCK-FRAMES);
     }
 
 -- one good block, and n of them

@@ -1,17 +1,18 @@
 -- Which microframes reach the audio input and the audio output step, by entry values alone, and the World as it stands there
 -- (document 01, "Host record": the first definition).
-use Prim.Native.Nat.{ℕ}
+use Prim.Native.Nat.{ℕ, _+_}
 use mathlib.Core.Bool.{Bool, true, false, not, _&&_, _||_}
 use mathlib.Core.List.{List, []}
-use lib.Dec.{eqb}
+use lib.Dec.{eqb, ltb}
 use Rattle.dtd.specs.Dtd.{runDtds}
 use Rattle.record.specs.declared.Settings.{Settings}
+use Rattle.record.specs.Record.{wrapped}
 use Rattle.record.specs.World.{World, busOf}
 use Rattle.record.specs.Change.{Step, _then_, left}
 use Rattle.model.specs.Phases.{suspends, leaves}
 use Rattle.model.specs.Control.{enumerating}
-use Rattle.model.specs.Streams.{ready}
-use Rattle.model.specs.Audio.{audioIn, audioOut, addsBudget, clearsBudget, overBudget, hears}
+use Rattle.model.specs.Streams.{ready, nextTotal}
+use Rattle.model.specs.Audio.{audioIn, audioOut, BLOCK, named, addsBudget, clearsBudget, hears}
 use Rattle.model.specs.Microframe.{rsSet, goneAt, asleepAt, streaming, opens, enumerates}
 
 -- ---- reaching, in closed form; rs, g and s: RS, gone and suspended by the entry values
@@ -34,9 +35,12 @@ phaseBy rs w = left (toPhase (w .settings) rs) w
 unfoldable pub streamBy : Bool → World → World
 streamBy rs w = left (enumerates (w .settings)) (phaseBy rs w)
 
--- 858-866: and the budget is met
+-- 858-866: no descriptor is named at the stream step, or its bytes are within the budget at entry with one packet's bytes more
+unfoldable pub withinBudget : ℕ → World → Bool
+withinBudget budget u = not (named u && ltb (wrapped (budget + BLOCK)) (nextTotal audioIn u))
+
 unfoldable pub inputBy : Bool → Bool → Bool → World → Bool
-inputBy rs g s w = outputBy rs g s w && not (overBudget (left addsBudget (streamBy rs w)))
+inputBy rs g s w = outputBy rs g s w && withinBudget (w .state .audio .budget) (streamBy rs w)
 
 -- ---- resets of the credit
 

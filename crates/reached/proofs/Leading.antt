@@ -15,7 +15,7 @@ use Rattle.record.specs.declared.Settings.{Settings}
 use Rattle.record.specs.World.{World}
 use Rattle.record.specs.Change.{left}
 use Rattle.model.specs.Microframe as M
-use Rattle.model.proofs.Placed.{and-first, and-second}
+use Rattle.bits.proofs.Tests.{and-first, and-second}
 use Rattle.bounds.specs.Bounds.{MOST, inBounds, enumeratingOk, countsOk, audioOk, countedOk, askedOk, heldOk, areasOk, ringOk}
 use Rattle.kept.proofs.Shape.{Shape, shape-kept}
 use Rattle.kept.proofs.Setups.{Entry}

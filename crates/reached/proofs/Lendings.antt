@@ -21,7 +21,7 @@ use Rattle.transfer.specs.Transfer.{pointers, bytesIn, tabulate, dataAddr}
 use Rattle.dtd.specs.Dtd.{primed, queueHead, nextOf, nextActive, runDtds, turns, settled, joined, turning, dataOut, moves, bytesOf, retiring, closing, advancing, completing, framed, followed, following, settling, unpriming, reporting, listEnds}
 use Rattle.model.specs.Audio.{blocksOf, blocks, good}
 use Rattle.model.specs.Earned.{goodBlocks}
-use Rattle.model.proofs.Placed.{and-first, and-second}
+use Rattle.bits.proofs.Tests.{and-first, and-second}
 use Rattle.reached.specs.Lists.{puts, window, words, stalledPage, stoppedPage, primedPage, blockAt400, blockAt600, roomAt420, roomAt620}
 use Rattle.reached.proofs.Page.{framedPage, framedMemory}
 use Rattle.reached.proofs.Summed.{bytesAsked, bytesRead, ranMemory}

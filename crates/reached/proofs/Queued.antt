@@ -11,7 +11,7 @@ use borrow.Author.Tests.{ltb-true}
 use Rattle.bus.proofs.WordLaws.{set-lt}
 use Rattle.record.specs.Change.{drained}
 use Rattle.model.specs.Phases.{firstSetups}
-use Rattle.model.proofs.Placed.{and-first, and-second}
+use Rattle.bits.proofs.Tests.{and-first, and-second}
 use Rattle.reached.proofs.Leading.{Queue}
 
 -- every element is a byte

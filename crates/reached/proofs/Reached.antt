@@ -11,7 +11,7 @@ use Rattle.record.specs.declared.Phase.the-variants.{Idle, Vbus, Stream}
 use Rattle.record.specs.declared.Settings.{Settings}
 use Rattle.model.specs.Phases.{anySpan}
 use Rattle.model.specs.Audio.{blocksOf}
-use Rattle.model.proofs.Placed.{and-first, and-second}
+use Rattle.bits.proofs.Tests.{and-first, and-second}
 use Rattle.bounds.specs.Bounds.{MOST, inBounds, askedOk, heldOk, countedOk, countsOk, areasOk}
 use Rattle.kept.proofs.Counted.{counted-of}
 use Rattle.kept.proofs.Whole.{Bounded}

@@ -29,7 +29,7 @@ use Rattle.model.specs.Microframe.{rsSet, goneAt, asleepAt, enumerates}
 use Rattle.model.specs.Reach.{streamsIn, outputBy, inputBy, backBy, leftBy, phaseBy, streamBy, paced, reachesOutput, comesBack, deviceLeft, atInput, atOutput, inputReady, outputReady, bytesAt}
 use Rattle.model.specs.Earned.{goodBlocks}
 use Rattle.model.proofs.Fields.{left-runs, ranWorld}
-use Rattle.model.proofs.Placed.{and-first, and-second}
+use Rattle.bits.proofs.Tests.{and-first, and-second}
 use Rattle.kept.proofs.Holding.{Holds, holds-then, holds-nothing, holds-one, holds-pick}
 use Rattle.kept.proofs.Every.{on-if}
 use Rattle.history.specs.Sums as S

@@ -7,6 +7,23 @@ use native.Mathlib.Omega.{arith}
 pub false-true : false ≡ true → ⊥
 false-true e = let z : _≡_ {A = ℕ} 0 1 = cc in omega arith
 
+pub and-first : (a b : Bool) → (a && b) ≡ true → a ≡ true
+and-first true b e = refl
+and-first false b e = e
+
+pub and-second : (a b : Bool) → (a && b) ≡ true → b ≡ true
+and-second true b e = e
+and-second false b e = absurd (false-true e)
+
+-- the second fails where the first holds and both do not
+pub and-rest : (a b : Bool) → (a && b) ≡ false → a ≡ true → b ≡ false
+and-rest true b e h = e
+and-rest false b e h = absurd (false-true h)
+
+pub not-true : (a : Bool) → not a ≡ true → a ≡ false
+not-true true e = sym e
+not-true false e = refl
+
 pub and-both : (a b : Bool) → a ≡ true → b ≡ true → (a && b) ≡ true
 and-both true b p q = q
 and-both false b p q = p
