@@ -1,4 +1,4 @@
--- The bounds of a host record (document 01, "Numbers of refusal", 5), a named part for each clause, in the order of that text.
+-- The bounds of a host record (document 01, "Numbers of refusal", 5): each clause of that text stands in one of the named parts below.
 use Prim.Native.Nat.{ℕ, zero, suc, _+_, _-_, _*_, _/_, _%_, _^_, min}
 use mathlib.Core.Bool.{Bool, true, false, not, _&&_, _||_}
 use mathlib.Core.List.{List}
@@ -19,17 +19,18 @@ use Rattle.record.specs.Change.{FRAMES, WORDS}
 use Rattle.record.specs.Setups.{little}
 use Rattle.model.specs.Control.{wLength, enumerating}
 
--- ---- setups that the source makes (usbhost.rs 474-479, 715, 724-735)
+-- ---- setups that the source makes (usbhost.rs 477-482, 713, 723-735)
 
 -- four bytes as the little-endian word that is kept for them
 abbrev pub le : ℕ → ℕ → ℕ → ℕ → ℕ
 le a b c d = a + 2 ^ 8 * b + 2 ^ 16 * c + 2 ^ 24 * d
 
--- 479, 715: a configuration request, of any length
+-- 481, 713: a configuration request, of any length
 abbrev pub asksConfiguration : ℕ → Bool
 asksConfiguration first = eqb first (le 0x80 6 0 2)
 
--- device descriptor of 64 or of 18 bytes; address 7; configuration of any length; set configuration 1; set interface with an alternate that is not 0
+-- device descriptor of 64 or of 18 bytes (478, 480); address 7 (479); configuration of any length (481, 713); set configuration 1 (723, 730);
+-- set interface with an alternate that is not 0 (79, 725, 731-732)
 unfoldable pub made : ℕ → ℕ → Bool
 made first second =
     (eqb first (le 0x80 6 0 1) && (eqb second (le 0 0 64 0) || eqb second (le 0 0 18 0)))
@@ -72,6 +73,7 @@ requestOk c waiting uf =
 
 -- ---- queues, descriptors, packer
 
+-- MIDI queue over 4,096 or not a multiple of four, serial queue over 4,096, device descriptor over the 64 bytes of the record
 unfoldable pub queuesOk : Lengths → Bool
 queuesOk l = leb (l .midi) 4096 && (eqb (l .midi % 4) 0 && (leb (l .serial) 4096 && leb (l .device) 64))
 
@@ -81,6 +83,7 @@ packerOk p = leb (p .held) 2 && (p .sysex || (eqb (p .held) 0 || not (eqb (messa
 
 -- ---- counts
 
+-- the most microframes that a host has
 abbrev pub MOST : ℕ
 MOST = 2 ^ 40
 
@@ -93,13 +96,13 @@ countsOk s =
 abbrev pub times : ℕ → ℕ → ℕ
 times k n = k * min n MOST
 
--- every other counter
+-- every other counter: the twelve of usbhost.rs 293-309, at most 32,767 a microframe
 unfoldable pub countersOk : Stats → Bool
 countersOk r =
     (leb (r .«in_transfers») (times 32767 (r .microframes)) && (leb (r .«out_transfers») (times 32767 (r .microframes)) && (leb (r .«in_frames») (times 32767 (r .microframes)) && (leb (r .«out_frames») (times 32767 (r .microframes)) && leb (r .«bad_blocks») (times 32767 (r .microframes))))))
     && (leb (r .«midi_dtds») (times 32767 (r .microframes)) && (leb (r .«midi_asleep») (times 32767 (r .microframes)) && (leb (r .«out_underruns») (times 32767 (r .microframes)) && (leb (r .«midi_packets_out») (times 32767 (r .microframes)) && (leb (r .«vendor_in_bytes») (times 32767 (r .microframes)) && (leb (r .restarts) (times 32767 (r .microframes)) && leb (r .enumerations) (times 32767 (r .microframes))))))))
 
--- credit: a multiple of seven, at most 623 a microframe
+-- credit: a multiple of seven, at most 623 a microframe (a total of 32,767 bytes has 89 whole blocks of 368, of seven frames each)
 unfoldable pub creditOk : ℕ → ℕ → Bool
 creditOk credit n = eqb (credit % 7) 0 && leb credit (times 623 n)
 
@@ -110,7 +113,7 @@ timerOk t n = not (t .set) || (leb (ZERO - times 125 n) (t .count) && leb (t .co
 unfoldable pub timersOk : Timers → ℕ → Bool
 timersOk ts n = timerOk (ts .zero) n && timerOk (ts .one) n
 
--- input budget, block and channels
+-- input budget not above 32,766, block from 33 to 2,047, and the channels that match it (718-720)
 unfoldable pub audioOk : Audio → Bool
 audioOk a =
     leb 33 (a .block)
@@ -123,14 +126,17 @@ abbrev pub askedOk : State → List ℕ → Bool
 askedOk s setups =
     setupsOk (s .lengths .setups) setups && (enumeratingOk s && requestOk (s .control) (s .lengths .setups) (s .port .uf))
 
+-- bytes held for the device, and in the packer
 abbrev pub heldOk : State → Packer → Bool
 heldOk s p = queuesOk (s .lengths) && packerOk p
 
+-- microframes, counters, credit and timers
 abbrev pub countedOk : State → Bool
 countedOk s =
     countsOk s
     && (countersOk (s .stats) && (creditOk (s .audio .credit) (s .stats .microframes) && timersOk (s .timers) (s .stats .microframes)))
 
+-- all of it
 unfoldable pub inBounds : State → Packer → List ℕ → Bool
 inBounds s p setups = askedOk s setups && (heldOk s p && (countedOk s && audioOk (s .audio)))
 

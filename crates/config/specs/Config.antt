@@ -34,7 +34,7 @@ at x k = getD x k 0
 abbrev pub whole : List ℕ → Bool
 whole d = leb 2 (length d) && (leb 2 (at d 0) && leb (at d 0) (length d))
 
--- the whole descriptors of some bytes, at most fuel of them
+-- the whole descriptors of some bytes, at most fuel of them (usbhost.rs 75-76, 98)
 unfoldable pub cut : ℕ → List ℕ → List (List ℕ)
 cut zero d = []
 cut (suc fuel) d = pick (whole d) (take (at d 0) d ∷ cut fuel (drop (at d 0) d)) []
@@ -83,7 +83,7 @@ interfaces ps = map (λ p. p .0) ps
 abbrev pub alternates : List (ℕ × ℕ) → List ℕ
 alternates ps = map (λ p. p .1) ps
 
--- the pair of interface i takes the alternate a; an interface that has no pair yet gets one, at the end (usbhost.rs 83-92)
+-- the pair of interface i takes the alternate a; an interface that has no pair yet gets one, at the end (usbhost.rs 83-93)
 unfoldable pub placed : ℕ → ℕ → List (ℕ × ℕ) → List (ℕ × ℕ)
 placed i a [] = (i, a) ∷ []
 placed i a (p ∷ ps) = pick (eqb (p .0) i) ((i, a) ∷ ps) (p ∷ placed i a ps)
@@ -102,7 +102,7 @@ chosen i input size c =
       output = pick input (c .output) size;
     })
 
--- one descriptor: an interface is read from now on, an endpoint that counts may be chosen, anything else is passed over
+-- one descriptor: an interface is read from now on, an endpoint that counts may be chosen, anything else is passed over (usbhost.rs 77-97)
 unfoldable pub step : List ℕ → Walk → Walk
 step x w =
     record {
@@ -118,7 +118,7 @@ unfoldable pub walked : List (List ℕ) → Walk → Walk
 walked [] w = w
 walked (x ∷ xs) w = walked xs (step x w)
 
--- before the first descriptor: no pair, and all numbers 0
+-- before the first descriptor: no pair, and all numbers 0 (usbhost.rs 72-73)
 abbrev pub start : Walk
 start =
     record {
@@ -126,7 +126,7 @@ start =
       choice = record { pairs = []; input = 0; output = 0 };
     }
 
--- what the bytes of a configuration descriptor ask for
+-- `parse_config` (usbhost.rs 71-101): what the bytes of a configuration descriptor ask for
 abbrev pub parsed : List ℕ → Choice
 parsed d = walked (descriptors d) start .choice
 

@@ -46,7 +46,7 @@ queueHead e p = clear (wordAt p EPLISTADDR) 0x7FF + 64 * (2 * e .number + pick (
 abbrev pub at : ℕ → Memory → ℕ
 at a m = peek32 m a
 
--- bit 0 of a pointer: no descriptor
+-- 523, 547: bit 0 of a pointer: no descriptor
 abbrev pub terminates : ℕ → Bool
 terminates n = any n 1
 
@@ -81,7 +81,7 @@ nextActive e m = not (terminates (nextDtd e m)) && isActive (tokenOf (nextDtd e 
 
 -- ---- one descriptor
 
--- 571, 576: how many bytes it moves; bs is what the host has to send
+-- 571, 577: how many bytes it moves; bs is what the host has to send
 unfoldable pub moves : Endpoint → ℕ → List ℕ → ℕ
 moves e tok bs = pick (e .input) (totalOf tok) (min (totalOf tok) (length bs))
 
@@ -124,13 +124,13 @@ retiring qh n tok moved bit = closing qh n tok moved then advancing qh n tok bit
 unfoldable pub followed : ℕ → ℕ → ℕ → ℕ → Bus → ℕ
 followed qh n tok moved b = peek32 (exec store (closing qh n tok moved) b .memory) (descriptor n)
 
--- the whole of one descriptor: its data, and then its retirement
+-- 558-601: the whole of one descriptor: its data, and then its retirement
 unfoldable pub turning : Endpoint → ℕ → ℕ → List ℕ → BusStep
 turning e qh n bs b =
     (dataOut e n (tokenOf n (b .memory)) bs
     then retiring qh n (tokenOf n (b .memory)) (moves e (tokenOf n (b .memory)) bs) (bitOf e)) b
 
--- the pointer that the run goes on with
+-- 602: the pointer that the run goes on with
 unfoldable pub following : Endpoint → ℕ → ℕ → List ℕ → Bus → ℕ
 following e qh n bs b =
     followed qh n (tokenOf n (b .memory)) (moves e (tokenOf n (b .memory)) bs) (exec store (dataOut e n (tokenOf n (b .memory)) bs) b)
@@ -173,7 +173,7 @@ turns (suc k) e qh n bs b =
     (turns k e qh (following e qh n bs b) (drop (moves e (tokenOf n (b .memory)) bs) bs) (exec store (turning e qh n bs) b)))
     (ended 1))
 
--- 547, 607: endpoint 0 retires at most 64, any other at most one
+-- 547, 606: endpoint 0 retires at most 64, any other at most one
 abbrev pub most : Endpoint → ℕ
 most e = pick (eqb (e .number) 0) 64 1
 
@@ -189,7 +189,7 @@ unpriming ends bit r = pick ends (put EPSR (clear (wordAt (r .page) EPSR) bit) �
 unfoldable pub reporting : Bool → PageStep
 reporting done r = pick done (raising 1 r) []
 
--- what follows the last descriptor of a run that ended at the pointer n
+-- 613-619: what follows the last descriptor of a run that ended at the pointer n: its stores, and the run with them
 unfoldable pub settling : ℕ → ℕ → Bool → BusStep
 settling bit n done = reading (listEnds n) (λ ends. lifted (unpriming ends bit)) then lifted (reporting done)
 

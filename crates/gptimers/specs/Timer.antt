@@ -20,7 +20,7 @@ ZERO = 2 ^ 50
 unfoldable pub signed : ℕ → ℤ
 signed n = pos n -ℤ pos ZERO
 
--- how many microseconds a microframe takes from a count at high speed
+-- 752: how many microseconds a microframe takes from a count at high speed
 abbrev pub STEP : ℕ
 STEP = 125
 
@@ -31,14 +31,14 @@ none = record { set = false; count = 0 }
 abbrev pub counting : ℕ → Timer
 counting n = record { set = true; count = n }
 
--- the offsets of timer k's load and control registers
+-- 743: the offsets of timer k's load and control registers
 abbrev pub loadRegister : ℕ → ℕ
 loadRegister k = 0x80 + 8 * k
 
 abbrev pub controlRegister : ℕ → ℕ
 controlRegister k = 0x84 + 8 * k
 
--- bits of a control word: run, reset, repeat
+-- bits of a control word: run (749), reset (745), repeat (755)
 abbrev pub RUN : ℕ
 RUN = 2 ^ 31
 
@@ -48,7 +48,7 @@ RESET = 2 ^ 30
 abbrev pub REPEAT : ℕ
 REPEAT = 2 ^ 24
 
--- the 24 bits of timer k's load
+-- 752, 756: the 24 bits of timer k's load
 unfoldable pub loadOf : ℕ → List ℕ → ℕ
 loadOf k p = bitAnd (wordAt p (loadRegister k)) 0xFFFFFF
 

@@ -1,4 +1,5 @@
 -- What a microframe can change, one thing at a time, and a step as the list of its changes, oldest first (document 01, "Host record": the second definition).
+-- Beside each change stand the lines of usbhost.rs that make it.
 use Prim.Native.Nat.{ℕ, _+_, _-_, _*_, _/_, _%_}
 use mathlib.Core.Bool.{Bool, true, false}
 use mathlib.Core.List.{List, [], _∷_, _++_, map}
@@ -20,34 +21,34 @@ use Rattle.record.specs.World.{World, withState, withSetupQueue, withMid
 
 pub data Change : Type 0 where
   bus : Store → Change  -- a store to memory, or the line's flag
-  ran : Endpoint → ℕ → ℕ → Change  -- the mark of a descriptor run: how many it retired, how many bytes it moved; nothing changes
-  lost : ℕ → Change  -- bytes that no window took
-  count : Counter → ℕ → Change  -- a counter goes up
-  uf : ℕ → Change  -- the microframe count
-  phase : Phase → Change
-  started : ℕ → Change  -- the phase's start
-  gone : Bool → Change
-  suspended : Bool → Change
-  running : Bool → Change  -- RS was seen set
-  credit : ℕ → Change
-  budget : ℕ → Change  -- bytes that the input endpoint may still move
-  counter : ℕ → Change  -- the stream counter
-  block : ℕ → ℕ → Change  -- block length and channels
-  timers : Timers → Change
-  control : Control → Change  -- the request
-  queued : List ℕ → Change  -- setups behind those that wait
-  popped : Change  -- the first setup leaves
-  pushed : List ℕ → Change  -- a setup before those that wait
-  cleared : Change  -- no setup waits
-  reply : ℕ → List ℕ → Change  -- bytes into the reply area from an index on
-  device : List ℕ → Change  -- the device descriptor
-  config : List ℕ → Change  -- the configuration
-  forgot : Change  -- both descriptors are empty
-  midi : ℕ → Change  -- bytes leave the MIDI queue
-  serial : ℕ → Change  -- bytes leave the serial queue
-  received : List ℕ → Change  -- MIDI or serial bytes to the receive area
-  frame : List ℕ → Change  -- a frame to the received ring, which loses its oldest
-  taken : ℕ → Change  -- frames leave the sending ring
+  ran : Endpoint → ℕ → ℕ → Change  -- the mark of a descriptor run: how many it retired, how many bytes it moved; nothing changes (536-621)
+  lost : ℕ → Change  -- bytes that no window took (document 01, "Memory windows")
+  count : Counter → ℕ → Change  -- a counter of `stats` goes up
+  uf : ℕ → Change  -- the microframe count (375)
+  phase : Phase → Change  -- 397, 437, 455, 464, 475, 627
+  started : ℕ → Change  -- the phase's start, `t` (438, 456, 465, 476)
+  gone : Bool → Change  -- `is_gone` (386)
+  suspended : Bool → Change  -- 414
+  running : Bool → Change  -- RS was seen set, `was_running` (434, 436)
+  credit : ℕ → Change  -- 400, 441, 890, 947
+  budget : ℕ → Change  -- bytes that the input endpoint may still move, `in_budget` (401, 442, 863, 867)
+  counter : ℕ → Change  -- the stream counter, `out_counter` (932)
+  block : ℕ → ℕ → Change  -- block length and channels (719-720)
+  timers : Timers → Change  -- `gpt` (746-762)
+  control : Control → Change  -- the request, `ctl` (399, 440, 644-697)
+  queued : List ℕ → Change  -- setups behind those that wait (483, 723-725, 734)
+  popped : Change  -- the first setup leaves (625)
+  pushed : List ℕ → Change  -- a setup before those that wait (713)
+  cleared : Change  -- no setup waits (398, 439)
+  reply : ℕ → List ℕ → Change  -- bytes into the reply area from an index on (663)
+  device : List ℕ → Change  -- the device descriptor (707)
+  config : List ℕ → Change  -- the configuration (715)
+  forgot : Change  -- both descriptors are empty (402-403, 443-444)
+  midi : ℕ → Change  -- bytes leave the MIDI queue (848)
+  serial : ℕ → Change  -- bytes leave the serial queue (828)
+  received : List ℕ → Change  -- MIDI or serial bytes to the receive area (805, 814)
+  frame : List ℕ → Change  -- a frame to the received ring, which loses its oldest (888, 893-895)
+  taken : ℕ → Change  -- frames leave the sending ring (934)
 
 -- a queue in a fixed array, of which len bytes are in use: n leave its front, the others move up, and what lies behind stays
 unfoldable pub drained : List ℕ → ℕ → ℕ → List ℕ

@@ -1,4 +1,4 @@
--- The parts of the host record with a field changed, and its counters (usbhost.rs 205-308).
+-- The parts of the host record with a field changed, and its counters (usbhost.rs 199-310).
 use Prim.Native.Nat.{ℕ, _+_, _%_, _^_}
 use mathlib.Core.Bool.{Bool}
 use Rattle.gptimers.specs.declared.Timers.{Timers}
@@ -115,7 +115,7 @@ withLengths r x = record { phase = r .phase; port = r .port; audio = r .audio; c
 abbrev pub withAnswer : State → Answer → State
 withAnswer r x = record { phase = r .phase; port = r .port; audio = r .audio; control = r .control; timers = r .timers; stats = r .stats; lengths = r .lengths; answer = x }
 
--- ---- the counters
+-- ---- the counters (`UsbStats`, usbhost.rs 290-310)
 
 pub data Counter : Type 0 where
   microframes : Counter

@@ -1,4 +1,4 @@
--- Runs over whole lists: what is kept of their bytes, and what one turn of their loops promises.
+-- Runs over whole lists (usbhost.rs 541-609; endpoint 0 loops, 547): what is kept of their bytes, and what one turn of their loops promises.
 use Prim.Native.Nat.{ℕ, zero, suc, _+_, _-_, _≤_, min}
 use mathlib.Core.Bool.{Bool, true, false, _||_}
 use mathlib.Core.List.{List, []}
@@ -19,7 +19,7 @@ use Rattle.dtd.specs.declared.Ran.{Ran}
 use Rattle.runs.specs.declared.Turn.{Turn}
 use Rattle.runs.specs.declared.Filled.{Filled}
 
--- document 01, "Control record": bytes go into an area from index at on, and what lies past the limit is discarded
+-- document 01, "Control record"; usbhost.rs 663-665: bytes go into an area from index at on, and what lies past the limit is discarded
 unfoldable pub kept : List ℕ → ℕ → ℕ → List ℕ → List ℕ
 kept out at limit bs = sets out at (take (limit - at) bs)
 
@@ -27,7 +27,7 @@ kept out at limit bs = sets out at (take (limit - at) bs)
 unfoldable pub keptEnd : ℕ → ℕ → List ℕ → ℕ
 keptEnd at limit bs = at + length (take (limit - at) bs)
 
--- a loop's state before its first turn, and one at which it ends at the pointer n
+-- 542-546: a loop's state before its first turn, and one at which it ends at the pointer n
 abbrev pub firstTurn : ℕ → ℕ → Turn
 firstTurn n at = record { next = n; at = at; done = false; moved = 0; retired = 0; dropped = 0; stop = false }
 

@@ -1,4 +1,4 @@
--- Runs of bytes at addresses that follow each other, as the bytes of a transfer do within a page of 4,096 bytes.
+-- Runs of bytes at addresses that follow each other, as the bytes of a transfer do within a page of 4,096 bytes (usbhost.rs 560-581).
 use Prim.Native.Nat.{ℕ, zero, suc, _+_}
 use mathlib.Core.List.{List}
 use lib.ListN.{getD}

@@ -1,4 +1,4 @@
--- What a device access of one, two or four bytes does (document 01, "Register page" and numbers 1 and 4; usbdev.rs 31-76; MCF5441x Reference Manual, USB OTG).
+-- What a device access of one, two or four bytes does (document 01, "Register page" and numbers 1 and 4; usbdev.rs 31-74; MCF5441x Reference Manual, USB OTG).
 use Prim.Native.Nat.{ℕ, _+_, _*_, _/_, _%_, _^_}
 use mathlib.Core.Bool.{Bool, true, false, _&&_, _||_}
 use mathlib.Core.List.{List, [], _∷_}
@@ -30,11 +30,11 @@ refusal len off size = pick (eqb len 4096) (pick (fits off size) 0 4) 1
 unfoldable pub halfAt : List ℕ → ℕ → ℕ
 halfAt p off = getD p off 0 * 2 ^ 8 + getD p (off + 1) 0
 
--- usbdev.rs 32-42: four bytes. EPPRIME and EPFLUSH read as 0, USBCMD without RST (bit 1), which clears itself
+-- usbdev.rs 32-41: four bytes. EPPRIME and EPFLUSH read as 0, USBCMD without RST (bit 1), which clears itself
 unfoldable pub readWord : List ℕ → ℕ → ℕ
 readWord p off = pick (eqb off EPPRIME || eqb off EPFLUSH) 0 (pick (eqb off USBCMD) (clear (wordAt p USBCMD) 2) (wordAt p off))
 
--- one and two bytes are plain
+-- one and two bytes are plain (usbdev.rs 33-35; bus.rs 781-799)
 unfoldable pub readSized : List ℕ → ℕ → ℕ → ℕ
 readSized p off size = pick (eqb size 4) (readWord p off) (pick (eqb size 2) (halfAt p off) (getD p off 0))
 
@@ -60,7 +60,7 @@ otgsc keep v = bitOr (bitOr (clear v 0x007F7F00) (bitAnd keep 0x00007F00)) (clea
 unfoldable pub listed : ℕ → Bool
 listed off = clearsByOne off || (eqb off OTGSC || (eqb off EPFLUSH || (eqb off EPPRIME || eqb off USBCMD)))
 
--- usbdev.rs 49-73: the words listed, in order. Priming sets the endpoints' bits of EPSR, flushing clears them, and neither command stays
+-- usbdev.rs 49-73: the words listed, in order, or for any other register its own word. Priming sets the endpoints' bits of EPSR, flushing clears them, and neither command stays
 unfoldable pub listing : ℕ → ℕ → PageStep
 listing off v r =
     pick (clearsByOne off) (put off (clear (wordAt (r .page) off) v) ∷ [])
@@ -70,7 +70,7 @@ listing off v r =
     (pick (eqb off USBCMD) (put USBCMD (clear v 2) ∷ [])
     (put off v ∷ [])))))
 
--- a four-byte write: what is listed, and the flag follows; or the word as it is
+-- a four-byte write: what is listed, and the flag follows; or the word as it is, and the flag stays (bus.rs 967-974)
 unfoldable pub writingWord : ℕ → ℕ → PageStep
 writingWord off v = pick (listed off) (listing off v then following) (listing off v)
 
@@ -78,7 +78,7 @@ writingWord off v = pick (listed off) (listing off v then following) (listing of
 unfoldable pub halfPut : List ℕ → ℕ → ℕ → List ℕ
 halfPut p off v = L.set (L.set p off (v / 2 ^ 8 % 256)) (off + 1) (v % 256)
 
--- the registers after an accepted write: one and two bytes are plain, and the flag stays
+-- the registers after an accepted write: one and two bytes are plain, and the flag stays (usbdev.rs 46-48; bus.rs 801-817)
 unfoldable pub writeSized : Registers → ℕ → ℕ → ℕ → Registers
 writeSized r off size v =
     pick (eqb size 4) (done (writingWord off v) r)

@@ -1,4 +1,4 @@
--- Offsets of the registers on their page, under the source's names (usbdev.rs 17-26, usbhost.rs 31-52; MCF5441x Reference Manual, USB OTG).
+-- Offsets of the registers on their page, under the source's names (usbdev.rs 16-25, usbhost.rs 31-42, 649; MCF5441x Reference Manual, USB OTG).
 use Prim.Native.Nat.{ℕ}
 
 -- the address of the page

@@ -7,7 +7,7 @@ use Rattle.bits.specs.Word.{clear}
 unfoldable pub nextFrindex : ℕ → ℕ → ℕ
 nextFrindex step fr = (fr + step) % 2 ^ 14
 
--- bits 16 to 30 of a token: the bytes that are still to move
+-- usbhost.rs 558: bits 16 to 30 of a token, the bytes that are still to move
 unfoldable pub totalOf : ℕ → ℕ
 totalOf tok = bitAnd (tok / 2 ^ 16) 0x7FFF
 
