@@ -23,7 +23,7 @@ use Rattle.audio.specs.declared.Paced.{Paced}
 
 -- ---- input
 
--- the budget of a microframe: one block more where a descriptor is named, and none left where its bytes are allowed
+-- usbhost.rs 858-868: the budget of a microframe: one block more where a descriptor is named, and none left where its bytes are allowed
 abbrev pub pacedOf : Memory → ℕ → Paced
 pacedOf m budget =
     pick (primed audioIn (m .page) && not (terminates (nextDtd audioIn m)))
@@ -36,7 +36,7 @@ pacedOf m budget =
 abbrev pub decodedOf : State → Decoded
 decodedOf s = record { ring = s .audio .received; credit = s .audio .credit; frames = s .stats .«in_frames»; bad = s .stats .«bad_blocks» }
 
--- the state with one more run counted, where it brought something
+-- 871-872: the state with one more run counted, where it brought something
 abbrev pub countedIn : State → Bool → State
 countedIn s t = pick t (withStats s (counted «in_transfers» 1 (s .stats))) s
 
@@ -70,7 +70,7 @@ pub record CanSend (s : State) (l : List ℕ) : Type 0 where
   pub block : s .audio .block ≤ 2048
   pub channels : 32 + 28 * s .audio .channels ≤ 2048
 
--- the state after a block: counter, credit, ring and counts
+-- 932-951: the state after a block: counter, credit, ring and counts
 abbrev pub sentBlock : State → ℕ → State
 sentBlock s capacity =
     withStats
@@ -89,7 +89,7 @@ pub record Outputs (f : Step) (s : State) (m : Memory) (l : List ℕ) (s′ : St
   pub can : CanSend s′ l
   pub received : s′ .audio .received ≡ s .audio .received
 
--- the endpoint's bit goes, and all else of the state is as it was
+-- 910-911, 916-917: the endpoint's bit goes, and all else of the state is as it was
 pub record Unprimes (s : State) (m : Memory) (s′ : State) (m′ : Memory) : Type 0 where
   pub leads : (w : World) (l : List ℕ) → Leads unprimes (atSent w s m l) (atSent w s′ m′ l)
   pub sized : Sized m′
@@ -97,6 +97,7 @@ pub record Unprimes (s : State) (m : Memory) (s′ : State) (m′ : Memory) : Ty
 
 -- ---- both
 
+-- a World with state, memory and both rings in it
 abbrev pub atStream : World → State → Memory → List ℕ → List ℕ → World
 atStream r s m l k = record { settings = r .settings; packer = r .packer; state = s; memory = m; setups = r .setups; midi = r .midi; serial = r .serial; device = r .device; reply = r .reply; config = r .config; receive = r .receive; received = l; sending = k }
 

@@ -20,7 +20,7 @@ pub record InRing (r : Ring) : Type 0 where
 abbrev pub atRing : World → Ring → List ℕ → World
 atRing r x l = record { settings = r .settings; packer = r .packer; state = withAudio (r .state) (withReceived (r .state .audio) x); memory = r .memory; setups = r .setups; midi = r .midi; serial = r .serial; device = r .device; reply = r .reply; config = r .config; receive = r .receive; received = l; sending = r .sending }
 
--- seven frames from bs on
+-- usbhost.rs 882-888: seven frames from bs on
 pub record KeepsFrames (bs : List ℕ) (r : Ring) (l : List ℕ) (r′ : Ring) (l′ : List ℕ) : Type 0 where
   pub leads : (w : World) → Leads (keepsFrames 7 bs) (atRing w r l) (atRing w r′ l′)
   pub inside : InRing r′
@@ -40,7 +40,7 @@ pub record Keeps (f : Step) (d : Decoded) (l : List ℕ) (d′ : Decoded) (l′ 
   pub leads : (w : World) → Leads f (atBlocks w d l) (atBlocks w d′ l′)
   pub inside : InRing (d′ .ring)
 
--- one more bad block, and one more good one with its frames in the ring
+-- 879, 888-890: one more bad block, and one more good one with its frames in the ring
 abbrev pub oneBad : Decoded → Decoded
 oneBad d = record { ring = d .ring; credit = d .credit; frames = d .frames; bad = wrapped (d .bad + 1) }
 

@@ -22,11 +22,11 @@ use Rattle.control.specs.declared.Next.{Next}
 use Rattle.control.specs.declared.Next.the-variants.{Setup, Empty}
 use Rattle.control.specs.declared.Acknowledged.{Acknowledged}
 
--- the first of so many setups that wait, by its two words
+-- usbhost.rs 625: the first of so many setups that wait, by its two words
 abbrev pub nextOf : List ℕ → ℕ → Next
 nextOf q count = pick (eqb count 0) Empty (Setup (little q 0) (little q 4))
 
--- the two words of a setup in a queue head
+-- 638-639: the two words of a setup in a queue head
 abbrev pub putsSetup : ℕ → ℕ → ℕ → BusStep
 putsSetup qh first second = putting (after qh 0x28) first then putting (after qh 0x2C) second
 
@@ -48,14 +48,14 @@ pub record Stages (f : Step) (s : State) (m : Memory) (p : List ℕ) (s′ : Sta
   pub sized : Sized m′
   pub ready : Ready s′
 
--- the data stage from the device, and towards it
+-- 661-667, 668-674: the data stage from the device, and towards it
 abbrev pub dataIn : Step
 dataIn = runs (endpoint 0 true) [] keepsReply
 
 abbrev pub dataOut : Step
 dataOut = runs (endpoint 0 false) [] (λ r. when (λ w. r .done) toStatus)
 
--- a status stage up to its end, and what follows by its completion
+-- 692-700: what follows the run of a status stage, by its completion
 abbrev pub endsBy : Bool → Bool → Step
 endsBy stack done = if (λ w. done) (finishes stack) (when late dropsRequest)
 
@@ -65,11 +65,11 @@ pub record Acknowledges (s : State) (m : Memory) (a : Acknowledged) (m′ : Memo
   pub ready : Ready (a .state)
   pub few : a .state .control .got ≤ 65535
 
--- what follows a data stage
+-- 658-700: a data stage, and what follows it
 abbrev pub serves : Bool → Step
 serves stack = H._then_ dataStage (if (λ w. inStatus (w .state .control .stage)) (statusStage stack) (when late dropsRequest))
 
--- a request that runs
+-- 649-700: a request that runs
 abbrev pub requests : Bool → Step
 requests stack = if stalled unstalls (stages stack)
 

@@ -27,7 +27,7 @@ atRequest r s q d p c = record { settings = r .settings; packer = r .packer; sta
 pub record Brings (f : Step) (s : State) (q d p c : List ℕ) (s′ : State) (q′ d′ c′ : List ℕ) : Type 0 where
   pub leads : (w : World) → Leads f (atRequest w s q d p c) (atRequest w s′ q′ d′ p c′)
 
--- the parts of `finishes` that functions of their own make
+-- the parts of `finishes` that functions of their own make (usbhost.rs 707, 715, 717-726, 729-735, 710-736)
 abbrev pub keepsDevice : Step
 keepsDevice = one (λ w. device (replied w))
 

@@ -45,7 +45,7 @@ pub record Fit (s : State) (words : ℕ) : Type 0 where
 
 -- ---- the parts of a microframe's step
 
--- 426-512: behind the suspend step, and behind the gone step
+-- usbhost.rs 426-512: behind the suspend step; 408-512: behind the gone step
 abbrev pub afterSuspend : Settings → ℕ → Bool → Bool → Step
 afterSuspend c t rs true = sleeps
 afterSuspend c t rs false = leaves (c .«device_stack») rs then byPhase c t rs

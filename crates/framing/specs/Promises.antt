@@ -36,7 +36,7 @@ pub record Flows (s : State) (words : ℕ) : Type 0 where
 
 -- ---- the parts of the streams' step
 
--- 501-504: MIDI input; 505-508: what the device stack adds; 500-508: the streams of an Overbridge device
+-- usbhost.rs 501-503: MIDI input; 504-508: what the device stack adds; 500-508: the streams of an Overbridge device
 abbrev pub midiSteps : Settings → ℕ → Step
 midiSteps c t = when (λ w. c .«midi_in») (readsMidi (within (c .sleep) t) (c .«midi_every»))
 

@@ -33,6 +33,7 @@ hears t w = reachesInput t w && inputReady (atInput w)
 abbrev pub answers : ℕ → World → Bool
 answers t w = reachesOutput t w && outputReady (atOutput w)
 
+-- n frames received; a block sent
 abbrev pub receive : ℕ → Sums → Sums
 receive n g = record { received = g .received + n; sent = g .sent }
 
@@ -82,6 +83,7 @@ heardEver t w a = pick (hears t w) (receive (readAt w) a) a
 abbrev pub answeredEver : ℕ → World → Sums → Sums → Sums
 answeredEver t w g a = pick (answers t w && earned g) (send a) a
 
+-- only accepted microframes change them
 unfoldable pub tallied : Host → Tally → Call → Tally
 tallied h y (microframe t l) =
     record {
@@ -98,6 +100,7 @@ tallied h y (frameTake received) = y
 tallied h y (deviceRead page off size) = y
 tallied h y (deviceWrite page off size v) = y
 
+-- over a list of calls, with no reset of `ever`
 unfoldable pub tally : Host → Tally → List Call → Tally
 tally h y [] = y
 tally h y (c ∷ cs) = tally (step h c) (tallied h y c) cs

@@ -23,7 +23,7 @@ use Rattle.midiin.specs.declared.Read.{Read}
 pub record OnPage (f : Step) (p p′ : List ℕ) : Type 0 where
   pub leads : (w : World) (s : State) → Leads f (atPage w s p) (atPage w s p′)
 
--- n packets of bs go into an area from index at on; the index behind them
+-- usbhost.rs 797-806: n packets of bs go into an area from index at on; the index behind them
 pub record Decodes (n : ℕ) (bs out out′ : List ℕ) (at end : ℕ) : Type 0 where
   pub area : out′ ≡ sets out at (decoded n bs)
   pub behind : end ≡ at + length (decoded n bs)
@@ -32,7 +32,7 @@ pub record Decodes (n : ℕ) (bs out out′ : List ℕ) (at end : ℕ) : Type 0 
 abbrev pub countRead : State → ℕ → State
 countRead s at = withAnswer (withStats s (counted «midi_dtds» 1 (s .stats))) (withCount (s .answer) at)
 
--- one read of so many bytes: it is counted, or the reads end
+-- 792-796: one read of so many bytes: it is counted, or the reads end
 abbrev pub afterRead : State → Ran → ℕ → ℕ → Read
 afterRead s r total at =
     pick (r .done || not (eqb total 0)) (record { state = countRead (afterRun s r) at; stop = false }) (record { state = afterRun s r; stop = true })

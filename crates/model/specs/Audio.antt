@@ -16,6 +16,7 @@ use Rattle.record.specs.Change.{Change, count, credit, budget, counter, frame, 
 use Rattle.model.specs.Phases.{changing}
 use Rattle.model.specs.Streams.{nextTotal, brought, nonempty}
 
+-- 859, 870; 907, 949: endpoint 3, from the device and towards it
 abbrev pub audioIn : Endpoint
 audioIn = endpoint 3 true
 
@@ -35,6 +36,7 @@ BLOCK = 368
 unfoldable pub named : World → Bool
 named w = primed audioIn (w .memory .page) && not (terminates (nextDtd audioIn (w .memory)))
 
+-- 863: one packet's bytes more
 unfoldable pub addsBudget : Step
 addsBudget = when named (one (λ w. budget (wrapped (w .state .audio .budget + BLOCK))))
 
@@ -42,6 +44,7 @@ addsBudget = when named (one (λ w. budget (wrapped (w .state .audio .budget + B
 unfoldable pub overBudget : World → Bool
 overBudget w = named w && ltb (w .state .audio .budget) (nextTotal audioIn w)
 
+-- 867: the budget is met, and starts anew
 unfoldable pub clearsBudget : Step
 clearsBudget = when named (one (λ w. budget 0))
 
@@ -52,6 +55,7 @@ unfoldable pub blocks : ℕ → List ℕ → List (List ℕ)
 blocks zero bs = []
 blocks (suc n) bs = pick (nonempty bs) (take BLOCK bs ∷ blocks n (drop BLOCK bs)) []
 
+-- all blocks of a run's bytes
 abbrev pub blocksOf : List ℕ → List (List ℕ)
 blocksOf bs = blocks (length bs) bs
 
@@ -83,11 +87,11 @@ unfoldable pub keepsBlocks : List (List ℕ) → Step
 keepsBlocks [] = nothing
 keepsBlocks (b ∷ bs) = keepsBlock b then keepsBlocks bs
 
--- 871-896
+-- 871-896: a run that brought something is counted, and its blocks are kept
 unfoldable pub keepsRun : Run → Step
 keepsRun r = when (λ w. brought r) (one (λ w. count «in_transfers» 1) then keepsBlocks (blocksOf (r .bytes)))
 
--- 870-896
+-- 870-896: the run of the input endpoint
 unfoldable pub inputs : Step
 inputs = runs audioIn [] keepsRun
 
@@ -97,10 +101,11 @@ hears = addsBudget then if overBudget nothing (clearsBudget then inputs)
 
 -- ---- a block out (902-952)
 
--- 934-940: the i-th frame that waits in the sending ring, or silence
+-- frames that the sending ring has room for
 abbrev pub capacity : World → ℕ
 capacity w = length (w .sending) / WORDS
 
+-- 934-940: the i-th frame that waits in the sending ring, or silence
 unfoldable pub frameAt : World → ℕ → List ℕ
 frameAt w i =
     pick (ltb i (w .state .audio .sending .len))
@@ -116,6 +121,7 @@ unfoldable pub channelBytes : ℕ → List ℕ → List ℕ
 channelBytes zero ws = []
 channelBytes (suc n) ws = bytesOf (getD ws 0 0) ++ channelBytes n (drop 1 ws)
 
+-- 933-945: n frames from the i-th on
 unfoldable pub frameBytes : ℕ → ℕ → World → List ℕ
 frameBytes i zero w = []
 frameBytes i (suc n) w = channelBytes (w .state .audio .channels) (frameAt w i) ++ frameBytes (suc i) n w
@@ -127,7 +133,7 @@ blockOf w =
     (7 ∷ 0xFF ∷ w .state .audio .counter / 2 ^ 8 ∷ w .state .audio .counter % 2 ^ 8 ∷ replicate 28 0
     ++ frameBytes 0 BLOCK-FRAMES w ++ replicate 2048 0)
 
--- 931-951: counter, underruns, frames taken, credit, the run, and the counts
+-- 932-951: counter, underruns, frames taken, credit, the run, and the counts
 unfoldable pub sendsBlock : List ℕ → Step
 sendsBlock bs =
     one (λ w. counter ((w .state .audio .counter + BLOCK-FRAMES) % 2 ^ 16))

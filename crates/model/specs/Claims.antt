@@ -1,4 +1,4 @@
--- Demand 3 of one microframe: one block sent, or none; what the output step's changes are in each case.
+-- Demand 3 of one microframe (document 01, "Host record"): one block sent, or none; what the output step's changes are in each case.
 use Prim.Native.Nat.{ℕ, _+_, _-_, _%_, _^_, min}
 use mathlib.Core.Bool.{Bool, true, false, _&&_}
 use mathlib.Core.List.{List, [], _∷_, _++_, map}
@@ -23,7 +23,7 @@ use Rattle.model.specs.Reach.{reachesOutput, atOutput, outputReady}
 abbrev pub sendsAt : ℕ → World → Bool
 sendsAt t w = reachesOutput t w && (outputReady (atOutput w) && leb BLOCK-FRAMES (atOutput w .state .audio .credit))
 
--- what the one descriptor takes: the block's first bytes, as many as its total allows, at its addresses (579-581), and then its retirement
+-- the descriptor that the output step retires: its pointer, its token, and how many bytes it takes (577)
 abbrev pub outPointer : World → ℕ
 outPointer x = nextDtd audioOut (x .memory)
 
@@ -33,12 +33,13 @@ outToken x = tokenOf (outPointer x) (x .memory)
 abbrev pub outMoved : World → ℕ
 outMoved x = min (totalOf (outToken x)) (length (blockOf x))
 
+-- 579-581, 585-619: the block's first bytes, as many as its total allows, at its addresses, and then its retirement
 abbrev pub blockStores : World → BusStep
 blockStores x =
     S._then_ (sending (pointers (x .memory) (descriptor (outPointer x))) (blockOf x) (outMoved x))
     (finishing (queueHead audioOut (x .memory .page)) (outPointer x) (outToken x) (outMoved x) (bitOf audioOut))
 
--- 931-951: all that the output step changes then, in order
+-- 932-951: all that the output step changes then, in order
 abbrev pub oneBlock : World → List Change
 oneBlock x =
     counter ((x .state .audio .counter + BLOCK-FRAMES) % 2 ^ 16)
@@ -52,6 +53,6 @@ oneBlock x =
     ∷ count «out_frames» BLOCK-FRAMES
     ∷ []))
 
--- 910, 916: the one store that an ended or inactive list gets
+-- 910-911, 916-917: the one store that an ended or inactive list gets
 abbrev pub unprimed : World → List Change
 unprimed x = bus (S.word (BASE + EPSR) (clear (wordAt (x .memory .page) EPSR) 8)) ∷ []

@@ -47,11 +47,11 @@ toHost c = any (c .first) 0x80
 
 -- ---- posting
 
--- 645: a request that begins
+-- 644: a request that begins
 abbrev pub begun : ℕ → ℕ → ℕ → Control
 begun first second n = record { on = true; stage = Data; first = first; second = second; got = 0; t0 = n }
 
--- 637-645: the first setup leaves the queue; its words stand at head + 28 and head + 2C; EPSETUPSR's bit 0; UI
+-- 625, 637-644: the first setup leaves the queue; its words stand at head + 28 and head + 2C; EPSETUPSR's bit 0; UI
 unfoldable pub posted : ℕ → ℕ → ℕ → Step
 posted qh first second =
     one (λ w. popped)
@@ -60,9 +60,11 @@ posted qh first second =
     then onPage (R._then_ (changing EPSETUPSR (λ v. set v 1)) (raising 1))
     then one (λ w. control (begun first second (now w)))
 
+-- 625, 637: the first setup that waits, to the queue head of endpoint 0
 unfoldable pub posts : Step
 posts = here (λ v. posted (queueHead (endpoint 0 false) (v .memory .page)) (little (v .setups) 0) (little (v .setups) 4))
 
+-- 626: the phase is enumeration
 abbrev pub enumerating : Phase → Bool
 enumerating Idle = false
 enumerating Vbus = false
@@ -77,6 +79,7 @@ configured =
 
 -- ---- the data stage
 
+-- 675, 684: the stage is the status stage
 abbrev pub inStatus : Stage → Bool
 inStatus Data = false
 inStatus Status = true
@@ -85,9 +88,11 @@ inStatus Status = true
 abbrev pub DROP-AFTER : ℕ
 DROP-AFTER = 16000
 
+-- 676, 693: the request began longer ago than that
 abbrev pub late : World → Bool
 late w = ltb (wrapped (w .state .control .t0 + DROP-AFTER)) (now w)
 
+-- 660, 666, 672: the status stage is next
 unfoldable pub toStatus : Step
 toStatus = one (λ w. control (withStage (w .state .control) Status))
 
@@ -106,24 +111,26 @@ dataStage =
 
 -- ---- what a finished request brings (703-738)
 
--- 706: a request for a descriptor of a type (USB 2.0, 9.4.3)
+-- 706, 709: a request for a descriptor of a type (USB 2.0, 9.4.3)
 abbrev pub asksFor : ℕ → Control → Bool
 asksFor type c = eqb (requestType c) 0x80 && (eqb (request c) 6 && eqb (descriptorType c) type)
 
+-- the bytes of the reply (`got`)
 abbrev pub replied : World → List ℕ
 replied w = take (w .state .control .got) (w .reply)
 
--- 712-715: a configuration's header has its total length in bytes 2 and 3 (USB 2.0, 9.6.3), and that is asked for
+-- 710-713: a configuration's header has its total length in bytes 2 and 3 (USB 2.0, 9.6.3), and that is asked for
 unfoldable pub asksWhole : Step
 asksWhole = one (λ w. pushed (0x80 ∷ 6 ∷ 0 ∷ 2 ∷ 0 ∷ 0 ∷ getD (w .reply) 2 0 ∷ getD (w .reply) 3 0 ∷ []))
 
--- USB 2.0, 9.4.7 and 9.4.10: set configuration 1, and an interface's alternate
+-- 723-725, 730-732; USB 2.0, 9.4.7 and 9.4.10: set configuration 1, and an interface's alternate
 abbrev pub setsConfiguration : List ℕ
 setsConfiguration = 0 ∷ 9 ∷ 1 ∷ 0 ∷ 0 ∷ 0 ∷ 0 ∷ 0 ∷ []
 
 abbrev pub setsInterface : ℕ → ℕ → List ℕ
 setsInterface interface alternate = 1 ∷ 11 ∷ alternate ∷ 0 ∷ interface ∷ 0 ∷ 0 ∷ 0 ∷ []
 
+-- 724-726: a setup for each pair of interface and alternate
 unfoldable pub interfaceSetups : List (ℕ × ℕ) → List ℕ
 interfaceSetups ps = flatMap (λ p. setsInterface (p .0) (p .1)) ps
 
@@ -137,12 +144,12 @@ chooses c =
 abbrev pub fixedSetups : List ℕ
 fixedSetups = setsConfiguration ++ setsInterface 1 3 ++ setsInterface 2 3
 
--- 716-735: a whole configuration is stored, and its requests are queued
+-- 715-735: a whole configuration is stored, and its requests are queued
 unfoldable pub configures : Bool → Step
 configures stack =
     one (λ w. config (replied w)) then pick stack (here (λ v. chooses (parsed (replied v)))) (one (λ w. queued fixedSetups))
 
--- 703-738
+-- 703-738: `finished`; stack is the device_stack setting
 unfoldable pub finishes : Bool → Step
 finishes stack =
     dropsRequest
@@ -151,26 +158,30 @@ finishes stack =
 
 -- ---- the status stage (687-700): the other way, with no data
 
+-- 687: towards the device, where data came from it
 abbrev pub statusOut : Control → Bool
 statusOut c = toHost c && not (eqb (wLength c) 0)
 
+-- 692-700: what follows its run: the request is finished, or waits, or is dropped
 unfoldable pub statusEnds : Bool → Run → Step
 statusEnds stack r = if (λ w. r .done) (finishes stack) (when late dropsRequest)
 
+-- 687-700
 unfoldable pub statusStage : Bool → Step
 statusStage stack =
     if (λ w. statusOut (w .state .control)) (runs (endpoint 0 false) [] (statusEnds stack)) (runs (endpoint 0 true) [] (statusEnds stack))
 
 -- ---- all of it
 
--- 648-653: a stall of endpoint 0 drops the request
+-- 649-650: endpoint 0 is stalled
 abbrev pub stalled : World → Bool
 stalled w = any (wordAt (w .memory .page) EPCR0) 0x10001
 
+-- 647, 652-653: a stall drops the request, and its bits are cleared
 unfoldable pub unstalls : Step
 unstalls = dropsRequest then onPage (changing EPCR0 (λ v. clear v 0x10001))
 
--- 657-700
+-- 657-700: the stages of a running request
 unfoldable pub stages : Bool → Step
 stages stack =
     if (λ w. inStatus (w .state .control .stage)) (statusStage stack)

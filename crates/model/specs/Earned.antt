@@ -1,4 +1,5 @@
--- What a microframe does to the credit and to the two counters of frames, by the tests that say which steps it reaches.
+-- What a microframe does to the credit and to the two counters of frames, by the tests that say which steps it reaches
+-- (document 01, "Host record").
 use Prim.Native.Nat.{ℕ, zero, suc, _+_, _-_, _/_, _%_, _^_, min}
 use mathlib.Core.Bool.{Bool, true, false, not, _&&_}
 use mathlib.Core.List.{List, [], _∷_}
@@ -12,7 +13,7 @@ use Rattle.record.specs.Change.{left, WORDS, takenFrom}
 use Rattle.model.specs.Audio.{BLOCK-FRAMES, good, blocksOf, hears}
 use Rattle.model.specs.Reach.{streamBy, outputBy, inputBy, backBy, leftBy, paced, inputReady, outputReady, bytesAt}
 
--- the credit, and the frames counted in and out
+-- the credit (221), and the frames counted in and out (295-296)
 pub record Counts : Type 0 where
   pub credit : ℕ
   pub received : ℕ
@@ -38,7 +39,7 @@ outOf w =
       sent = w .state .stats .«out_frames»;
     }
 
--- a block sent: the counter goes up by seven, modulo 2^16, seven frames leave the ring, or all that it has, and seven are counted
+-- 932, 934, 951: a block sent: the counter goes up by seven, modulo 2^16, seven frames leave the ring, or all that it has, and seven are counted
 unfoldable pub sentOut : Out → Out
 sentOut o =
     record {
@@ -48,7 +49,7 @@ sentOut o =
       sent = wrapped (o .sent + BLOCK-FRAMES);
     }
 
--- one good block, and n of them
+-- 889-890: one good block, and n of them
 abbrev pub oneEarned : Counts → Counts
 oneEarned m =
     record { credit = wrapped (m .credit + BLOCK-FRAMES); received = wrapped (m .received + BLOCK-FRAMES); sent = m .sent }
@@ -57,15 +58,15 @@ unfoldable pub earned : ℕ → Counts → Counts
 earned zero m = m
 earned (suc n) m = earned n (oneEarned m)
 
--- one block sent
+-- 947, 951: one block sent
 unfoldable pub sentOne : Counts → Counts
 sentOne m = record { credit = m .credit - BLOCK-FRAMES; received = m .received; sent = wrapped (m .sent + BLOCK-FRAMES) }
 
--- a reset of the credit
+-- 400, 441: a reset of the credit
 abbrev pub zeroed : Counts → Counts
 zeroed m = record { credit = 0; received = m .received; sent = m .sent }
 
--- how many blocks of a list are good
+-- 878: how many blocks of a list are good
 unfoldable pub goodBlocks : List (List ℕ) → ℕ
 goodBlocks [] = 0
 goodBlocks (b ∷ bs) = pick (good b) 1 0 + goodBlocks bs

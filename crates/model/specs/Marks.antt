@@ -7,10 +7,11 @@ use Rattle.bits.specs.Pick.{pick}
 use Rattle.dtd.specs.Dtd.{Endpoint}
 use Rattle.record.specs.Change.{Change, bus, ran, lost, count, uf, phase, started, gone, suspended, running, credit, budget, counter, block, timers, control, queued, popped, pushed, cleared, reply, device, config, forgot, midi, serial, received, frame, taken}
 
--- 899, 906: endpoint 3, the input one or the output one
+-- 870, 949: endpoint 3, the input one or the output one
 abbrev pub isAudio : Bool → Endpoint → Bool
 isAudio input e = eqb (e .number) 3 && pick input (e .input) (not (e .input))
 
+-- what one change retires: a run's mark has the number, any other change none
 unfoldable pub retiredBy : Bool → Change → ℕ
 retiredBy input (bus s) = 0
 retiredBy input (ran e k n) = pick (isAudio input e) k 0
@@ -42,6 +43,7 @@ retiredBy input (received bs) = 0
 retiredBy input (frame f) = 0
 retiredBy input (taken n) = 0
 
+-- and a list of changes
 unfoldable pub audioRetired : Bool → List Change → ℕ
 audioRetired input [] = 0
 audioRetired input (c ∷ cs) = retiredBy input c + audioRetired input cs

@@ -33,6 +33,7 @@ others c t =
     when (λ w. c .«midi_in») (readsMidi (within (c .sleep) t) (c .«midi_every»))
     then when (λ w. c .«device_stack») (writesMidi then readsVendor)
 
+-- 497, 499: the phase is streaming
 abbrev pub streaming : Phase → Bool
 streaming Idle = false
 streaming Vbus = false
@@ -40,19 +41,19 @@ streaming Reset = false
 streaming Enumerate = false
 streaming Stream = true
 
--- 497-509
+-- 497-509: the serial device, or the audio stream and what follows it
 unfoldable pub transfers : Settings → ℕ → Step
 transfers c t = when (λ w. streaming (w .state .phase)) (if (λ w. c .cdc) serves (streams then others c t))
 
--- 493-496
+-- 493-496: start of frame, and control
 unfoldable pub enumerates : Settings → Step
 enumerates c = startsFrame then controls (c .«device_stack»)
 
--- 489-509
+-- 489-509: both, where RS is set
 unfoldable pub talks : Settings → ℕ → Bool → Step
 talks c t rs = when (λ w. rs) (enumerates c then transfers c t)
 
--- 448
+-- 448-511: by the phase
 abbrev pub atPhase : Settings → ℕ → Bool → Phase → Step
 atPhase c t rs Idle = idles
 atPhase c t rs Vbus = powers rs
@@ -60,19 +61,20 @@ atPhase c t rs Reset = resets
 atPhase c t rs Enumerate = talks c t rs
 atPhase c t rs Stream = talks c t rs
 
+-- 448: by the phase as it stands there
 unfoldable pub byPhase : Settings → ℕ → Bool → Step
 byPhase c t rs = here (λ v. atPhase c t rs (v .state .phase))
 
--- 374-407
+-- 374-407: counts, timers, gone
 unfoldable pub opens : Settings → Bool → Step
 opens c g = counts then when (λ w. c .«midi_in») ticks then cable g
 
--- 408-512; g and s: gone and suspended
+-- 374-512; g and s: gone and suspended
 unfoldable pub frameOf : Settings → ℕ → Bool → Bool → Bool → Step
 frameOf c t rs true s = opens c true then sleeps
 frameOf c t rs false true = opens c false then suspends true then sleeps
 frameOf c t rs false false = opens c false then suspends false then leaves (c .«device_stack») rs then byPhase c t rs
 
--- 373-512
+-- 373-512: `microframe` at the time t
 unfoldable pub microframe : ℕ → Step
 microframe t = here (λ v. frameOf (v .settings) t (rsSet v) (goneAt t v) (asleepAt t v))

@@ -25,10 +25,11 @@ use Rattle.record.specs.Change.{Change, count, uf, phase, started, gone, suspen
 abbrev pub now : World → ℕ
 now w = w .state .port .uf
 
+-- the register page, with the line's flag (`usb_irq`)
 abbrev pub registersOf : World → Registers
 registersOf w = registers (w .memory .page) (w .state .port .line)
 
--- a register is read, changed and stored
+-- a register is read, changed and stored, as at 391-392
 unfoldable pub changing : ℕ → (ℕ → ℕ) → PageStep
 changing o f r = put o (f (wordAt (r .page) o)) ∷ []
 
@@ -36,6 +37,7 @@ changing o f r = put o (f (wordAt (r .page) o)) ∷ []
 abbrev pub holds : ℕ → ℕ → ℕ → Bool
 holds from to t = leb from t && ltb t to
 
+-- 412, 775: the same by a span of the settings
 abbrev pub within : Span → ℕ → Bool
 within s t = holds (s .from) (s .to) t
 
@@ -46,7 +48,7 @@ anySpan table i (suc n) t = holds (getD table (2 * i) 0) (getD table (2 * i + 1)
 
 -- ---- counts and timers
 
--- 374-375
+-- 374-375: the two microframe counts
 unfoldable pub counts : Step
 counts = one (λ w. count microframes 1) then one (λ w. uf (wrapped (now w + 1)))
 
@@ -57,7 +59,7 @@ ticks =
 
 -- ---- gone
 
--- no request runs
+-- 399, 440, 647: no request runs
 unfoldable pub dropsRequest : Step
 dropsRequest = one (λ w. control (withOn (w .state .control) false))
 
@@ -71,7 +73,7 @@ unfoldable pub unplugging : PageStep
 unplugging =
     R._then_ (changing OTGSC (λ v. set (clear v 0xE00) 0x81000)) (R._then_ (changing PORTSC1 (λ v. clear v 0x85)) (raising 4))
 
--- 396-404: a fresh host
+-- 397-404: a fresh host
 unfoldable pub returns : Step
 returns = one (λ w. phase Idle) then forgets then one (λ w. count restarts 1)
 
@@ -80,13 +82,13 @@ unfoldable pub cable : Bool → Step
 cable true = when (λ w. not (w .state .port .gone)) (one (λ w. gone true) then onPage unplugging)
 cable false = when (λ w. w .state .port .gone) (one (λ w. gone false) then returns)
 
--- 409, 427: a microframe in which the host reads no MIDI
+-- 409, 427, 776: a microframe in which the host reads no MIDI
 unfoldable pub sleeps : Step
 sleeps = one (λ w. count «midi_asleep» 1)
 
 -- ---- suspend and device left
 
--- 413-425
+-- 413-425: the bus is suspended, or resumed
 unfoldable pub suspends : Bool → Step
 suspends true =
     when (λ w. not (w .state .port .suspended))
@@ -95,7 +97,7 @@ suspends false =
     when (λ w. w .state .port .suspended)
     (one (λ w. suspended false) then onPage (R._then_ (changing PORTSC1 (λ v. clear v 0x80)) (raising 4)))
 
--- a phase begins now
+-- 437-438, 455-456, 464-465, 475-476: a phase begins now
 unfoldable pub enters : Phase → Step
 enters p = one (λ w. phase p) then one (λ w. started (now w))
 
@@ -103,7 +105,7 @@ enters p = one (λ w. phase p) then one (λ w. started (now w))
 unfoldable pub departs : Step
 departs = one (λ w. running false) then enters Vbus then forgets
 
--- 429-447: with the device stack, by RS as it was read (379)
+-- 430-447: with the device stack, by RS as it was read (379)
 unfoldable pub leaves : Bool → Bool → Step
 leaves false rs = nothing
 leaves true true = one (λ w. running true)
@@ -122,7 +124,7 @@ AFTER-VBUS = 400
 abbrev pub AFTER-RESET : ℕ
 AFTER-RESET = 80
 
--- more than n microframes since the phase began
+-- 460, 470: more than n microframes since the phase began
 abbrev pub longer : ℕ → World → Bool
 longer n w = ltb (wrapped (w .state .port .t + n)) (now w)
 
@@ -132,7 +134,7 @@ powers rs =
     when (λ w. rs && longer AFTER-VBUS w)
     (onPage (R._then_ (changing PORTSC1 (λ v. set v 0x100)) (raising 0x40)) then enters Reset)
 
--- 474-479: the first four setups: device descriptor of 64 bytes, address 7, device descriptor, configuration header
+-- 477-484: the first four setups: device descriptor of 64 bytes, address 7, device descriptor, configuration header
 abbrev pub firstSetups : List ℕ
 firstSetups =
     0x80 ∷ 6 ∷ 0 ∷ 1 ∷ 0 ∷ 0 ∷ 64 ∷ 0 ∷ 0 ∷ 5 ∷ 7 ∷ 0 ∷ 0 ∷ 0 ∷ 0 ∷ 0

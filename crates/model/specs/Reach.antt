@@ -29,6 +29,7 @@ outputBy rs g s w = not g && (not s && (not (w .state .port .gone) && (rs && (no
 unfoldable pub toPhase : Settings → Bool → Step
 toPhase c rs = opens c false then suspends false then leaves (c .«device_stack») rs
 
+-- the World at the choice by phase, and at the stream step
 unfoldable pub phaseBy : Bool → World → World
 phaseBy rs w = left (toPhase (w .settings) rs) w
 

@@ -1,4 +1,4 @@
--- The received ring as a list of frames, oldest first, and the frames that a run of the input endpoint brings (document 01, demand 3, `input-step`).
+-- The received ring as a list of frames, oldest first, and the frames that a run of the input endpoint brings (demand 3; document 01, "Streams").
 use Prim.Native.Nat.{ℕ, zero, suc, _+_, _-_, _*_, _%_, _≤_, _<_}
 use mathlib.Core.Path.{_≡_}
 use mathlib.Core.Bool.{_||_}
@@ -38,12 +38,12 @@ pub record InOrder (ring : List ℕ) (place : Ring) : Type 0 where
 abbrev pub RingInOrder : World → Type 0
 RingInOrder w = InOrder (w .received) (w .state .audio .received)
 
--- n frames of a block from the i-th on, behind its header of 32 bytes, 48 bytes each
+-- 882-887: n frames of a block from the i-th on, behind its header of 32 bytes, 48 bytes each
 unfoldable pub framesFrom : ℕ → ℕ → List ℕ → List (List ℕ)
 framesFrom zero i b = []
 framesFrom (suc n) i b = wordsOf (take 48 (drop (32 + 48 * i) b)) ∷ framesFrom n (suc i) b
 
--- the seven frames of a good block, and none of a bad one
+-- 878-882: the seven frames of a good block, and none of a bad one
 unfoldable pub framesOfBlock : List ℕ → List (List ℕ)
 framesOfBlock b = pick (good b) (framesFrom BLOCK-FRAMES 0 b) []
 
@@ -56,7 +56,7 @@ framesOfBlocks (b ∷ bs) = framesOfBlock b ++ framesOfBlocks bs
 abbrev pub framesRead : List ℕ → List (List ℕ)
 framesRead bs = framesOfBlocks (blocksOf bs)
 
--- the last n of a list, or all of it
+-- 893-895: the last n of a list, or all of it
 abbrev pub lastOf : ℕ → List (List ℕ) → List (List ℕ)
 lastOf n l = drop (length l - n) l
 

@@ -17,19 +17,20 @@ use Rattle.model.specs.Phases.{now, changing, sleeps}
 
 -- ---- what the steps test
 
--- an endpoint is primed, and its next descriptor is there and active
+-- 815-825, 835-845: an endpoint is primed, and its next descriptor is there and active
 abbrev pub ready : Endpoint → World → Bool
 ready e w = primed e (w .memory .page) && nextActive e (w .memory)
 
--- the bytes that its next descriptor is to move
+-- 826, 846, 862: the bytes that its next descriptor is to move
 abbrev pub nextTotal : Endpoint → World → ℕ
 nextTotal e w = totalOf (tokenOf (nextDtd e (w .memory)) (w .memory))
 
+-- there is a byte
 abbrev pub nonempty : List ℕ → Bool
 nonempty [] = false
 nonempty (b ∷ bs) = true
 
--- 793: a run that brought a byte or a completion
+-- 793, 871: a run that brought a byte or a completion
 abbrev pub brought : Run → Bool
 brought r = r .done || nonempty (r .bytes)
 
@@ -66,7 +67,7 @@ readsMidi false every = naks then here (λ v. reads (readsAt every (now v)))
 abbrev pub fitting : Endpoint → ℕ → World → ℕ
 fitting e held w = min (min (nextTotal e w) 512) held
 
--- 828-829
+-- 828-829: n bytes leave the serial queue and are sent
 unfoldable pub drainsSerial : ℕ → Step
 drainsSerial n = here (λ v. one (λ w. serial n) then runs (endpoint 2 false) (take n (v .serial)) (λ r. nothing))
 
@@ -77,7 +78,7 @@ serves =
     then when (λ w. not (eqb (w .state .lengths .serial) 0) && ready (endpoint 2 false) w)
     (here (λ v. drainsSerial (fitting (endpoint 2 false) (v .state .lengths .serial) v)))
 
--- 848-850
+-- 848-850: n bytes leave the MIDI queue and are sent, and their packets are counted
 unfoldable pub drainsMidi : ℕ → Step
 drainsMidi n =
     here (λ v. one (λ w. midi n) then runs (endpoint 1 false) (take n (v .midi)) (λ r. one (λ w. count «midi_packets_out» (n / 4))))

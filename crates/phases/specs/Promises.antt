@@ -16,7 +16,7 @@ use Rattle.model.specs.Phases.{changing}
 abbrev pub changes : ℕ → (ℕ → ℕ) → ℕ → Step
 changes o f sts = onPage (R._then_ (changing o f) (raising sts))
 
--- usbhost.rs 415-425: the bus is suspended, and resumed
+-- usbhost.rs 414-424: the bus is suspended, and resumed
 abbrev pub suspending : Step
 suspending = one (λ w. suspended true) then changes PORTSC1 (λ v. set v 0x80) 0x100
 

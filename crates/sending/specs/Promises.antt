@@ -20,7 +20,7 @@ pub record Sends (r : Ring) (capacity : ℕ) (l : List ℕ) : Type 0 where
   pub few : capacity ≤ 48000
   pub is : capacity ≡ length l / 12
 
--- the first 32 bytes of a block
+-- usbhost.rs 926-931: the first 32 bytes of a block
 abbrev pub headerOf : ℕ → List ℕ
 headerOf counter = 7 ∷ 0xFF ∷ counter / 2 ^ 8 ∷ counter % 2 ^ 8 ∷ replicate 28 0
 

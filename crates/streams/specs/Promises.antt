@@ -31,11 +31,11 @@ atServed w s m q out = atBus (withReceiveArea (withSerialQueue w q) out) s m
 
 -- ---- parts of steps
 
--- what one packet carries of the bytes that wait, to a descriptor with a token
+-- usbhost.rs 826-827, 846-847: what one packet carries of the bytes that wait, to a descriptor with a token
 abbrev pub packetOf : ℕ → ℕ → ℕ
 packetOf tok held = min (min (totalOf tok) 512) held
 
--- `serves` in its two directions
+-- 813-814, 815-829: `serves` in its two directions
 abbrev pub takesSerial : Step
 takesSerial = runs (endpoint 2 true) [] (λ r. one (λ w. received (r .bytes)))
 

@@ -1,4 +1,4 @@
--- The answer of a microframe behind a reference, with the record that the reference leads to.
+-- The answer of a microframe behind a reference, with the record that the reference leads to (document 01, "Language forms": the thin call).
 use Rattle.usbhost.specs.declared.Host.{Host}
 use Rattle.usbhost.specs.declared.Framed.{Framed}
 use Rattle.thin.specs.declared.Answered.{Answered}

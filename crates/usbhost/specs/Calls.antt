@@ -1,5 +1,5 @@
 -- The calls on a host record but the microframe: their numbers of refusal, lowest first, and what an accepted one leaves
--- (document 01, "Numbers of refusal"; usbhost.rs 356-364, usbdev.rs; frames given and taken are the caller's queues in the source).
+-- (document 01, "Numbers of refusal"; usbhost.rs 362-364, usbdev.rs; frames given and taken are the caller's queues in the source).
 use Prim.Native.Nat.{ℕ, _+_, _*_, _/_, _%_}
 use mathlib.Core.Bool.{Bool, not, _&&_}
 use mathlib.Core.List.{List}
@@ -21,9 +21,11 @@ use Rattle.usbhost.specs.Host.{stateOf}
 
 -- ---- numbers 3 and 5 of a record
 
+-- 3: at most 16 gone spans
 abbrev pub fewSpans : Host → Bool
 fewSpans h = leb (h .settings .spans) 16
 
+-- 5: what no area bounds
 abbrev pub bounded : Host → Bool
 bounded h = inBounds (stateOf h) (h .packer) (h .setups)
 
@@ -57,7 +59,7 @@ midiSent h bs = answered (midiNumber h bs) (midiQueued h bs) h
 unfoldable pub serialNumber : Host → List ℕ → ℕ
 serialNumber h bs = unless 3 (fewSpans h) (unless 5 (bounded h) (unless 7 (leb (h .lengths .serial + length bs) 4096) 0))
 
--- the bytes behind those that wait
+-- the bytes behind those that wait (`cdc_to_device`, 285)
 unfoldable pub serialQueued : Host → List ℕ → Host
 serialQueued r bs =
     record { phase = r .phase; port = r .port; audio = r .audio; control = r .control; timers = r .timers; stats = r .stats; lengths = withSerial (r .lengths) (r .lengths .serial + length bs); packer = r .packer; settings = r .settings; setups = r .setups; midi = r .midi; serial = sets (r .serial) (r .lengths .serial) bs; device = r .device }
@@ -67,7 +69,7 @@ serialSent h bs = answered (serialNumber h bs) (serialQueued h bs) h
 
 -- ---- frame given: 2, 3, 5, 7
 
--- the sending ring: a multiple of 12 words, from 84 to 576,000
+-- 2: the sending ring has a multiple of 12 words, from 84 to 576,000
 unfoldable pub sendingLength : ℕ → Bool
 sendingLength n = leb 84 n && (leb n 576000 && eqb (n % WORDS) 0)
 
@@ -78,7 +80,7 @@ giveNumber h frame sending =
     (unless 5 (bounded h && sendingOk (stateOf h) (length sending))
     (unless 7 (ltb (h .audio .sending .len) (length sending / WORDS)) 0)))
 
--- behind the newest frame
+-- behind the newest frame (`to_rytm`, 373)
 unfoldable pub framePut : Host → List ℕ → List ℕ → List ℕ
 framePut h frame sending =
     sets sending ((h .audio .sending .start + h .audio .sending .len) % (length sending / WORDS) * WORDS) frame
@@ -99,6 +101,7 @@ unfoldable pub takeNumber : Host → List ℕ → ℕ
 takeNumber h received =
     unless 2 (eqb (length received) (FRAMES * WORDS)) (unless 3 (fewSpans h) (unless 5 (bounded h && receivedOk (stateOf h)) 0))
 
+-- the oldest frame leaves (`from_rytm`, 219)
 unfoldable pub frameTaken : Host → Host
 frameTaken r =
     record { phase = r .phase; port = r .port; audio = withReceived (r .audio) (takenFrom FRAMES 1 (r .audio .received)); control = r .control; timers = r .timers; stats = r .stats; lengths = r .lengths; packer = r .packer; settings = r .settings; setups = r .setups; midi = r .midi; serial = r .serial; device = r .device }
@@ -127,6 +130,7 @@ unfoldable pub accessNumber : Host → ℕ → ℕ → ℕ → ℕ
 accessNumber h len off size =
     unless 1 (eqb len 4096) (unless 3 (fewSpans h) (unless 4 (fits off size) (unless 5 (bounded h) 0)))
 
+-- a read changes nothing (bus.rs 910-916)
 unfoldable pub deviceRead : Host → List ℕ → ℕ → ℕ → Read
 deviceRead h page off size =
     record {
@@ -135,13 +139,16 @@ deviceRead h page off size =
       host = h;
     }
 
+-- the page, with the line's flag of the record
 abbrev pub registersOf : Host → List ℕ → Registers
 registersOf h page = registers page (h .port .line)
 
+-- the record with the line's flag (bus.rs 971)
 unfoldable pub withFlag : Host → Bool → Host
 withFlag r x =
     record { phase = r .phase; port = withLine (r .port) x; audio = r .audio; control = r .control; timers = r .timers; stats = r .stats; lengths = r .lengths; packer = r .packer; settings = r .settings; setups = r .setups; midi = r .midi; serial = r .serial; device = r .device }
 
+-- a write: the record with the flag that it leaves, and the page (bus.rs 963-973)
 unfoldable pub deviceWritten : Host → List ℕ → ℕ → ℕ → ℕ → Sent
 deviceWritten h page off size v =
     answered (accessNumber h (length page) off size) (withFlag h (writeSized (registersOf h page) off size v .line)) h

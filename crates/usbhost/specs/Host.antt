@@ -1,4 +1,4 @@
--- The host record, a new one, and its state by parts (document 01, "Host record"; usbhost.rs 205-350).
+-- The host record, a new one, and its state by parts (document 01, "Host record"; usbhost.rs 207-354).
 use Prim.Native.Nat.{ℕ, _-_, _*_}
 use mathlib.Core.Bool.{Bool, true, false}
 use mathlib.Core.List.{List, _++_}
@@ -30,7 +30,7 @@ stateOf h =
       answer = record { received = 0; dropped = 0 };
     }
 
--- whether the device streams
+-- 356-358: whether the device streams
 abbrev pub isStream : Phase → Bool
 isStream Idle = false
 isStream Vbus = false
@@ -38,7 +38,7 @@ isStream Reset = false
 isStream Enumerate = false
 isStream Stream = true
 
--- ---- `new` (311-350)
+-- ---- `new` (319-354)
 
 -- settings whose gone spans past their count are 0
 unfoldable pub settled : Settings → Settings

@@ -74,6 +74,7 @@ count w n = signed (afterTicks n (repeating w) .state .timers .zero .count)
 abbrev pub raised : World → ℕ → Bool
 raised w n = any (wordAt (afterTicks n (repeating w) .memory .page) USBSTS) (2 ^ 24)
 
+-- the last example: an interface and its endpoint
 abbrev pub descriptors : List ℕ
 descriptors = 0x09 ∷ 0x04 ∷ 0x01 ∷ 0x02 ∷ 0x01 ∷ 0xFF ∷ 0x00 ∷ 0x00 ∷ 0x00 ∷ 0x07 ∷ 0x05 ∷ 0x83 ∷ 0x03 ∷ 0x70 ∷ 0x01 ∷ 0x01 ∷ []
 
