@@ -7,7 +7,7 @@ use native.Mathlib.Omega.{arith}
 use lib.Dec.{eqb, leb}
 use lib.ListN.{length}
 use borrow.Author.Tests.{leb-true, eqb-true}
-use Rattle.bits.specs.Pick.{pick}
+use Rattle.bits.specs.Pick.{pick, pick-both}
 use Rattle.record.specs.declared.Settings.{Settings}
 use Rattle.record.specs.World.{World}
 use Rattle.record.specs.Change.{left}
@@ -27,7 +27,7 @@ use Rattle.usbhost.specs.Calls.{midiNumber, midiQueued, midiSent, serialNumber,
 use Rattle.usbhost.specs.Frame.{Lent, worldOf, hostIn, frameNumber, framed}
 use Rattle.history.specs.Calls.{Call, microframe, midiSend, serialSend, frameGive, frameTake, deviceRead, deviceWrite, step, after}
 use Rattle.history.specs.Sums as S
-use Rattle.history.specs.Sums.{Sums, none, receive, send, readAt, hears, answers, reset, heard, answered, summed, sums, Tally, heardEver, answeredEver, tallied, tally, Balanced, Tabulated}
+use Rattle.history.specs.Sums.{Sums, none, receive, send, readAt, hears, answers, reset, heard, answered, summed, sums, Tally, answeredEver, tallied, tally, Balanced, Tabulated}
 use Rattle.history.proofs.Accepted.{Small, accepted-small}
 
 -- the same of the counts alone
@@ -148,13 +148,9 @@ unfolding newHost
 history s cs = all (newHost s) none cs (record { balance = refl; sevens = refl })
 
 -- and from whatever `new` answers, refused or not
-balanced-created : (b : Bool) (x y : Created) (cs : List Call) → Balanced (after (x .host) cs) (sums (x .host) none cs) → Balanced (after (y .host) cs) (sums (y .host) none cs)
-    → Balanced (after (pick b x y .host) cs) (sums (pick b x y .host) none cs)
-balanced-created true x y cs p q = p
-balanced-created false x y cs p q = q
-
 pub history-new : (c : Settings) (cs : List Call) → Balanced (after (created c .host) cs) (sums (created c .host) none cs)
 unfolding created
 history-new c cs =
-    balanced-created (leb (c .spans) 16) (record { refusal = 0; host = newHost (settled c) }) (record { refusal = 3; host = newHost noSettings }) cs
+    pick-both (λ (x : Created). Balanced (after (x .host) cs) (sums (x .host) none cs)) (leb (c .spans) 16)
+    {a = record { refusal = 0; host = newHost (settled c) }} {b = record { refusal = 3; host = newHost noSettings }}
     (history (settled c) cs) (history noSettings cs)

@@ -3,3 +3,4 @@ pub mod History
 pub mod Table
 pub mod Accepts
 pub mod Contracts
+pub mod Parts

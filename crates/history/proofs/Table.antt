@@ -7,7 +7,7 @@ use native.Mathlib.Omega.{arith}
 use lib.Dec.{eqb, leb}
 use lib.ListN.{length}
 use borrow.Author.Tests.{eqb-true}
-use Rattle.bits.specs.Pick.{pick, pick-map}
+use Rattle.bits.specs.Pick.{pick, pick-both, pick-map}
 use Rattle.record.specs.declared.Settings.{Settings}
 use Rattle.record.specs.Record.{wrapped}
 use Rattle.record.specs.World.{World}
@@ -20,13 +20,14 @@ use Rattle.model.specs.Earned.{Counts, countsOf, sentOne, zeroed, blocksRead, r
 use Rattle.model.proofs.History.{counts-microframe}
 use Rattle.kept.proofs.Credit.{SMALL, added, heard-plain, reset-received}
 use Rattle.usbhost.specs.declared.Host.{Host}
-use Rattle.usbhost.specs.Host.{newHost}
+use Rattle.usbhost.specs.declared.Created.{Created}
+use Rattle.usbhost.specs.Host.{newHost, settled, noSettings, created}
 use Rattle.usbhost.specs.Calls as C
 use Rattle.usbhost.specs.Calls.{midiNumber, midiQueued, midiSent, serialNumber, serialQueued, serialSent, giveNumber, frameGiven, given, holdsFrame, frameTaken, takenFrame, accessNumber, withFlag, deviceWritten}
 use Rattle.usbhost.specs.Frame.{Lent, worldOf, hostIn, frameNumber, framed}
 use Rattle.history.specs.Calls.{Call, microframe, midiSend, serialSend, frameGive, frameTake, deviceRead, deviceWrite, step, after}
 use Rattle.history.specs.Sums as S
-use Rattle.history.specs.Sums.{Sums, none, receive, send, readAt, hears, answers, reset, heard, summed, Tally, heardEver, answeredEver, tallied, tally, Balanced, Tabulated}
+use Rattle.history.specs.Sums.{Sums, none, receive, send, readAt, hears, answers, reset, heard, summed, Tally, answeredEver, tallied, tally, Balanced, Tabulated}
 use Rattle.history.proofs.Accepted.{Small, accepted-small}
 use Rattle.history.proofs.History.{Even, even-heard, same-test, small-counts, by-test, balanced-step}
 
@@ -64,7 +65,7 @@ module _ (t : ℕ) (w : World) (g a : Sums) (small : countsOf w .credit ≤ SMAL
       ∙ pick-sent (hears t w) (added (blocksRead (streamBy rs w)) (resetCounts rs gone asleep w)) (resetCounts rs gone asleep w) _ reset-sent reset-sent
       ∙ outs
 
-  heard-received : heardCounts rs gone asleep w .received ≡ heardEver t w a .received
+  heard-received : heardCounts rs gone asleep w .received ≡ heard t w a .received
   unfolding blocksRead
   heard-received =
       ap (λ (m : Counts). m .received) (heard-plain rs gone asleep w small few)
@@ -81,14 +82,14 @@ module _ (t : ℕ) (w : World) (g a : Sums) (small : countsOf w .credit ≤ SMAL
       ap (λ (b : Bool). reachesOutput t w && (outputReady (atOutput w) && b)) same-earned
       ∙ and-assoc (reachesOutput t w) (outputReady (atOutput w)) (S.earned (heard t w (reset t w g)))
 
-  ever-sent : heardEver t w a .sent ≡ a .sent
+  ever-sent : heard t w a .sent ≡ a .sent
   ever-sent = pick-map (λ (x : Sums). x .sent) (hears t w) (receive (readAt w) a) a ∙ same (hears t w)
     where
       same : (b : Bool) → pick b (a .sent) (a .sent) ≡ a .sent
       same true = refl
       same false = refl
 
-  pub frame-received : countsOf (left (M.microframe t) w) .received ≡ answeredEver t w (heard t w (reset t w g)) (heardEver t w a) .received
+  pub frame-received : countsOf (left (M.microframe t) w) .received ≡ answeredEver t w (heard t w (reset t w g)) (heard t w a) .received
   unfolding sentCounts sentOne
   frame-received =
       let b = reachesOutput t w && (outputReady (atOutput w) && leb BLOCK-FRAMES (heardCounts rs gone asleep w .credit)) in
@@ -97,17 +98,17 @@ module _ (t : ℕ) (w : World) (g a : Sums) (small : countsOf w .credit ≤ SMAL
       ∙ same b
       ∙ heard-received
       ∙ sym (same′ (answers t w && S.earned (heard t w (reset t w g))))
-      ∙ sym (pick-map (λ (x : Sums). x .received) (answers t w && S.earned (heard t w (reset t w g))) (send (heardEver t w a)) (heardEver t w a))
+      ∙ sym (pick-map (λ (x : Sums). x .received) (answers t w && S.earned (heard t w (reset t w g))) (send (heard t w a)) (heard t w a))
     where
       same : (b : Bool) → pick b (heardCounts rs gone asleep w .received) (heardCounts rs gone asleep w .received) ≡ heardCounts rs gone asleep w .received
       same true = refl
       same false = refl
 
-      same′ : (b : Bool) → pick b (heardEver t w a .received) (heardEver t w a .received) ≡ heardEver t w a .received
+      same′ : (b : Bool) → pick b (heard t w a .received) (heard t w a .received) ≡ heard t w a .received
       same′ true = refl
       same′ false = refl
 
-  pub frame-sent : countsOf (left (M.microframe t) w) .sent ≡ answeredEver t w (heard t w (reset t w g)) (heardEver t w a) .sent
+  pub frame-sent : countsOf (left (M.microframe t) w) .sent ≡ answeredEver t w (heard t w (reset t w g)) (heard t w a) .sent
   unfolding sentCounts sentOne
   frame-sent =
       let b = reachesOutput t w && (outputReady (atOutput w) && leb BLOCK-FRAMES (heardCounts rs gone asleep w .credit)) in
@@ -116,7 +117,7 @@ module _ (t : ℕ) (w : World) (g a : Sums) (small : countsOf w .credit ≤ SMAL
       ∙ pick-map (λ (m : Counts). m .sent) b (sentOne (heardCounts rs gone asleep w)) (heardCounts rs gone asleep w)
       ∙ ap₂ (λ (x : Bool) (n : ℕ). pick x n (heardCounts rs gone asleep w .sent)) tests plain
       ∙ ap (λ (n : ℕ). pick (answers t w && S.earned (heard t w (reset t w g))) (n + 7) n) (heard-sent ∙ sym ever-sent)
-      ∙ sym (pick-map (λ (x : Sums). x .sent) (answers t w && S.earned (heard t w (reset t w g))) (send (heardEver t w a)) (heardEver t w a))
+      ∙ sym (pick-map (λ (x : Sums). x .sent) (answers t w && S.earned (heard t w (reset t w g))) (send (heard t w a)) (heard t w a))
 
 -- ---- one call
 
@@ -128,7 +129,7 @@ tabulated-frame : (h : Host) (y : Tally) (t : ℕ) (l : Lent) → Right h y → 
 unfolding step framed tallied
 tabulated-frame h y t l r =
     by-test
-    (λ x. Tabulated (hostIn (pick x (left (M.microframe t) (worldOf h l)) (worldOf h l))) (pick x (answeredEver t (worldOf h l) (heard t (worldOf h l) (reset t (worldOf h l) (y .since))) (heardEver t (worldOf h l) (y .ever))) (y .ever)))
+    (λ x. Tabulated (hostIn (pick x (left (M.microframe t) (worldOf h l)) (worldOf h l))) (pick x (answeredEver t (worldOf h l) (heard t (worldOf h l) (reset t (worldOf h l) (y .since))) (heard t (worldOf h l) (y .ever))) (y .ever)))
     (eqb (frameNumber h l) 0)
     (λ ok.
     let s = accepted-small h l (eqb-true (frameNumber h l) 0 ok) in
@@ -173,3 +174,11 @@ table-counters s cs =
     all (newHost s) (record { since = none; ever = none }) cs
     (record { even = record { balance = refl; sevens = refl }; table = record { received = refl; sent = refl } })
     .table
+
+-- and from whatever `new` answers, refused or not
+pub table-counters-new : (c : Settings) (cs : List Call) → Tabulated (after (created c .host) cs) (tally (created c .host) (record { since = none; ever = none }) cs .ever)
+unfolding created
+table-counters-new c cs =
+    pick-both (λ (x : Created). Tabulated (after (x .host) cs) (tally (x .host) (record { since = none; ever = none }) cs .ever)) (leb (c .spans) 16)
+    {a = record { refusal = 0; host = newHost (settled c) }} {b = record { refusal = 3; host = newHost noSettings }}
+    (table-counters (settled c) cs) (table-counters noSettings cs)

@@ -77,9 +77,6 @@ pub record Tally : Type 0 where
   pub since : Sums
   pub ever : Sums
 
-abbrev pub heardEver : ℕ → World → Sums → Sums
-heardEver t w a = pick (hears t w) (receive (readAt w) a) a
-
 abbrev pub answeredEver : ℕ → World → Sums → Sums → Sums
 answeredEver t w g a = pick (answers t w && earned g) (send a) a
 
@@ -90,7 +87,7 @@ tallied h y (microframe t l) =
       since = summed h (y .since) (microframe t l);
       ever =
           pick (eqb (frameNumber h l) 0)
-          (answeredEver t (worldOf h l) (heard t (worldOf h l) (reset t (worldOf h l) (y .since))) (heardEver t (worldOf h l) (y .ever)))
+          (answeredEver t (worldOf h l) (heard t (worldOf h l) (reset t (worldOf h l) (y .since))) (heard t (worldOf h l) (y .ever)))
           (y .ever);
     }
 tallied h y (midiSend bs) = y

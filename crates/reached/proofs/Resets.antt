@@ -19,10 +19,9 @@ use Rattle.record.specs.World.{World}
 use Rattle.record.specs.Change.{apply, left, _then_, when, one, here}
 use Rattle.record.specs.Change as Ch
 use Rattle.model.specs.Phases.{within, anySpan, longer, counts, ticks, dropsRequest, forgets, unplugging, returns, cable, sleeps, suspends, enters, departs, leaves, powers}
-use Rattle.model.specs.Audio.{overBudget, addsBudget}
 use Rattle.model.specs.Microframe as M
 use Rattle.model.specs.Microframe.{rsSet, goneAt, asleepAt, opens, frameOf, byPhase, atPhase}
-use Rattle.model.specs.Reach.{streamsIn, outputBy, inputBy, backBy, leftBy, toPhase, phaseBy, streamBy, reachesOutput, comesBack, deviceLeft, atInput, atOutput, inputReady, outputReady}
+use Rattle.model.specs.Reach.{streamsIn, outputBy, withinBudget, inputBy, backBy, leftBy, toPhase, phaseBy, streamBy, reachesOutput, comesBack, deviceLeft, atInput, atOutput, inputReady, outputReady}
 use Rattle.model.proofs.Fields.{fields-then, keeps-page}
 use Rattle.bounds.specs.Bounds.{MOST}
 use Rattle.history.specs.Calls.{Call, microframe}
@@ -47,7 +46,7 @@ unfolding inputBy
 unreached t w r out fresh =
     record {
       fresh = fresh;
-      heard = ap (λ (b : Bool). (b && not (overBudget (left addsBudget (streamBy (rsSet w) w)))) && inputReady (atInput w)) out;
+      heard = ap (λ (b : Bool). (b && withinBudget (w .state .audio .budget) (streamBy (rsSet w) w)) && inputReady (atInput w)) out;
       read = λ g. refl;
       answers = ap (λ (b : Bool). b && outputReady (atOutput w)) out;
     }

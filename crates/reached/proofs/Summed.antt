@@ -26,14 +26,15 @@ use Rattle.model.specs.Control.{enumerating, configured, posts, controls}
 use Rattle.model.specs.Streams.{nextTotal, brought}
 use Rattle.model.specs.Audio.{audioIn, audioOut, named, addsBudget, overBudget, clearsBudget, blocksOf, good, keepsFrames, keepsGood, keepsBlock, keepsBlocks, keepsRun, inputs, hears}
 use Rattle.model.specs.Microframe.{rsSet, goneAt, asleepAt, enumerates}
-use Rattle.model.specs.Reach.{streamsIn, outputBy, inputBy, backBy, leftBy, phaseBy, streamBy, paced, reachesOutput, comesBack, deviceLeft, atInput, atOutput, inputReady, outputReady, bytesAt}
+use Rattle.model.specs.Reach.{streamsIn, outputBy, withinBudget, inputBy, backBy, leftBy, phaseBy, streamBy, paced, reachesOutput, comesBack, deviceLeft, atInput, atOutput, inputReady, outputReady, bytesAt}
 use Rattle.model.specs.Earned.{goodBlocks}
 use Rattle.model.proofs.Fields.{left-runs, ranWorld}
+use Rattle.model.proofs.History.{over-within}
 use Rattle.bits.proofs.Tests.{and-first, and-second}
 use Rattle.kept.proofs.Holding.{Holds, holds-then, holds-nothing, holds-one, holds-pick}
 use Rattle.kept.proofs.Every.{on-if}
 use Rattle.history.specs.Sums as S
-use Rattle.history.specs.Sums.{Sums, Tally, none, receive, send, readAt, reset, heard, answered, heardEver, answeredEver}
+use Rattle.history.specs.Sums.{Sums, Tally, none, receive, send, readAt, reset, heard, answered, answeredEver}
 use Rattle.reached.proofs.Standing.{held}
 use Rattle.reached.proofs.Opening.{if-true, if-false, when-true, when-false, Plain, opened-memory, opened-budget}
 use Rattle.reached.proofs.Page.{framedMemory, framed-memory, framed-budget}
@@ -67,7 +68,7 @@ abbrev pub tallyOf : ℕ → World → Tally → Tally
 tallyOf t w y =
     record {
       since = answered t w (heard t w (reset t w (y .since)));
-      ever = answeredEver t w (heard t w (reset t w (y .since))) (heardEver t w (y .ever));
+      ever = answeredEver t w (heard t w (reset t w (y .since))) (heard t w (y .ever));
     }
 
 pub tested-tally : (t : ℕ) (w : World) (r h : Bool) (n : ℕ) (o : Bool) → Tested t w r h n o → (y : Tally) → tallyOf t w y ≡ played r h n o y
@@ -76,7 +77,7 @@ tested-tally t w r h n o p y =
     let e = y .ever in
     let since : heard t w (reset t w g) ≡ heardSums r h n g =
     ap (heard t w) (p .fresh g) ∙ ap (λ (b : Bool). pick b (receive (readAt w) (pick r none g)) (pick r none g)) (p .heard) ∙ p .read (pick r none g) in
-    let ever : heardEver t w e ≡ heardSums false h n e = ap (λ (b : Bool). pick b (receive (readAt w) e) e) (p .heard) ∙ p .read e in
+    let ever : heard t w e ≡ heardSums false h n e = ap (λ (b : Bool). pick b (receive (readAt w) e) e) (p .heard) ∙ p .read e in
     ap₂ (λ (x z : Sums). record { since = answered t w x; ever = answeredEver t w x z }) since ever
     ∙ ap (λ (b : Bool). record { since = answer b (heardSums r h n g); ever = pick (b && S.earned (heardSums r h n g)) (send (heardSums false h n e)) (heardSums false h n e) }) (p .answers)
 
@@ -117,7 +118,7 @@ module _ (t : ℕ) (w : World) (p : Plain t w) where
       let out : reachesOutput t w ≡ false = reach-is ∙ e in
       record {
         fresh = reset-not;
-        heard = ap (λ (b : Bool). (b && not (overBudget (left addsBudget (streamBy (rsSet w) w)))) && inputReady (atInput w)) out;
+        heard = ap (λ (b : Bool). (b && withinBudget (w .state .audio .budget) (streamBy (rsSet w) w)) && inputReady (atInput w)) out;
         read = λ g. refl;
         answers = ap (λ (b : Bool). b && outputReady (atOutput w)) out;
       }
@@ -204,25 +205,17 @@ pub paced-memory : (u : World) → paced u .memory ≡ u .memory
 unfolding paced
 paced-memory u = clears-memory (left addsBudget u) ∙ adds-memory u
 
-one-budget : (f : World → ℕ) (v : World) → left (one (λ x. Ch.budget (f x))) v .state .audio .budget ≡ f v
-unfolding one apply
-one-budget f v = refl
-
 -- a total of one packet's bytes is never over
-over-not : (u : World) → u .state .audio .budget ≤ 32766 → nextTotal audioIn u ≤ 368 → overBudget (left addsBudget u) ≡ false
-unfolding overBudget addsBudget named
-over-not u few small = by-name (named u) refl
-  where
-    by-name : (b : Bool) → named u ≡ b → overBudget (left addsBudget u) ≡ false
-    by-name true e =
-        let v = left addsBudget u in
-        let full : v .state .audio .budget ≡ wrapped (u .state .audio .budget + 368) = ap (λ (x : World). x .state .audio .budget) (when-true named _ u e) ∙ one-budget (λ x. wrapped (x .state .audio .budget + 368)) u in
-        let total : nextTotal audioIn v ≡ nextTotal audioIn u = ap (λ (m : Memory). totalOf (tokenOf (nextDtd audioIn m) m)) (adds-memory u) in
-        ap (λ (b : Bool). named v && b) (le-ltb (v .state .audio .budget) (nextTotal audioIn v) (omega (arith, full, total, few, small)))
-        ∙ and-false (named v)
-    by-name false e =
-        ap overBudget (when-false named _ u e)
-        ∙ ap (λ (b : Bool). b && ltb (u .state .audio .budget) (nextTotal audioIn u)) e
+within-small : (n : ℕ) (u : World) → n ≤ 32766 → nextTotal audioIn u ≤ 368 → withinBudget n u ≡ true
+unfolding withinBudget
+within-small n u few small =
+    ap (λ (b : Bool). not (named u && b)) (le-ltb (wrapped (n + 368)) (nextTotal audioIn u) (omega (arith, few, small))) ∙ ap not (and-false (named u))
+
+-- nor is an endpoint that is not primed
+within-unprimed : (n : ℕ) (u : World) → primed audioIn (u .memory .page) ≡ false → withinBudget n u ≡ true
+unfolding withinBudget named
+within-unprimed n u e =
+    ap (λ (b : Bool). not ((b && not (terminates (nextDtd audioIn (u .memory)))) && ltb (wrapped (n + 368)) (nextTotal audioIn u))) e
 
 -- ---- what the memory at the start of frame says
 
@@ -308,13 +301,6 @@ unprimed-memory : (m : Memory) (l : Bool) → primed audioIn (m .page) ≡ false
 unfolding ranMemory
 unprimed-memory m l e = ap (λ (r : Run). stored (r .stores) (bus m l) .memory) (run-unprimed audioIn [] (bus m l) e)
 
-over-unprimed : (u : World) → primed audioIn (u .memory .page) ≡ false → overBudget (left addsBudget u) ≡ false
-unfolding overBudget addsBudget named
-over-unprimed u e =
-    let nameless : named u ≡ false = ap (λ (b : Bool). b && not (terminates (nextDtd audioIn (u .memory)))) e in
-    ap overBudget (when-false named _ u nameless)
-    ∙ ap (λ (b : Bool). b && ltb (u .state .audio .budget) (nextTotal audioIn u)) nameless
-
 -- ---- the tests of a microframe that streams
 
 module _ (t : ℕ) (w : World) (s : Streams t w) where
@@ -325,12 +311,12 @@ module _ (t : ℕ) (w : World) (s : Streams t w) where
   input-memory =
       ap (λ (b : Bool). paced (streamBy b w) .memory) (s .plain .rs) ∙ paced-memory (streamBy true w) ∙ stream-memory t w s
 
-  abbrev over : Bool
-  over = overBudget (left addsBudget (streamBy (rsSet w) w))
+  abbrev within : Bool
+  within = withinBudget (w .state .audio .budget) (streamBy (rsSet w) w)
 
-  hears-is : S.hears t w ≡ (not over && inputReady (atInput w))
+  hears-is : S.hears t w ≡ (within && inputReady (atInput w))
   unfolding inputBy
-  hears-is = ap (λ (b : Bool). (b && not over) && inputReady (atInput w)) (reach-is t w (s .plain) ∙ s .streams)
+  hears-is = ap (λ (b : Bool). (b && within) && inputReady (atInput w)) (reach-is t w (s .plain) ∙ s .streams)
 
   answers-is : S.answers t w ≡ outputReady (atOutput w)
   answers-is = ap (λ (b : Bool). b && outputReady (atOutput w)) (reach-is t w (s .plain) ∙ s .streams)
@@ -339,35 +325,38 @@ module _ (t : ℕ) (w : World) (s : Streams t w) where
   unfolding inputReady
   ready-is = ap readyIn input-memory
 
-  rs-over : (b : Bool) → overBudget (left addsBudget (streamBy true w)) ≡ b → overBudget (left addsBudget (streamBy (rsSet w) w)) ≡ b
-  rs-over b e = ap (λ (x : Bool). overBudget (left addsBudget (streamBy x w))) (s .plain .rs) ∙ e
-
-  output-memory : overBudget (left addsBudget (streamBy true w)) ≡ false → atOutput w .memory ≡ ranMemory seen (paced (streamBy true w) .state .port .line)
+  output-memory : withinBudget (streamBy true w .state .audio .budget) (streamBy true w) ≡ true → atOutput w .memory ≡ ranMemory seen (paced (streamBy true w) .state .port .line)
   output-memory e =
       ap (λ (b : Bool). left hears (streamBy b w) .memory) (s .plain .rs)
-      ∙ hears-memory (streamBy true w) e
+      ∙ hears-memory (streamBy true w) (over-within (streamBy true w) ∙ ap not e)
       ∙ ap (λ (m : Memory). ranMemory m (paced (streamBy true w) .state .port .line)) (stream-memory t w s)
 
   -- the input endpoint is not primed
   pub tested-silent : (o : Bool) → primed audioIn (seen .page) ≡ false → readyOut seen ≡ o → Tested t w false false 0 o
   unfolding outputReady
   tested-silent o e out =
-      let fine = over-unprimed (streamBy true w) (ap (λ (m : Memory). primed audioIn (m .page)) (stream-memory t w s) ∙ e) in
+      let fine = within-unprimed (streamBy true w .state .audio .budget) (streamBy true w) (ap (λ (m : Memory). primed audioIn (m .page)) (stream-memory t w s) ∙ e) in
       let idle : readyIn seen ≡ false = ap (λ (x : Bool). x && nextActive audioIn seen) e in
       record {
         fresh = reset-not t w (s .plain);
-        heard = hears-is ∙ ap (λ (b : Bool). not over && b) (ready-is ∙ idle) ∙ and-false (not over);
+        heard = hears-is ∙ ap (λ (b : Bool). within && b) (ready-is ∙ idle) ∙ and-false within;
         read = λ g. refl;
         answers = answers-is ∙ ap readyOut (output-memory fine ∙ unprimed-memory seen (paced (streamBy true w) .state .port .line) e) ∙ out;
       }
 
   -- its next descriptor is active and asks for no more than a packet's bytes
   module _ (few : w .state .audio .budget ≤ 32766) (e : readyIn seen ≡ true) (small : bytesAsked seen ≤ 368) where
-    fine : overBudget (left addsBudget (streamBy true w)) ≡ false
-    fine = over-not (streamBy true w) (omega (arith, stream-budget t w s, few)) (omega (arith, ap bytesAsked (stream-memory t w s), small))
+    asks : nextTotal audioIn (streamBy true w) ≤ 368
+    asks = omega (arith, ap bytesAsked (stream-memory t w s), small)
+
+    fine : withinBudget (streamBy true w .state .audio .budget) (streamBy true w) ≡ true
+    fine = within-small _ (streamBy true w) (omega (arith, stream-budget t w s, few)) asks
+
+    at-entry : within ≡ true
+    at-entry = ap (λ (b : Bool). withinBudget (w .state .audio .budget) (streamBy b w)) (s .plain .rs) ∙ within-small _ (streamBy true w) few asks
 
     pub hears-brings : S.hears t w ≡ true
-    hears-brings = hears-is ∙ ap₂ (λ (a b : Bool). not a && b) (rs-over false fine) (ready-is ∙ e)
+    hears-brings = hears-is ∙ ap₂ _&&_ at-entry (ready-is ∙ e)
 
     pub reads-brings : bytesAt (atInput w) ≡ bytesRead seen
     reads-brings = bytes-is (atInput w) (ap readyIn input-memory ∙ e) ∙ ap bytesRead input-memory
