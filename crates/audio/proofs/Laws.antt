@@ -8,6 +8,7 @@ use native.Mathlib.Nat.{mod-lt}
 use borrow.Author.Tests.{lt-leb, le-leb, lt-ltb, le-ltb}
 use lib.Dec.{eqb, leb, ltb}
 use lib.ListN.{length}
+use Rattle.bits.proofs.Tests.{and-false}
 use Rattle.bits.specs.Pick.{pick}
 use Rattle.bits.specs.Word.{any}
 use Rattle.bus.specs.Memory.{Memory}
@@ -36,7 +37,7 @@ use Rattle.record.specs.Did.{Leads, afterRun}
 use Rattle.record.proofs.Laws.{in-turn, by-true, by-false, unchanged, once, from-here, leads-as, leads-from, leads-by, on-memory, run-then}
 use Rattle.model.specs.Phases.{changing}
 use Rattle.model.specs.Streams.{nonempty, brought}
-use Rattle.model.specs.Audio.{audioIn, audioOut, named, addsBudget, overBudget, clearsBudget, blocks, blocksOf, keepsBlocks, keepsRun, inputs, hears, blockOf, sendsBlock, unprimes, outputs, streams}
+use Rattle.model.specs.Audio.{audioIn, audioOut, named, addsBudget, overBudget, clearsBudget, blocks, blocksOf, keepsBlocks, keepsRun, inputs, streamIn, blockOf, sendsBlock, unprimes, streamOut, streams}
 use Rattle.blocks.specs.declared.Decoded.{Decoded}
 use Rattle.blocks.specs.Promises.{InRing, atBlocks, Keeps, withDecoded}
 use Rattle.audio.specs.declared.Paced.{Paced}
@@ -97,18 +98,18 @@ module _ (w : World) (s : State) (m : Memory) (l : List ℕ) where
   unfolding clearsBudget named apply
   clears n = by-true _ _ nothing n (once (λ v. budget 0) (atHeard w grown m l) (atHeard w (budgeted s 0) m l) refl)
 
-  waits-over : is-named ≡ true → over ≡ true → Leads hears (atHeard w s m l) (atHeard w grown m l)
-  unfolding hears overBudget named
+  waits-over : is-named ≡ true → over ≡ true → Leads streamIn (atHeard w s m l) (atHeard w grown m l)
+  unfolding streamIn overBudget named
   waits-over n o =
       in-turn (adds n) (by-true overBudget nothing (clearsBudget then inputs) (ap₂ (λ (x y : Bool). x && y) n o) (unchanged (atHeard w grown m l)))
 
-  goes-under : is-named ≡ true → over ≡ false → (c : World) → Leads inputs (atHeard w (budgeted s 0) m l) c → Leads hears (atHeard w s m l) c
-  unfolding hears overBudget named
+  goes-under : is-named ≡ true → over ≡ false → (c : World) → Leads inputs (atHeard w (budgeted s 0) m l) c → Leads streamIn (atHeard w s m l) c
+  unfolding streamIn overBudget named
   goes-under n o c p =
       in-turn (adds n) (by-false overBudget nothing (clearsBudget then inputs) (ap₂ (λ (x y : Bool). x && y) n o) (in-turn (clears n) p))
 
-  goes-unnamed : is-named ≡ false → (c : World) → Leads inputs (atHeard w s m l) c → Leads hears (atHeard w s m l) c
-  unfolding hears overBudget named addsBudget clearsBudget
+  goes-unnamed : is-named ≡ false → (c : World) → Leads inputs (atHeard w s m l) c → Leads streamIn (atHeard w s m l) c
+  unfolding streamIn overBudget named addsBudget clearsBudget
   goes-unnamed n c p =
       in-turn (by-false _ (one (λ v. budget (wrapped (v .state .audio .budget + 368)))) nothing n (unchanged (atHeard w s m l)))
       (by-false overBudget nothing (clearsBudget then inputs) (ap (λ (x : Bool). x && ltb (s .audio .budget) (totalOf (tokenOf (nextDtd audioIn m) m))) n)
@@ -118,18 +119,18 @@ module _ (w : World) (s : State) (m : Memory) (l : List ℕ) where
   abbrev paced : Bool → Bool → Paced
   paced n o = pick n (pick o (record { budget = wrapped (s .audio .budget + 368); waits = true }) (record { budget = 0; waits = false })) (record { budget = s .audio .budget; waits = false })
 
-  pub hears-waits : (p : Paced) → p ≡ pacedOf m (s .audio .budget) → p .waits ≡ true → Leads hears (atHeard w s m l) (atHeard w (budgeted s (p .budget)) m l)
+  pub hears-waits : (p : Paced) → p ≡ pacedOf m (s .audio .budget) → p .waits ≡ true → Leads streamIn (atHeard w s m l) (atHeard w (budgeted s (p .budget)) m l)
   hears-waits p e t = by-tests is-named over refl refl (e)
     where
-      by-tests : (n o : Bool) → is-named ≡ n → over ≡ o → p ≡ paced n o → Leads hears (atHeard w s m l) (atHeard w (budgeted s (p .budget)) m l)
+      by-tests : (n o : Bool) → is-named ≡ n → over ≡ o → p ≡ paced n o → Leads streamIn (atHeard w s m l) (atHeard w (budgeted s (p .budget)) m l)
       by-tests true true en eo ep = leads-as (waits-over en eo) (ap (λ (x : Paced). atHeard w (budgeted s (x .budget)) m l) ep)
       by-tests true false en eo ep = let f = ap (λ (x : Paced). x .waits) ep in let z : _≡_ {A = ℕ} 0 1 = cc in absurd (omega arith)
       by-tests false o en eo ep = let f = ap (λ (x : Paced). x .waits) ep in let z : _≡_ {A = ℕ} 0 1 = cc in absurd (omega arith)
 
-  pub hears-goes : (p : Paced) → p ≡ pacedOf m (s .audio .budget) → p .waits ≡ false → (c : World) → Leads inputs (atHeard w (budgeted s (p .budget)) m l) c → Leads hears (atHeard w s m l) c
+  pub hears-goes : (p : Paced) → p ≡ pacedOf m (s .audio .budget) → p .waits ≡ false → (c : World) → Leads inputs (atHeard w (budgeted s (p .budget)) m l) c → Leads streamIn (atHeard w s m l) c
   hears-goes p e t c q = by-tests is-named over refl refl (e)
     where
-      by-tests : (n o : Bool) → is-named ≡ n → over ≡ o → p ≡ paced n o → Leads hears (atHeard w s m l) c
+      by-tests : (n o : Bool) → is-named ≡ n → over ≡ o → p ≡ paced n o → Leads streamIn (atHeard w s m l) c
       by-tests true true en eo ep = let f = ap (λ (x : Paced). x .waits) ep in let z : _≡_ {A = ℕ} 0 1 = cc in absurd (omega arith)
       by-tests true false en eo ep = goes-under en eo c (leads-from (ap (λ (x : Paced). atHeard w (budgeted s (x .budget)) m l) (sym ep)) q)
       by-tests false o en eo ep = goes-unnamed en c (leads-from (ap (λ (x : Paced). atHeard w (budgeted s (x .budget)) m l) (sym ep)) q)
@@ -237,7 +238,7 @@ module _ (s : State) (m : Memory) (l : List ℕ) (z : Sized m) (i : InRing (s .a
 
 -- the input step, from what `pace` and the input that it allows do
 module _ (s : State) (m : Memory) (l : List ℕ) (p : Paced) (is : p ≡ pacedOf m (s .audio .budget)) where
-  pub in-waits : Sized m → InRing (s .audio .received) → p .waits ≡ true → Hears hears s m l (budgeted s (p .budget)) m l
+  pub in-waits : Sized m → InRing (s .audio .received) → p .waits ≡ true → Hears streamIn s m l (budgeted s (p .budget)) m l
   in-waits z i t =
       record {
         leads = λ w. hears-waits w s m l p is t;
@@ -246,7 +247,7 @@ module _ (s : State) (m : Memory) (l : List ℕ) (p : Paced) (is : p ≡ pacedOf
         same = record { sending = refl; block = refl; channels = refl };
       }
 
-  pub in-goes : p .waits ≡ false → (r : State) (m′ : Memory) (l′ : List ℕ) → Hears inputs (budgeted s (p .budget)) m l r m′ l′ → Hears hears s m l r m′ l′
+  pub in-goes : p .waits ≡ false → (r : State) (m′ : Memory) (l′ : List ℕ) → Hears inputs (budgeted s (p .budget)) m l r m′ l′ → Hears streamIn s m l r m′ l′
   in-goes t r m′ l′ h =
       record {
         leads = λ w. hears-goes w s m l p is t (atHeard w r m′ l′) (h .leads w);
@@ -256,10 +257,6 @@ module _ (s : State) (m : Memory) (l : List ℕ) (p : Paced) (is : p ≡ pacedOf
       }
 
 -- ---- output
-
-and-none : (x : Bool) → x && false ≡ false
-and-none true = refl
-and-none false = refl
 
 -- one block, by the run that sends it
 module _ (s : State) (m m′ : Memory) (l bs : List ℕ) (ran : Ran)
@@ -324,18 +321,18 @@ taken-from r capacity n i =
 
 module _ (s : State) (m : Memory) (l : List ℕ) (z : Sized m) (can : CanSend s l) where
   -- nothing is sent where credit is short, or nothing is primed
-  pub out-short : s .audio .credit < 7 → Outputs outputs s m l s m
-  unfolding outputs
+  pub out-short : s .audio .credit < 7 → Outputs streamOut s m l s m
+  unfolding streamOut
   out-short h =
       record {
-        leads = λ w. by-false _ _ nothing (ap (λ (x : Bool). primed audioOut (m .page) && x) (lt-leb 7 (s .audio .credit) h) ∙ and-none (primed audioOut (m .page))) (unchanged (atSent w s m l));
+        leads = λ w. by-false _ _ nothing (ap (λ (x : Bool). primed audioOut (m .page) && x) (lt-leb 7 (s .audio .credit) h) ∙ and-false (primed audioOut (m .page))) (unchanged (atSent w s m l));
         sized = z;
         can = can;
         received = refl;
       }
 
-  pub out-unprimed : found audioOut m ≡ Unprimed → Outputs outputs s m l s m
-  unfolding outputs
+  pub out-unprimed : found audioOut m ≡ Unprimed → Outputs streamOut s m l s m
+  unfolding streamOut
   out-unprimed f =
       record {
         leads = λ w. by-false _ _ nothing (ap (λ (x : Bool). x && leb 7 (s .audio .credit)) (says-unprimed audioOut m f)) (unchanged (atSent w s m l));
@@ -348,8 +345,8 @@ module _ (s : State) (m : Memory) (l : List ℕ) (z : Sized m) (can : CanSend s 
     primed-enough : primed audioOut (m .page) ≡ true → primed audioOut (m .page) && leb 7 (s .audio .credit) ≡ true
     primed-enough e = ap₂ (λ (x y : Bool). x && y) e (le-leb 7 (s .audio .credit) enough)
 
-    pub out-ended : found audioOut m ≡ Ended → (r : State) (m′ : Memory) → Unprimes s m r m′ → Outputs outputs s m l r m′
-    unfolding outputs
+    pub out-ended : found audioOut m ≡ Ended → (r : State) (m′ : Memory) → Unprimes s m r m′ → Outputs streamOut s m l r m′
+    unfolding streamOut
     out-ended f r m′ p =
         let says = says-ended audioOut m f in
         record {
@@ -365,12 +362,12 @@ module _ (s : State) (m : Memory) (l : List ℕ) (z : Sized m) (can : CanSend s 
 
     pub out-active : (qh td tok : ℕ) → found audioOut m ≡ Active qh td tok → (bs : List ℕ) → ((w : World) → bs ≡ blockOf (atSent w s m l))
         → (m′ : Memory) (ran : Ran) → SendsOne qh td tok (bitOf audioOut) bs (S.bus m (s .port .line)) (S.bus m′ (ran .line)) ran
-        → (r₁ r : State) → r₁ ≡ afterRun s ran → r ≡ sentBlock r₁ (length l / 12) → Outputs outputs s m l r m′
-    unfolding outputs
+        → (r₁ r : State) → r₁ ≡ afterRun s ran → r ≡ sentBlock r₁ (length l / 12) → Outputs streamOut s m l r m′
+    unfolding streamOut
     out-active qh td tok f bs built m′ ran sends r₁ r e₁ e =
         let says = says-active audioOut m qh td tok f in
         let ran-so = runs-active audioOut bs m (s .port .line) z (single 3 false (omega arith)) qh td tok f (bitOf audioOut) refl (sends 3) in
-        subst (λ (x : State). Outputs outputs s m l x m′) (sym (e ∙ ap (λ (x : State). sentBlock x (length l / 12)) e₁))
+        subst (λ (x : State). Outputs streamOut s m l x m′) (sym (e ∙ ap (λ (x : State). sentBlock x (length l / 12)) e₁))
         (record {
           leads =
               λ w. by-true _ _ nothing (primed-enough (says .prime))
@@ -402,7 +399,7 @@ module _ (s : State) (m m′ : Memory) (line : Bool) (d : S.Does (settling (bitO
 
 -- ---- both
 
-pub stream-steps : (s s₁ s₂ : State) (m m₁ m₂ : Memory) (l l₁ k : List ℕ) → Hears hears s m l s₁ m₁ l₁ → Outputs outputs s₁ m₁ k s₂ m₂ → Streams streams s m l k s₂ m₂ l₁
+pub stream-steps : (s s₁ s₂ : State) (m m₁ m₂ : Memory) (l l₁ k : List ℕ) → Hears streamIn s m l s₁ m₁ l₁ → Outputs streamOut s₁ m₁ k s₂ m₂ → Streams streams s m l k s₂ m₂ l₁
 unfolding streams
 stream-steps s s₁ s₂ m m₁ m₂ l l₁ k h o =
     record {

@@ -158,7 +158,7 @@ pub fn stream_in(
 ) -> State
     requires { ⌜ Sized (shown dynamic sram page) ⌝ }
     requires { ⌜ InRing (s .audio .received) × (length (now received) ≡ 576000) ⌝ }
-    ensures { λ r. ⌜ P.Hears Steps.hears s (shown (dynamic .entry) (sram .entry) (page .entry)) (now (received .entry)) r (shown (dynamic .exit) (sram .exit) (page .exit)) (now (received .exit)) ⌝ }
+    ensures { λ r. ⌜ P.Hears Steps.streamIn s (shown (dynamic .entry) (sram .entry) (page .entry)) (now (received .entry)) r (shown (dynamic .exit) (sram .exit) (page .exit)) (now (received .exit)) ⌝ }
 {
     let paced = pace(&*dynamic, &*sram, &*page, s.audio.budget);
     let mut next = s;
@@ -210,7 +210,7 @@ fn send_block(
     requires { ⌜ Sized (shown dynamic sram page) ⌝ }
     requires { ⌜ P.CanSend s (now sending) × (7 ≤ s .audio .credit) ⌝ }
     requires { ⌜ D.found Steps.audioOut (shown dynamic sram page) ≡ Active qh td tok ⌝ }
-    ensures { λ r. ⌜ P.Outputs Steps.outputs s (shown (dynamic .entry) (sram .entry) (page .entry)) (now (sending .entry)) r (shown (dynamic .exit) (sram .exit) (page .exit)) ⌝ }
+    ensures { λ r. ⌜ P.Outputs Steps.streamOut s (shown (dynamic .entry) (sram .entry) (page .entry)) (now (sending .entry)) r (shown (dynamic .exit) (sram .exit) (page .exit)) ⌝ }
 {
     let mut block = [0u8; 2048];
     let channels = s.audio.channels as usize;
@@ -260,7 +260,7 @@ pub fn stream_out(
 ) -> State
     requires { ⌜ Sized (shown dynamic sram page) ⌝ }
     requires { ⌜ P.CanSend s (now sending) ⌝ }
-    ensures { λ r. ⌜ P.Outputs Steps.outputs s (shown (dynamic .entry) (sram .entry) (page .entry)) (now (sending .entry)) r (shown (dynamic .exit) (sram .exit) (page .exit)) ⌝ }
+    ensures { λ r. ⌜ P.Outputs Steps.streamOut s (shown (dynamic .entry) (sram .entry) (page .entry)) (now (sending .entry)) r (shown (dynamic .exit) (sram .exit) (page .exit)) ⌝ }
 {
     if s.audio.credit < 7 {
         return s;

@@ -24,6 +24,14 @@ pub not-true : (a : Bool) → not a ≡ true → a ≡ false
 not-true true e = sym e
 not-true false e = refl
 
+pub and-false : (a : Bool) → (a && false) ≡ false
+and-false true = refl
+and-false false = refl
+
+pub or-false : (a : Bool) → (a || false) ≡ a
+or-false true = refl
+or-false false = refl
+
 pub and-both : (a b : Bool) → a ≡ true → b ≡ true → (a && b) ≡ true
 and-both true b p q = q
 and-both false b p q = p

@@ -5,15 +5,11 @@ use mathlib.Core.List.{List}
 use mathlib.Core.Path.{_≡_, refl, sym, ap, ap₂, _∙_}
 use native.Mathlib.Numerals.{add-one}
 use native.Mathlib.Omega.{arith}
-use lib.ListN.{getD}
-use Rattle.bus.specs.Memory.{word}
-use Rattle.record.specs.Setups.{little}
-use Rattle.bounds.specs.Bounds.{madeAt, allMade, other, noneAsks}
-
--- a word from its bytes, the low one last
-pub word-little : (q : List ℕ) (i : ℕ) → word (getD q (i + 3) 0) (getD q (i + 2) 0) (getD q (i + 1) 0) (getD q i 0) ≡ little q i
-unfolding word
-word-little q i = omega arith
+use borrow.Author.Tests.{leb-true, ltb-true}
+use lib.Dec.{leb, ltb}
+use Rattle.bus.proofs.Sizes.{and-true}
+use Rattle.record.specs.declared.Ring.{Ring}
+use Rattle.bounds.specs.Bounds.{madeAt, allMade, other, noneAsks, ringOk}
 
 -- one setup more
 pub made-more : (q : List ℕ) (n : ℕ) → (allMade q n && madeAt q n) ≡ allMade q (n + 1)
@@ -28,3 +24,10 @@ asks-more q n = rw add-one refl
 pub or-true : (b : Bool) → (b || true) ≡ true
 or-true true = refl
 or-true false = refl
+
+-- a ring whose place lies in it
+pub in-ring : (r : Ring) (n : ℕ) → ringOk r n ≡ true → (r .start < n) × (r .len ≤ n)
+unfolding ringOk
+in-ring r n e =
+    let b = and-true (ltb (r .start) n) (leb (r .len) n) e in
+    (ltb-true (r .start) n (b .0), leb-true (r .len) n (b .1))

@@ -2,7 +2,6 @@
 ghost use mathlib.Core.Path.{_≡_};
 ghost use mathlib.Core.Bool.{Bool};
 ghost use Prim.Native.Nat.{_+_, _-_, _≤_, _<_, min};
-ghost use Rattle.record.specs.Setups.{little};
 ghost use Rattle.model.specs.Control.{enumerating as Control·enumerating};
 ghost use Rattle.bounds.specs.Bounds as B;
 use gptimers::Timer;
@@ -15,6 +14,7 @@ use record::Phase;
 use record::Ring;
 use record::State;
 use record::Stats;
+use record::word_from;
 
 // A configuration request's first word: 80 06 00 02.
 const ASKS_CONFIGURATION: u32 = 0x0200_0680;
@@ -24,14 +24,6 @@ const MOST: u64 = 0x100_0000_0000;
 
 // The count that stands for 0 in a timer.
 const ZERO: u64 = 0x4_0000_0000_0000;
-
-// The little-endian word at index `at`.
-fn word_from(setups: &[u8; 2056], at: usize) -> u32
-    requires { ⌜ at + 4 ≤ 2056 ⌝ }
-    ensures { λ r. ⌜ r ≡ little (now (setups .entry)) at ⌝ }
-{
-    bus::word(setups[at + 3], setups[at + 2], setups[at + 1], setups[at])
-}
 
 // Whether the source makes a setup with these two words.
 pub fn made(first: u32, second: u32) -> bool

@@ -28,7 +28,7 @@ put m (Static i) v = memory (m .dynamic) (wordPut (m .sram) i v) (m .page)
 put m (Page i) v = memory (m .dynamic) (m .sram) (wordPut (m .page) i v)
 put m Nowhere v = m
 
-lost-shift : (q : Place) (k : ℕ) → lost (shift q k) ≡ lost q
+pub lost-shift : (q : Place) (k : ℕ) → lost (shift q k) ≡ lost q
 unfolding lost
 lost-shift (Dynamic i) k = refl
 lost-shift (Static i) k = refl

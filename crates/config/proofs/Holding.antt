@@ -9,6 +9,7 @@ use lib.ListN.{length, take, set, length-map}
 use lib.Seq.{take-at}
 use lib.Dec.{ltb}
 use borrow.Author.Tests.{eq-eqb, ne-eqb, le-leb, lt-leb}
+use Rattle.bits.proofs.Tests.{and-false}
 use Rattle.bits.specs.Pick.{pick}
 use Rattle.config.specs.Config.{Walk, member, interfaces, alternates, slot, chosen, step, at, isInterface, interfaceOf, isEndpoint, counts, isInput, packetSize}
 use Rattle.config.specs.Table.{position, readingOf, Holds, Held, choosing, takenAt, tableOf}
@@ -85,10 +86,6 @@ module _ (x : List ℕ) (w : Walk) where
       }
   unfolding step
   by-tests i e p q = rw (p, q)
-
-  and-false : (t : Bool) → t && false ≡ false
-  and-false true = refl
-  and-false false = refl
 
   pub step-short : at x 1 ≡ 5 → length x < 7 → step x w ≡ w
   step-short k l = by-tests false false (simp (ne-eqb (at x 1) 4 (λ e. omega arith))) (simp (eq-eqb (at x 1) 5 k, lt-leb 7 (length x) l))

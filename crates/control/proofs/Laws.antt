@@ -37,14 +37,10 @@ use Rattle.record.specs.Change.{apply, drained, phase, count, control, popped, 
 use Rattle.record.specs.Did.{Leads, Alone}
 use Rattle.record.proofs.Laws.{in-turn, by-true, by-false, unchanged, once, on-memory, on-page}
 use Rattle.model.specs.Phases.{now, changing, dropsRequest}
-use Rattle.model.specs.Control.{begun, posted, enumerating, configured, late}
+use Rattle.model.specs.Control.{begun, posted, enumerating, configured, timedOut}
 use Rattle.control.specs.Promises.{putsSetup, atSetups, Posts}
 
 -- ---- the setup queue
-
-pub little-word : (q : List ℕ) (i : ℕ) → word (getD q (i + 3) 0) (getD q (i + 2) 0) (getD q (i + 1) 0) (getD q i 0) ≡ little q i
-unfolding word
-little-word q i = omega arith
 
 -- one byte more moved up
 pub moved-up : (q : List ℕ) (i : ℕ) → i + 8 < length q → set (take i (drop 8 q) ++ drop i q) i (getD (take i (drop 8 q) ++ drop i q) (i + 8) 0) ≡ take (i + 1) (drop 8 q) ++ drop (i + 1) q
@@ -158,13 +154,13 @@ request-dropped s {r} e =
     record { leads = λ w. once (λ v. control (withOn (v .state .control) false)) (withState w s) (withState w r) (ap (withState w) e) }
 
 module _ (s : State) {t : ℕ} (is : t ≡ (s .control .t0 + 16000) % 2 ^ 64) where
-  pub drops-late : t < s .port .uf → {r : State} → r ≡ withControl s (withOn (s .control) false) → Alone (when late dropsRequest) s r
+  pub drops-late : t < s .port .uf → {r : State} → r ≡ withControl s (withOn (s .control) false) → Alone (when timedOut dropsRequest) s r
   drops-late h e =
-      record { leads = λ w. by-true late dropsRequest nothing (ap (λ (x : ℕ). ltb x (s .port .uf)) (sym is) ∙ lt-ltb t (s .port .uf) h) (request-dropped s e .leads w) }
+      record { leads = λ w. by-true timedOut dropsRequest nothing (ap (λ (x : ℕ). ltb x (s .port .uf)) (sym is) ∙ lt-ltb t (s .port .uf) h) (request-dropped s e .leads w) }
 
-  pub goes-on : s .port .uf ≤ t → Alone (when late dropsRequest) s s
+  pub goes-on : s .port .uf ≤ t → Alone (when timedOut dropsRequest) s s
   goes-on h =
-      record { leads = λ w. by-false late dropsRequest nothing (ap (λ (x : ℕ). ltb x (s .port .uf)) (sym is) ∙ le-ltb t (s .port .uf) h) (unchanged (withState w s)) }
+      record { leads = λ w. by-false timedOut dropsRequest nothing (ap (λ (x : ℕ). ltb x (s .port .uf)) (sym is) ∙ le-ltb t (s .port .uf) h) (unchanged (withState w s)) }
 
 abbrev pub withEnumerations : Stats → ℕ → Stats
 withEnumerations r x = record { microframes = r .microframes; «in_transfers» = r .«in_transfers»; «out_transfers» = r .«out_transfers»; «in_frames» = r .«in_frames»; «out_frames» = r .«out_frames»; «bad_blocks» = r .«bad_blocks»; «midi_dtds» = r .«midi_dtds»; «midi_asleep» = r .«midi_asleep»; «out_underruns» = r .«out_underruns»; «midi_packets_out» = r .«midi_packets_out»; «vendor_in_bytes» = r .«vendor_in_bytes»; restarts = r .restarts; enumerations = x }

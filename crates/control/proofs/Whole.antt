@@ -26,11 +26,11 @@ use Rattle.record.specs.Change.{Step, if, when}
 use Rattle.record.specs.Did.{Alone}
 use Rattle.record.proofs.Laws.{in-turn, by-true, by-false, from-here, on-page}
 use Rattle.model.specs.Phases.{changing, dropsRequest}
-use Rattle.model.specs.Control.{posted, posts, configured, inStatus, late, dataStage, finishes, statusStage, stalled, unstalls, stages, controls}
+use Rattle.model.specs.Control.{posted, posts, configured, inStatus, timedOut, dataStage, finishes, statusStage, stalled, unstalls, stages, controls}
 use Rattle.finished.specs.Promises.{Brings}
 use Rattle.control.specs.declared.Next.the-variants.{Setup, Empty}
 use Rattle.control.specs.declared.Acknowledged.{Acknowledged}
-use Rattle.control.specs.Promises.{nextOf, Posts, Stages, Acknowledges, serves, requests, atControl, Controls}
+use Rattle.control.specs.Promises.{nextOf, Posts, Stages, Acknowledges, dataThenStatus, requests, atControl, Controls}
 use Rattle.control.proofs.Laws.{request-dropped}
 
 -- ---- the status stage and the end of the request
@@ -42,53 +42,53 @@ module _ (stack : Bool) {s : State} {m : Memory} {a : Acknowledged} {m′ : Memo
       (record {
         leads = λ w.
             ack .leads stack (atControl w s m q d p c)
-            (by-true (λ v. a .done) (finishes stack) (when late dropsRequest) h (subst (λ (x : List ℕ). Brings (finishes stack) (a .state) q d x c r q′ d′ c′) same b .leads (atControl w s m′ q d p c)));
+            (by-true (λ v. a .done) (finishes stack) (when timedOut dropsRequest) h (subst (λ (x : List ℕ). Brings (finishes stack) (a .state) q d x c r q′ d′ c′) same b .leads (atControl w s m′ q d p c)));
         sized = ack .sized;
       })
 
-  pub ends-open : a .done ≡ false → {r : State} → Alone (when late dropsRequest) (a .state) r → Controls (statusStage stack) s m q d p c r m′ q d p′ c
+  pub ends-open : a .done ≡ false → {r : State} → Alone (when timedOut dropsRequest) (a .state) r → Controls (statusStage stack) s m q d p c r m′ q d p′ c
   ends-open h {r} k =
       subst (λ (x : List ℕ). Controls (statusStage stack) s m q d p c r m′ q d x c) (sym same)
       (record {
         leads = λ w.
             ack .leads stack (atControl w s m q d p c)
-            (by-false (λ v. a .done) (finishes stack) (when late dropsRequest) h (k .leads (atControl w s m′ q d p c)));
+            (by-false (λ v. a .done) (finishes stack) (when timedOut dropsRequest) h (k .leads (atControl w s m′ q d p c)));
         sized = ack .sized;
       })
 
 -- ---- the data stage and what follows it
 
 module _ (stack : Bool) {s : State} {m : Memory} {p : List ℕ} {s₁ : State} {m₁ : Memory} {p₁ : List ℕ} (staged : Stages dataStage s m p s₁ m₁ p₁) (q d c : List ℕ) where
-  pub data-open : s₁ .control .stage ≡ Data → {r : State} → Alone (when late dropsRequest) s₁ r → Controls (serves stack) s m q d p c r m₁ q d p₁ c
+  pub data-open : s₁ .control .stage ≡ Data → {r : State} → Alone (when timedOut dropsRequest) s₁ r → Controls (dataThenStatus stack) s m q d p c r m₁ q d p₁ c
   data-open h k =
       record {
         leads = λ w.
             in-turn (staged .leads (atControl w s m q d p c))
-            (by-false (λ v. inStatus (v .state .control .stage)) (statusStage stack) (when late dropsRequest) (ap inStatus h) (k .leads (atControl w s m₁ q d p₁ c)));
+            (by-false (λ v. inStatus (v .state .control .stage)) (statusStage stack) (when timedOut dropsRequest) (ap inStatus h) (k .leads (atControl w s m₁ q d p₁ c)));
         sized = staged .sized;
       }
 
-  pub data-done : s₁ .control .stage ≡ Status → {r : State} {m′ : Memory} {q′ d′ p′ c′ : List ℕ} → Controls (statusStage stack) s₁ m₁ q d p₁ c r m′ q′ d′ p′ c′ → Controls (serves stack) s m q d p c r m′ q′ d′ p′ c′
+  pub data-done : s₁ .control .stage ≡ Status → {r : State} {m′ : Memory} {q′ d′ p′ c′ : List ℕ} → Controls (statusStage stack) s₁ m₁ q d p₁ c r m′ q′ d′ p′ c′ → Controls (dataThenStatus stack) s m q d p c r m′ q′ d′ p′ c′
   data-done h k =
       record {
         leads = λ w.
             in-turn (staged .leads (atControl w s m q d p c))
-            (by-true (λ v. inStatus (v .state .control .stage)) (statusStage stack) (when late dropsRequest) (ap inStatus h) (k .leads w));
+            (by-true (λ v. inStatus (v .state .control .stage)) (statusStage stack) (when timedOut dropsRequest) (ap inStatus h) (k .leads w));
         sized = k .sized;
       }
 
 -- ---- a request
 
 module _ (stack : Bool) {s : State} {m : Memory} {q d p c : List ℕ} {r : State} {m′ : Memory} {q′ d′ p′ c′ : List ℕ} where
-  pub in-data : s .control .stage ≡ Data → Controls (serves stack) s m q d p c r m′ q′ d′ p′ c′ → Controls (stages stack) s m q d p c r m′ q′ d′ p′ c′
+  pub in-data : s .control .stage ≡ Data → Controls (dataThenStatus stack) s m q d p c r m′ q′ d′ p′ c′ → Controls (stages stack) s m q d p c r m′ q′ d′ p′ c′
   unfolding stages
   in-data h k =
-      record { leads = λ w. by-false (λ v. inStatus (v .state .control .stage)) (statusStage stack) (serves stack) (ap inStatus h) (k .leads w); sized = k .sized }
+      record { leads = λ w. by-false (λ v. inStatus (v .state .control .stage)) (statusStage stack) (dataThenStatus stack) (ap inStatus h) (k .leads w); sized = k .sized }
 
   pub in-status : s .control .stage ≡ Status → Controls (statusStage stack) s m q d p c r m′ q′ d′ p′ c′ → Controls (stages stack) s m q d p c r m′ q′ d′ p′ c′
   unfolding stages
   in-status h k =
-      record { leads = λ w. by-true (λ v. inStatus (v .state .control .stage)) (statusStage stack) (serves stack) (ap inStatus h) (k .leads w); sized = k .sized }
+      record { leads = λ w. by-true (λ v. inStatus (v .state .control .stage)) (statusStage stack) (dataThenStatus stack) (ap inStatus h) (k .leads w); sized = k .sized }
 
   pub not-stalled : {x : ℕ} {t : Bool} → x ≡ wordAt (m .page) EPCR0 → t ≡ W.any x 0x10001 → t ≡ false → Controls (stages stack) s m q d p c r m′ q′ d′ p′ c′ → Controls (requests stack) s m q d p c r m′ q′ d′ p′ c′
   not-stalled {x} {t} ex et h k =

@@ -16,7 +16,7 @@ use Rattle.dtd.specs.Dtd.{endpoint}
 use Rattle.record.specs.Change.{Step, if, when, runs}
 use Rattle.record.specs.Did.{Leads}
 use Rattle.model.specs.Phases.{dropsRequest}
-use Rattle.model.specs.Control.{late, toStatus, keepsReply, finishes, statusStage, dataStage, inStatus, stalled, unstalls, stages}
+use Rattle.model.specs.Control.{timedOut, toStatus, keepsReply, finishes, statusStage, dataStage, inStatus, stalled, unstalls, stages}
 use Rattle.finished.specs.Promises.{Ready}
 use Rattle.control.specs.declared.Next.{Next}
 use Rattle.control.specs.declared.Next.the-variants.{Setup, Empty}
@@ -57,7 +57,7 @@ dataOut = runs (endpoint 0 false) [] (λ r. when (λ w. r .done) toStatus)
 
 -- 692-700: what follows the run of a status stage, by its completion
 abbrev pub endsBy : Bool → Bool → Step
-endsBy stack done = if (λ w. done) (finishes stack) (when late dropsRequest)
+endsBy stack done = if (λ w. done) (finishes stack) (when timedOut dropsRequest)
 
 pub record Acknowledges (s : State) (m : Memory) (a : Acknowledged) (m′ : Memory) : Type 0 where
   pub leads : (stack : Bool) (w : World) {b : World} → Leads (endsBy stack (a .done)) (atBus w (a .state) m′) b → Leads (statusStage stack) (atBus w s m) b
@@ -66,8 +66,8 @@ pub record Acknowledges (s : State) (m : Memory) (a : Acknowledged) (m′ : Memo
   pub few : a .state .control .got ≤ 65535
 
 -- 658-700: a data stage, and what follows it
-abbrev pub serves : Bool → Step
-serves stack = H._then_ dataStage (if (λ w. inStatus (w .state .control .stage)) (statusStage stack) (when late dropsRequest))
+abbrev pub dataThenStatus : Bool → Step
+dataThenStatus stack = H._then_ dataStage (if (λ w. inStatus (w .state .control .stage)) (statusStage stack) (when timedOut dropsRequest))
 
 -- 649-700: a request that runs
 abbrev pub requests : Bool → Step

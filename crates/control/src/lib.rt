@@ -12,7 +12,6 @@ ghost use Rattle.usbdev.specs.Registers.{registers, done as Registers·done, ra
 ghost use Rattle.dtd.specs.Dtd as D;
 ghost use Rattle.record.specs.declared.Stage.the-variants.{Status};
 ghost use Rattle.record.specs.Record.{withStage, withControl};
-ghost use Rattle.record.specs.Setups.{little};
 ghost use Rattle.record.specs.Change.{when, drained};
 ghost use Rattle.record.specs.Did.{Alone};
 ghost use Rattle.model.specs.Phases.{changing, dropsRequest};
@@ -27,6 +26,7 @@ use record::Control;
 use record::Phase;
 use record::Stage;
 use record::State;
+use record::word_from;
 use std::num::wrapping_add_u32;
 use std::num::wrapping_add_u64;
 use usbdev::EPCR0;
@@ -42,14 +42,6 @@ const DROP_AFTER: u64 = 16000;
 pub enum Next {
     Setup(u32, u32),
     Empty,
-}
-
-// The little-endian word from index `at` on.
-fn word_from(setups: &[u8; 2056], at: usize) -> u32
-    requires { ⌜ at + 4 ≤ 2056 ⌝ }
-    ensures { λ r. ⌜ r ≡ little (now (setups .entry)) at ⌝ }
-{
-    bus::word(setups[at + 3], setups[at + 2], setups[at + 1], setups[at])
 }
 
 // The first of `count` setups that wait.
@@ -169,7 +161,7 @@ fn at_status(s: State) -> State
 
 // A request that is still not answered is dropped once it has run too long.
 fn unless_late(s: State) -> State
-    ensures { λ r. ⌜ Alone (when C.late dropsRequest) s r ⌝ }
+    ensures { λ r. ⌜ Alone (when C.timedOut dropsRequest) s r ⌝ }
 {
     if wrapping_add_u64(s.control.t0, DROP_AFTER) < s.port.uf {
         return ended(s);
@@ -321,7 +313,7 @@ fn served(
 ) -> State
     requires { ⌜ Sized (shown dynamic sram page) ⌝ }
     requires { ⌜ Ready s × ((65535 ≤ length (now reply)) × (65535 ≤ length (now config))) ⌝ }
-    ensures { λ r. ⌜ P.Controls (P.serves «device_stack») s (shown (dynamic .entry) (sram .entry) (page .entry)) (now (setups .entry)) (now (device .entry)) (now (reply .entry)) (now (config .entry)) r (shown (dynamic .exit) (sram .exit) (page .exit)) (now (setups .exit)) (now (device .exit)) (now (reply .exit)) (now (config .exit)) ⌝ }
+    ensures { λ r. ⌜ P.Controls (P.dataThenStatus «device_stack») s (shown (dynamic .entry) (sram .entry) (page .entry)) (now (setups .entry)) (now (device .entry)) (now (reply .entry)) (now (config .entry)) r (shown (dynamic .exit) (sram .exit) (page .exit)) (now (setups .exit)) (now (device .exit)) (now (reply .exit)) (now (config .exit)) ⌝ }
 {
     let next = data_stage(s, dynamic, sram, page, reply);
     let running = next.control;

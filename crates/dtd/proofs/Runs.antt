@@ -7,7 +7,7 @@ use native.Mathlib.Omega.{arith}
 use lib.ListN.{length, drop}
 use Rattle.bits.specs.Pick.{pick}
 use Rattle.bits.specs.Word.{any}
-use Rattle.bits.proofs.Tests.{false-true}
+use Rattle.bits.proofs.Tests.{false-true, or-false}
 use Rattle.bus.specs.Memory.{Memory}
 use Rattle.bus.specs.Steps.{exec, andThen, replay, replay-append, exec-then}
 use borrow.Author.Tests.{ne-eqb}
@@ -82,10 +82,6 @@ both true true h = let z : _≡_ {A = ℕ} 0 1 = cc in absurd (omega arith)
 both true false h = let z : _≡_ {A = ℕ} 0 1 = cc in absurd (omega arith)
 both false true h = (refl, refl)
 both false false h = let z : _≡_ {A = ℕ} 0 1 = cc in absurd (omega arith)
-
-or-false : (x : Bool) → x || false ≡ x
-or-false true = refl
-or-false false = refl
 
 -- a pointer that terminates, or a descriptor that is not active
 neither : (x y : Bool) (n : ℕ) (r : Run) → not x && y ≡ false → pick x (ended n) (pick y r (ended 1)) ≡ ended (pick x n 1)

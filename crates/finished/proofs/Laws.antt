@@ -15,7 +15,7 @@ use mathlib.Core.List.{List, [], _∷_, _++_, flatMap}
 use mathlib.Core.Path.{_≡_, refl, sym, ap, ap₂, subst, _∙_}
 use lib.ListN.{length, getD, take, set, length-append}
 use lib.Seq.{sets, take-suc, length-take-le, length-sets}
-use Rattle.midi.proofs.Laws.{sets-append}
+use Rattle.bits.proofs.Lists.{sets-append}
 use Rattle.record.specs.declared.State.{State}
 use Rattle.record.specs.Record.{withBlock, withOn, withSetups, withDevice, withConfig, withAudio, withControl, withLengths}
 use Rattle.record.specs.Setups.{setupBytes}

@@ -17,7 +17,7 @@ use Rattle.record.specs.declared.Settings.{Settings}
 use Rattle.record.specs.declared.State.{State}
 use Rattle.record.specs.Record.{withOn, withCredit, withBudget, Counter}
 use Rattle.record.specs.World.{World, withState, busOf, atPage}
-use Rattle.record.specs.Change.{bus, count, uf, phase, started, gone, suspended, running, credit, budget, timers, control, cleared, forgot, apply, Step, if, one, here, onPage}
+use Rattle.record.specs.Change.{bus, count, uf, phase, started, gone, suspended, wasRunning, credit, budget, timers, control, cleared, forgot, apply, Step, if, one, here, onPage}
 use Rattle.record.specs.Did.{Alone, Paged}
 use Rattle.model.specs.Phases.{counts, ticks, dropsRequest, forgets, returns, cable, suspends, enters, departs, leaves, startsFrame}
 use Rattle.model.specs.Microframe.{opens}
@@ -105,7 +105,7 @@ module _ (w : World) (h : On w) where
   unfolding apply
   on-suspended b = h
 
-  on-running : (b : Bool) → On (apply (running b) w)
+  on-running : (b : Bool) → On (apply (wasRunning b) w)
   unfolding apply
   on-running b = h
 

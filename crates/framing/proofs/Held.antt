@@ -8,10 +8,10 @@ use Rattle.bits.specs.Pick.{pick}
 use Rattle.dtd.specs.Dtd.{Run}
 use Rattle.config.specs.Config.{Choice}
 use Rattle.record.specs.World.{World}
-use Rattle.record.specs.Change.{Change, bus, ran, lost, count, uf, phase, started, gone, suspended, running, credit, budget, counter, block, timers, control, queued, popped, pushed, cleared, reply, device, config, forgot, midi, serial, received, frame, taken, apply, Step}
+use Rattle.record.specs.Change.{Change, bus, ran, lost, count, uf, phase, started, gone, suspended, wasRunning, credit, budget, counter, block, timers, control, queued, popped, pushed, cleared, reply, device, config, forgot, midi, serial, received, frame, taken, apply, Step}
 use Rattle.model.specs.Phases.{dropsRequest}
 use Rattle.model.specs.Control.{toStatus, posted, posts, configured, keepsReply, dataStage, asksWhole, chooses, configures, finishes, statusEnds, statusStage, unstalls, stages, controls}
-use Rattle.model.specs.Audio.{addsBudget, clearsBudget, keepsFrames, keepsGood, keepsBlock, keepsBlocks, keepsRun, inputs, hears, sendsBlock, unprimes, outputs, streams}
+use Rattle.model.specs.Audio.{addsBudget, clearsBudget, keepsFrames, keepsGood, keepsBlock, keepsBlocks, keepsRun, inputs, streamIn, sendsBlock, unprimes, streamOut, streams}
 use Rattle.model.proofs.Fields.{Fields, Keeps, keeps-then, keeps-if, keeps-nothing, keeps-one, keeps-bus, keeps-page, keeps-runs, keeps-here}
 
 -- bytes of both queues, and of the receive area
@@ -33,7 +33,7 @@ heldOn (phase p) k = k
 heldOn (started n) k = k
 heldOn (gone b) k = k
 heldOn (suspended b) k = k
-heldOn (running b) k = k
+heldOn (wasRunning b) k = k
 heldOn (credit n) k = k
 heldOn (budget n) k = k
 heldOn (counter n) k = k
@@ -65,7 +65,7 @@ held-apply (phase p) w = refl
 held-apply (started n) w = refl
 held-apply (gone b) w = refl
 held-apply (suspended b) w = refl
-held-apply (running b) w = refl
+held-apply (wasRunning b) w = refl
 held-apply (credit n) w = refl
 held-apply (budget n) w = refl
 held-apply (counter n) w = refl
@@ -205,8 +205,8 @@ keeps-inputs : Keeps held inputs
 unfolding inputs
 keeps-inputs = search (keeps-rules, keeps-run)
 
-keeps-hears : Keeps held hears
-unfolding hears
+keeps-hears : Keeps held streamIn
+unfolding streamIn
 keeps-hears = search (keeps-rules, keeps-adds, keeps-clears, keeps-inputs) depth 8
 
 keeps-sends : (bs : List ℕ) → Keeps held (sendsBlock bs)
@@ -217,8 +217,8 @@ keeps-unprimes : Keeps held unprimes
 unfolding unprimes
 keeps-unprimes = search keeps-rules
 
-keeps-outputs : Keeps held outputs
-unfolding outputs
+keeps-outputs : Keeps held streamOut
+unfolding streamOut
 keeps-outputs = search (keeps-rules, keeps-sends, keeps-unprimes) depth 8
 
 pub keeps-streams : Keeps held streams

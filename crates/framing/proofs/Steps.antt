@@ -22,7 +22,7 @@ use Rattle.record.specs.Change.{left, apply, one, when}
 use Rattle.record.specs.Did.{Alone, Paged, Did}
 use Rattle.record.proofs.Laws.{in-turn, by-true, by-false, unchanged}
 use Rattle.model.specs.Phases.{within, counts, ticks, cable}
-use Rattle.model.specs.Streams.{readsMidi, serves, writesMidi, readsVendor}
+use Rattle.model.specs.Streams.{midiIn, serialStep, midiOut, readsVendor}
 use Rattle.model.specs.Audio.{streams}
 use Rattle.model.specs.Microframe.{streaming, others, transfers, opens}
 use Rattle.streams.specs.Promises.{Fewer, Receives, Writes, ServesBoth}
@@ -64,7 +64,7 @@ module _ (c : Settings) (t : ℕ) (s : State) (m : Memory) (out : List ℕ) wher
   pub midi-off : c .«midi_in» ≡ false → Sized m → Receives (midiSteps c t) s m out s m out
   midi-off e z = record { leads = λ w. by-false _ _ _ e (unchanged _); sized = z; few = fewer-same (s .lengths) }
 
-  pub midi-sleeps : c .«midi_in» ≡ true → within (c .sleep) t ≡ true → (r : State) → ((every : ℕ) → Alone (readsMidi true every) s r) → r .lengths ≡ s .lengths → Sized m → Receives (midiSteps c t) s m out r m out
+  pub midi-sleeps : c .«midi_in» ≡ true → within (c .sleep) t ≡ true → (r : State) → ((every : ℕ) → Alone (midiIn true every) s r) → r .lengths ≡ s .lengths → Sized m → Receives (midiSteps c t) s m out r m out
   midi-sleeps e n r p l z =
       record {
         leads = λ w. by-true _ _ _ e (rw n (p (c .«midi_every») .leads (atBus (record { settings = w .settings; packer = w .packer; state = w .state; memory = w .memory; setups = w .setups; midi = w .midi; serial = w .serial; device = w .device; reply = w .reply; config = w .config; receive = out; received = w .received; sending = w .sending }) s m)));
@@ -72,7 +72,7 @@ module _ (c : Settings) (t : ℕ) (s : State) (m : Memory) (out : List ℕ) wher
         few = fewer-as (s .lengths) (r .lengths) l;
       }
 
-  pub midi-wakes : c .«midi_in» ≡ true → within (c .sleep) t ≡ false → (r : State) (m′ : Memory) (out′ : List ℕ) → Receives (readsMidi false (c .«midi_every»)) s m out r m′ out′ → Receives (midiSteps c t) s m out r m′ out′
+  pub midi-wakes : c .«midi_in» ≡ true → within (c .sleep) t ≡ false → (r : State) (m′ : Memory) (out′ : List ℕ) → Receives (midiIn false (c .«midi_every»)) s m out r m′ out′ → Receives (midiSteps c t) s m out r m′ out′
   midi-wakes e n r m′ out′ p = record { leads = λ w. by-true _ _ _ e (rw n (p .leads w)); sized = p .sized; few = p .few }
 
 -- ---- what the device stack adds
@@ -81,7 +81,7 @@ module _ (stack : Bool) (s : State) (m : Memory) (q : List ℕ) where
   pub stack-off : stack ≡ false → Sized m → Stacks (stackSteps stack) s m q s m q
   stack-off e z = record { leads = λ w. by-false _ _ _ e (unchanged _); sized = z }
 
-  pub stack-goes : stack ≡ true → (s₁ s₂ : State) (m₁ m₂ : Memory) (q₁ : List ℕ) → Writes writesMidi s m q s₁ m₁ q₁ → Did readsVendor s₁ m₁ s₂ m₂ → Stacks (stackSteps stack) s m q s₂ m₂ q₁
+  pub stack-goes : stack ≡ true → (s₁ s₂ : State) (m₁ m₂ : Memory) (q₁ : List ℕ) → Writes midiOut s m q s₁ m₁ q₁ → Did readsVendor s₁ m₁ s₂ m₂ → Stacks (stackSteps stack) s m q s₂ m₂ q₁
   stack-goes e s₁ s₂ m₁ m₂ q₁ p d =
       record {
         leads = λ w. by-true _ _ _ e (in-turn (p .leads w) (d .leads (atFlow w s₁ m₁ q₁ (w .serial) (w .receive) (w .received) (w .sending))));
@@ -128,7 +128,7 @@ module _ (c : Settings) (t : ℕ) (s : State) (m : Memory) (q u out l k : List �
   unfolding transfers
   no-stream e z = record { leads = λ w. by-false _ _ _ e (unchanged _); sized = z }
 
-  pub stream-serial : s .phase ≡ Stream → c .cdc ≡ true → (s′ : State) (m′ : Memory) (u′ out′ : List ℕ) → ServesBoth serves s m u out s′ m′ u′ out′ → Transfers (transfers c t) s m q u out l k s′ m′ q u′ out′ l
+  pub stream-serial : s .phase ≡ Stream → c .cdc ≡ true → (s′ : State) (m′ : Memory) (u′ out′ : List ℕ) → ServesBoth serialStep s m u out s′ m′ u′ out′ → Transfers (transfers c t) s m q u out l k s′ m′ q u′ out′ l
   unfolding transfers
   stream-serial e f s′ m′ u′ out′ p =
       record { leads = λ w. by-true _ _ _ (ap streaming e) (by-true _ _ _ f (p .leads (atFlow w s m q u out l k))); sized = p .sized }

@@ -12,7 +12,7 @@ use Rattle.record.specs.World.{World}
 use Rattle.record.specs.Change.{Step, _then_, when}
 use Rattle.record.specs.Did.{Leads}
 use Rattle.model.specs.Phases.{within}
-use Rattle.model.specs.Streams.{readsMidi, writesMidi, readsVendor}
+use Rattle.model.specs.Streams.{midiIn, midiOut, readsVendor}
 use Rattle.model.specs.Audio.{streams}
 use Rattle.model.specs.Microframe.{others}
 use Rattle.blocks.specs.Promises.{InRing}
@@ -38,10 +38,10 @@ pub record Flows (s : State) (words : ℕ) : Type 0 where
 
 -- usbhost.rs 501-503: MIDI input; 504-508: what the device stack adds; 500-508: the streams of an Overbridge device
 abbrev pub midiSteps : Settings → ℕ → Step
-midiSteps c t = when (λ w. c .«midi_in») (readsMidi (within (c .sleep) t) (c .«midi_every»))
+midiSteps c t = when (λ w. c .«midi_in») (midiIn (within (c .sleep) t) (c .«midi_every»))
 
 abbrev pub stackSteps : Bool → Step
-stackSteps stack = when (λ w. stack) (writesMidi then readsVendor)
+stackSteps stack = when (λ w. stack) (midiOut then readsVendor)
 
 abbrev pub bridgeSteps : Settings → ℕ → Step
 bridgeSteps c t = streams then others c t

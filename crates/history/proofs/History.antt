@@ -27,7 +27,7 @@ use Rattle.usbhost.specs.Calls.{midiNumber, midiQueued, midiSent, serialNumber,
 use Rattle.usbhost.specs.Frame.{Lent, worldOf, hostIn, frameNumber, framed}
 use Rattle.history.specs.Calls.{Call, microframe, midiSend, serialSend, frameGive, frameTake, deviceRead, deviceWrite, step, after}
 use Rattle.history.specs.Sums as S
-use Rattle.history.specs.Sums.{Sums, none, receive, send, readAt, hears, answers, reset, heard, answered, summed, sums, Tally, answeredEver, tallied, tally, Balanced, Tabulated}
+use Rattle.history.specs.Sums.{Sums, none, receive, send, readAt, inputReached, outputReached, reset, heard, answered, summed, sums, Tally, answeredEver, tallied, tally, Balanced, Tabulated}
 use Rattle.history.proofs.Accepted.{Small, accepted-small}
 
 -- the same of the counts alone
@@ -86,14 +86,14 @@ module _ (t : ℕ) (w : World) (g : Sums) (small : countsOf w .credit ≤ SMALL)
   unfolding blocksRead
   even-heard =
       rw (heard-plain rs gone asleep w small few)
-      (even-pick (hears t w) (even-added (blocksRead (streamBy rs w)) _ _ even-reset) even-reset)
+      (even-pick (inputReached t w) (even-added (blocksRead (streamBy rs w)) _ _ even-reset) even-reset)
 
   even-answered : Even (sentCounts rs gone asleep w) (answered t w (heard t w (reset t w g)))
   unfolding sentCounts
   even-answered =
       let m = heardCounts rs gone asleep w in
       rw (← pick-and (reachesOutput t w) (outputReady (atOutput w)) (leb 7 (m .credit)) (sentOne m) m)
-      (even-pick (answers t w) (even-answer m _ even-heard) even-heard)
+      (even-pick (outputReached t w) (even-answer m _ even-heard) even-heard)
 
   pub even-microframe : Even (countsOf (left (M.microframe t) w)) (answered t w (heard t w (reset t w g)))
   even-microframe = rw (counts-microframe t w) even-answered

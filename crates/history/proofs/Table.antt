@@ -27,7 +27,7 @@ use Rattle.usbhost.specs.Calls.{midiNumber, midiQueued, midiSent, serialNumber,
 use Rattle.usbhost.specs.Frame.{Lent, worldOf, hostIn, frameNumber, framed}
 use Rattle.history.specs.Calls.{Call, microframe, midiSend, serialSend, frameGive, frameTake, deviceRead, deviceWrite, step, after}
 use Rattle.history.specs.Sums as S
-use Rattle.history.specs.Sums.{Sums, none, receive, send, readAt, hears, answers, reset, heard, summed, Tally, answeredEver, tallied, tally, Balanced, Tabulated}
+use Rattle.history.specs.Sums.{Sums, none, receive, send, readAt, inputReached, outputReached, reset, heard, summed, Tally, answeredEver, tallied, tally, Balanced, Tabulated}
 use Rattle.history.proofs.Accepted.{Small, accepted-small}
 use Rattle.history.proofs.History.{Even, even-heard, same-test, small-counts, by-test, balanced-step}
 
@@ -62,28 +62,28 @@ module _ (t : ℕ) (w : World) (g a : Sums) (small : countsOf w .credit ≤ SMAL
   heard-sent : heardCounts rs gone asleep w .sent ≡ a .sent
   heard-sent =
       ap (λ (m : Counts). m .sent) (heard-plain rs gone asleep w small few)
-      ∙ pick-sent (hears t w) (added (blocksRead (streamBy rs w)) (resetCounts rs gone asleep w)) (resetCounts rs gone asleep w) _ reset-sent reset-sent
+      ∙ pick-sent (inputReached t w) (added (blocksRead (streamBy rs w)) (resetCounts rs gone asleep w)) (resetCounts rs gone asleep w) _ reset-sent reset-sent
       ∙ outs
 
   heard-received : heardCounts rs gone asleep w .received ≡ heard t w a .received
   unfolding blocksRead
   heard-received =
       ap (λ (m : Counts). m .received) (heard-plain rs gone asleep w small few)
-      ∙ pick-map (λ (m : Counts). m .received) (hears t w) (added (blocksRead (streamBy rs w)) (resetCounts rs gone asleep w)) (resetCounts rs gone asleep w)
-      ∙ ap (λ (n : ℕ). pick (hears t w) (n + readAt w) n) (reset-received rs gone asleep w small few ∙ ins)
-      ∙ sym (pick-map (λ (x : Sums). x .received) (hears t w) (receive (readAt w) a) a)
+      ∙ pick-map (λ (m : Counts). m .received) (inputReached t w) (added (blocksRead (streamBy rs w)) (resetCounts rs gone asleep w)) (resetCounts rs gone asleep w)
+      ∙ ap (λ (n : ℕ). pick (inputReached t w) (n + readAt w) n) (reset-received rs gone asleep w small few ∙ ins)
+      ∙ sym (pick-map (λ (x : Sums). x .received) (inputReached t w) (receive (readAt w) a) a)
 
   -- the output step's test is the one that the sums make
   same-earned : leb BLOCK-FRAMES (heardCounts rs gone asleep w .credit) ≡ S.earned (heard t w (reset t w g))
   same-earned = ap (leb BLOCK-FRAMES) (sym (same-test _ _ (even-heard t w g small few e)))
 
-  tests : (reachesOutput t w && (outputReady (atOutput w) && leb BLOCK-FRAMES (heardCounts rs gone asleep w .credit))) ≡ (answers t w && S.earned (heard t w (reset t w g)))
+  tests : (reachesOutput t w && (outputReady (atOutput w) && leb BLOCK-FRAMES (heardCounts rs gone asleep w .credit))) ≡ (outputReached t w && S.earned (heard t w (reset t w g)))
   tests =
       ap (λ (b : Bool). reachesOutput t w && (outputReady (atOutput w) && b)) same-earned
       ∙ and-assoc (reachesOutput t w) (outputReady (atOutput w)) (S.earned (heard t w (reset t w g)))
 
   ever-sent : heard t w a .sent ≡ a .sent
-  ever-sent = pick-map (λ (x : Sums). x .sent) (hears t w) (receive (readAt w) a) a ∙ same (hears t w)
+  ever-sent = pick-map (λ (x : Sums). x .sent) (inputReached t w) (receive (readAt w) a) a ∙ same (inputReached t w)
     where
       same : (b : Bool) → pick b (a .sent) (a .sent) ≡ a .sent
       same true = refl
@@ -97,8 +97,8 @@ module _ (t : ℕ) (w : World) (g a : Sums) (small : countsOf w .credit ≤ SMAL
       ∙ pick-map (λ (m : Counts). m .received) b (sentOne (heardCounts rs gone asleep w)) (heardCounts rs gone asleep w)
       ∙ same b
       ∙ heard-received
-      ∙ sym (same′ (answers t w && S.earned (heard t w (reset t w g))))
-      ∙ sym (pick-map (λ (x : Sums). x .received) (answers t w && S.earned (heard t w (reset t w g))) (send (heard t w a)) (heard t w a))
+      ∙ sym (same′ (outputReached t w && S.earned (heard t w (reset t w g))))
+      ∙ sym (pick-map (λ (x : Sums). x .received) (outputReached t w && S.earned (heard t w (reset t w g))) (send (heard t w a)) (heard t w a))
     where
       same : (b : Bool) → pick b (heardCounts rs gone asleep w .received) (heardCounts rs gone asleep w .received) ≡ heardCounts rs gone asleep w .received
       same true = refl
@@ -116,8 +116,8 @@ module _ (t : ℕ) (w : World) (g a : Sums) (small : countsOf w .credit ≤ SMAL
       ap (λ (m : Counts). m .sent) (counts-microframe t w)
       ∙ pick-map (λ (m : Counts). m .sent) b (sentOne (heardCounts rs gone asleep w)) (heardCounts rs gone asleep w)
       ∙ ap₂ (λ (x : Bool) (n : ℕ). pick x n (heardCounts rs gone asleep w .sent)) tests plain
-      ∙ ap (λ (n : ℕ). pick (answers t w && S.earned (heard t w (reset t w g))) (n + 7) n) (heard-sent ∙ sym ever-sent)
-      ∙ sym (pick-map (λ (x : Sums). x .sent) (answers t w && S.earned (heard t w (reset t w g))) (send (heard t w a)) (heard t w a))
+      ∙ ap (λ (n : ℕ). pick (outputReached t w && S.earned (heard t w (reset t w g))) (n + 7) n) (heard-sent ∙ sym ever-sent)
+      ∙ sym (pick-map (λ (x : Sums). x .sent) (outputReached t w && S.earned (heard t w (reset t w g))) (send (heard t w a)) (heard t w a))
 
 -- ---- one call
 

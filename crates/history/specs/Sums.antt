@@ -26,12 +26,12 @@ abbrev pub readAt : World → ℕ
 readAt w = BLOCK-FRAMES * goodBlocks (blocksOf (bytesAt (atInput w)))
 
 -- an input step reached, primed and active
-abbrev pub hears : ℕ → World → Bool
-hears t w = reachesInput t w && inputReady (atInput w)
+abbrev pub inputReached : ℕ → World → Bool
+inputReached t w = reachesInput t w && inputReady (atInput w)
 
 -- an output step so reached
-abbrev pub answers : ℕ → World → Bool
-answers t w = reachesOutput t w && outputReady (atOutput w)
+abbrev pub outputReached : ℕ → World → Bool
+outputReached t w = reachesOutput t w && outputReady (atOutput w)
 
 -- n frames received; a block sent
 abbrev pub receive : ℕ → Sums → Sums
@@ -45,14 +45,14 @@ abbrev pub reset : ℕ → World → Sums → Sums
 reset t w g = pick (deviceLeft t w) none (pick (comesBack t w) none g)
 
 abbrev pub heard : ℕ → World → Sums → Sums
-heard t w g = pick (hears t w) (receive (readAt w) g) g
+heard t w g = pick (inputReached t w) (receive (readAt w) g) g
 
 -- whether a block is earned
 abbrev pub earned : Sums → Bool
 earned g = leb BLOCK-FRAMES (g .received - g .sent)
 
 abbrev pub answered : ℕ → World → Sums → Sums
-answered t w g = pick (answers t w) (pick (earned g) (send g) g) g
+answered t w g = pick (outputReached t w) (pick (earned g) (send g) g) g
 
 -- only accepted microframes change them
 unfoldable pub summed : Host → Sums → Call → Sums
@@ -78,7 +78,7 @@ pub record Tally : Type 0 where
   pub ever : Sums
 
 abbrev pub answeredEver : ℕ → World → Sums → Sums → Sums
-answeredEver t w g a = pick (answers t w && earned g) (send a) a
+answeredEver t w g a = pick (outputReached t w && earned g) (send a) a
 
 -- only accepted microframes change them
 unfoldable pub tallied : Host → Tally → Call → Tally

@@ -7,7 +7,7 @@ use lib.Seq.{sets}
 use Rattle.record.specs.declared.Phase.{Phase}
 use Rattle.record.specs.declared.Control.{Control}
 use Rattle.record.specs.World.{World}
-use Rattle.record.specs.Change.{Change, bus, ran, lost, count, uf, phase, started, gone, suspended, running, credit, budget, counter, block, timers, control, queued, popped, pushed, cleared, reply, device, config, forgot, midi, serial, received, frame, taken, apply, drained}
+use Rattle.record.specs.Change.{Change, bus, ran, lost, count, uf, phase, started, gone, suspended, wasRunning, credit, budget, counter, block, timers, control, queued, popped, pushed, cleared, reply, device, config, forgot, midi, serial, received, frame, taken, apply, drained}
 use Rattle.model.proofs.Fields.{Fields}
 
 -- waiting and queue: how many setups wait, and their array; device and config: the descriptors' lengths
@@ -44,7 +44,7 @@ askedOn (phase p) k = record { phase = p; control = k .control; waiting = k .wai
 askedOn (started n) k = k
 askedOn (gone b) k = k
 askedOn (suspended b) k = k
-askedOn (running b) k = k
+askedOn (wasRunning b) k = k
 askedOn (credit n) k = k
 askedOn (budget n) k = k
 askedOn (counter n) k = k
@@ -76,7 +76,7 @@ asked-apply (phase p) w = refl
 asked-apply (started n) w = refl
 asked-apply (gone b) w = refl
 asked-apply (suspended b) w = refl
-asked-apply (running b) w = refl
+asked-apply (wasRunning b) w = refl
 asked-apply (credit n) w = refl
 asked-apply (budget n) w = refl
 asked-apply (counter n) w = refl

@@ -20,8 +20,8 @@ use Rattle.record.specs.World.{World, busOf}
 use Rattle.record.specs.Change.{Change, count, phase, apply, Step, left, _then_, nothing, if, when, one, here, ranStores, runs, midi, counter}
 use Rattle.model.specs.Phases.{now, counts, ticks, cable, returns, sleeps, suspends, leaves, startsFrame}
 use Rattle.model.specs.Control.{stalled, unstalls, stages, posts, configured, controls}
-use Rattle.model.specs.Streams.{naks, reads, readsAt, readsMidi, fitting, serves, drainsMidi, writesMidi, readsVendor}
-use Rattle.model.specs.Audio.{audioIn, addsBudget, overBudget, clearsBudget, blocks, blocksOf, good, keepsGood, keepsBlock, keepsBlocks, keepsRun, inputs, hears, sendsBlock, unprimes, outputs, streams}
+use Rattle.model.specs.Streams.{naks, reads, readsAt, midiIn, fitting, serialStep, drainsMidi, midiOut, readsVendor}
+use Rattle.model.specs.Audio.{audioIn, addsBudget, overBudget, clearsBudget, blocks, blocksOf, good, keepsGood, keepsBlock, keepsBlocks, keepsRun, inputs, streamIn, sendsBlock, unprimes, streamOut, streams}
 use Rattle.model.specs.Microframe.{rsSet, goneAt, asleepAt, others, transfers, enumerates, talks, atPhase, byPhase, opens, frameOf, microframe}
 use Rattle.bounds.specs.Bounds.{MOST, times, countersOk}
 use Rattle.kept.proofs.Holding.{Holds, holds-then, holds-seq, holds-nothing, holds-one}
@@ -240,8 +240,8 @@ reads-few every n = by-tests (eqb every 0) (eqb (n % every) 0)
     by-tests false true = omega arith
     by-tests false false = omega arith
 
-raises-midi : (asleep : Bool) (every : ℕ) → Raises 8 0 (readsMidi asleep every)
-unfolding readsMidi
+raises-midi : (asleep : Bool) (every : ℕ) → Raises 8 0 (midiIn asleep every)
+unfolding midiIn
 raises-midi true every = raises-more 1 0 8 0 _ (omega arith) (omega arith) raises-sleeps
 raises-midi false every =
     raises-then 0 0 8 0 _ _ (raises-still 0 0 naks still-naks)
@@ -259,8 +259,8 @@ raises-drains n =
 packets : (a b : ℕ) → min (min a 512) b / 4 * 4 / 4 ≤ 128
 packets a b = omega arith
 
-raises-writes : Raises 128 0 writesMidi
-unfolding writesMidi
+raises-writes : Raises 128 0 midiOut
+unfolding midiOut
 raises-writes =
     raises-when 128 0 _ _
     (raises-here 128 0 _ (λ v. raises-more _ 0 128 0 _ (packets _ _) (omega arith) (raises-drains (fitting (endpoint 1 false) (v .state .lengths .midi) v / 4 * 4))))
@@ -323,8 +323,8 @@ raises-inputs : Raises 631 0 inputs
 unfolding inputs
 raises-inputs = raises-runs 631 0 audioIn [] keepsRun (λ w. raises-run (runDtds audioIn [] (busOf w)) (run-bytes audioIn refl [] (busOf w)))
 
-raises-hears : Raises 631 0 hears
-unfolding hears
+raises-hears : Raises 631 0 streamIn
+unfolding streamIn
 raises-hears =
     raises-then 0 0 631 0 _ _ (raises-still 0 0 addsBudget still-adds)
     (raises-if 631 0 overBudget nothing _ (raises-nothing 631 0) (raises-then 0 0 631 0 _ _ (raises-still 0 0 clearsBudget still-clears) raises-inputs))
@@ -338,8 +338,8 @@ raises-sends bs =
     (raises-then 0 0 8 0 _ _ (raises-other 0 0 _ (λ w. refl))
     (raises-runs 8 0 _ _ _ (λ w. raises-then 1 0 7 0 _ _ (raises-one «out_transfers» refl 1) (raises-one «out_frames» refl 7))))))
 
-raises-outputs : Raises 15 0 outputs
-unfolding outputs
+raises-outputs : Raises 15 0 streamOut
+unfolding streamOut
 raises-outputs =
     raises-when 15 0 _ _
     (raises-if 15 0 _ _ unprimes (raises-here 15 0 _ (λ v. raises-sends _)) (raises-still 15 0 unprimes still-unprimes))
@@ -354,7 +354,7 @@ raises-transfers : (c : Settings) (t : ℕ) → Raises 782 32767 (transfers c t)
 unfolding transfers
 raises-transfers c t =
     raises-when 782 32767 _ _
-    (raises-if 782 32767 _ serves _ (raises-still 782 32767 serves still-serves) (raises-then 646 0 136 32767 _ _ raises-streams (raises-others c t)))
+    (raises-if 782 32767 _ serialStep _ (raises-still 782 32767 serialStep still-serves) (raises-then 646 0 136 32767 _ _ raises-streams (raises-others c t)))
 
 raises-talks : (c : Settings) (t : ℕ) (rs : Bool) → Raises 783 32767 (talks c t rs)
 unfolding talks

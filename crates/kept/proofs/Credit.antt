@@ -12,7 +12,7 @@ use Rattle.record.specs.Record.{wrapped}
 use Rattle.record.specs.World.{World, busOf}
 use Rattle.record.specs.Change.{left}
 use Rattle.model.specs.Streams.{nonempty}
-use Rattle.model.specs.Audio.{audioIn, BLOCK, BLOCK-FRAMES, blocks, blocksOf, good, hears}
+use Rattle.model.specs.Audio.{audioIn, BLOCK, BLOCK-FRAMES, blocks, blocksOf, good, streamIn}
 use Rattle.model.specs.Microframe.{rsSet, goneAt, asleepAt, microframe}
 use Rattle.model.specs.Reach.{streamBy, inputBy, outputBy, backBy, leftBy, paced, inputReady, outputReady, bytesAt}
 use Rattle.model.specs.Earned.{Counts, countsOf, oneEarned, earned, sentOne, zeroed, goodBlocks, blocksRead, resetCounts, heardCounts, sentCounts}
@@ -123,7 +123,7 @@ module _ (rs g s : Bool) (w : World) (small : countsOf w .credit ≤ SMALL) (few
   unfolding sentCounts sentOne
   sent-le =
       let a = heard-le in
-      pick-le (outputBy rs g s w && (outputReady (left hears (streamBy rs w)) && leb BLOCK-FRAMES (heardCounts rs g s w .credit))) _ _ _ (omega arith) (omega arith)
+      pick-le (outputBy rs g s w && (outputReady (left streamIn (streamBy rs w)) && leb BLOCK-FRAMES (heardCounts rs g s w .credit))) _ _ _ (omega arith) (omega arith)
 
   module _ (sevens : countsOf w .credit % 7 ≡ 0) where
     reset-seven : resetCounts rs g s w .credit % 7 ≡ 0
@@ -145,4 +145,4 @@ module _ (rs g s : Bool) (w : World) (small : countsOf w .credit ≤ SMALL) (few
     unfolding sentCounts sentOne
     sent-seven =
         let a = heard-seven in
-        pick-seven (outputBy rs g s w && (outputReady (left hears (streamBy rs w)) && leb BLOCK-FRAMES (heardCounts rs g s w .credit))) (sentOne (heardCounts rs g s w)) (heardCounts rs g s w) (seven-less (heardCounts rs g s w .credit) a) a
+        pick-seven (outputBy rs g s w && (outputReady (left streamIn (streamBy rs w)) && leb BLOCK-FRAMES (heardCounts rs g s w .credit))) (sentOne (heardCounts rs g s w)) (heardCounts rs g s w) (seven-less (heardCounts rs g s w .credit) a) a

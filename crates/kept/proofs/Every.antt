@@ -18,13 +18,13 @@ use Rattle.record.specs.declared.Control.{Control}
 use Rattle.record.specs.declared.Settings.{Settings}
 use Rattle.record.specs.Record.{Counter, microframes, «in_transfers», «out_transfers», «in_frames», «out_frames», «bad_blocks», «midi_dtds», «midi_asleep», «out_underruns», «midi_packets_out», «vendor_in_bytes», restarts, enumerations}
 use Rattle.record.specs.World.{World, busOf}
-use Rattle.record.specs.Change.{Change, bus, ran, lost, count, uf, timers, phase, started, gone, suspended, running, credit, budget, counter, block, control, queued, popped, pushed, cleared, reply, device, config, forgot, midi, serial, received, frame, taken, apply, Step, left, _then_, nothing, if, when, one, here, onBus, onPage, ranStores, runs}
+use Rattle.record.specs.Change.{Change, bus, ran, lost, count, uf, timers, phase, started, gone, suspended, wasRunning, credit, budget, counter, block, control, queued, popped, pushed, cleared, reply, device, config, forgot, midi, serial, received, frame, taken, apply, Step, left, _then_, nothing, if, when, one, here, onBus, onPage, ranStores, runs}
 use Rattle.model.specs.Phases.{now, counts, ticks, dropsRequest, forgets, returns, cable, sleeps, suspends, enters, departs, leaves, idles, powers, resets, startsFrame}
 use Rattle.model.specs.Control.{toStatus, posted, posts, configured, keepsReply, dataStage, asksWhole, chooses, configures, finishes, statusEnds, statusStage, stalled, unstalls, stages, controls}
-use Rattle.model.specs.Streams.{naks, reads, readsMidi, drainsSerial, serves, drainsMidi, writesMidi, readsVendor}
-use Rattle.model.specs.Audio.{overBudget, addsBudget, clearsBudget, keepsFrames, keepsGood, keepsBlock, keepsBlocks, keepsRun, inputs, hears, sendsBlock, unprimes, outputs, streams}
+use Rattle.model.specs.Streams.{naks, reads, midiIn, drainsSerial, serialStep, drainsMidi, midiOut, readsVendor}
+use Rattle.model.specs.Audio.{overBudget, addsBudget, clearsBudget, keepsFrames, keepsGood, keepsBlock, keepsBlocks, keepsRun, inputs, streamIn, sendsBlock, unprimes, streamOut, streams}
 use Rattle.model.specs.Microframe.{rsSet, goneAt, asleepAt, others, transfers, enumerates, talks, atPhase, byPhase, opens, frameOf, microframe}
-use Rattle.kept.proofs.Holding.{Holds, holds-then, holds-seq, holds-if, holds-nothing, holds-one, holds-here, holds-pick}
+use Rattle.kept.proofs.Holding.{Holds, by-case, holds-then, holds-seq, holds-if, holds-nothing, holds-one, holds-here, holds-pick}
 
 -- every counter but the microframes'
 abbrev pub isOther : Counter → Bool
@@ -50,7 +50,7 @@ pub record Early (P : World → Type 0) : Type 0 where
   pub starts : (w : World) → P w → P (apply (started (now w)) w)
   pub goes : (b : Bool) (w : World) → P w → P (apply (gone b) w)
   pub suspends : (b : Bool) (w : World) → P w → P (apply (suspended b) w)
-  pub runs : (b : Bool) (w : World) → P w → P (apply (running b) w)
+  pub runs : (b : Bool) (w : World) → P w → P (apply (wasRunning b) w)
   pub credits : (n : ℕ) (w : World) → P w → P (apply (credit n) w)
   pub resets : (w : World) → P w → P (apply (budget 0) w)
   pub controls : (c : Control) (w : World) → P w → P (apply (control c) w)
@@ -80,12 +80,8 @@ pub record Each (P : World → Type 0) : Type 0 where
 
 -- ---- the forms of a step
 module _ (P : World → Type 0) where
-  by-case : (b : Bool) (x y : World) → (b ≡ true → P x) → (b ≡ false → P y) → P (pick b x y)
-  by-case true x y p q = p refl
-  by-case false x y p q = q refl
-
   pub at-if : (t : World → Bool) (f g : Step) (w : World) → (t w ≡ true → P (left f w)) → (t w ≡ false → P (left g w)) → P (left (if t f g) w)
-  at-if t f g w p q = subst P (sym (exec-choose apply t f g w)) (by-case (t w) (left f w) (left g w) p q)
+  at-if t f g w p q = subst P (sym (exec-choose apply t f g w)) (by-case P (t w) (left f w) (left g w) p q)
 
   at-one : (c : Change) (w : World) → P (apply c w) → P (left (one (λ v. c)) w)
   unfolding one
@@ -280,8 +276,8 @@ module _ (P : World → Type 0) (L : Each P) where
   unfolding naks
   each-naks = search steps
 
-  each-midi : (asleep : Bool) (every : ℕ) → Holds P (readsMidi asleep every)
-  unfolding readsMidi
+  each-midi : (asleep : Bool) (every : ℕ) → Holds P (midiIn asleep every)
+  unfolding midiIn
   each-midi true every = each-sleeps P (L .early)
   each-midi false every = search (steps, each-naks, each-reads) depth 8
 
@@ -294,8 +290,8 @@ module _ (P : World → Type 0) (L : Each P) where
   least-right : (a b : ℕ) → min a b ≤ b
   least-right a b = omega arith
 
-  each-serves : Holds P serves
-  unfolding serves
+  each-serves : Holds P serialStep
+  unfolding serialStep
   each-serves =
       holds-then P _ _ (search (steps, L .receives))
       (on-if P _ _ nothing (holds-here P _ (λ v h. drains-serial _ v (least-right _ _) h)) (holds-nothing P))
@@ -312,8 +308,8 @@ module _ (P : World → Type 0) (L : Each P) where
   packets-four : (n : ℕ) → n / 4 * 4 % 4 ≡ 0
   packets-four n = omega arith
 
-  each-writes : Holds P writesMidi
-  unfolding writesMidi
+  each-writes : Holds P midiOut
+  unfolding midiOut
   each-writes =
       on-if P _ _ nothing (holds-here P _ (λ v h. drains-midi _ v (packets-le _ _) (packets-four _) h)) (holds-nothing P)
 
@@ -353,8 +349,8 @@ module _ (P : World → Type 0) (L : Each P) where
   unfolding inputs
   each-inputs = search (steps, each-run)
 
-  each-hears : Holds P hears
-  unfolding hears
+  each-hears : Holds P streamIn
+  unfolding streamIn
   each-hears w h =
       holds-seq P addsBudget _ w
       (at-if P overBudget nothing (clearsBudget then inputs) (left addsBudget w)
@@ -369,8 +365,8 @@ module _ (P : World → Type 0) (L : Each P) where
   unfolding unprimes
   each-unprimes = search steps
 
-  each-outputs : Holds P outputs
-  unfolding outputs
+  each-outputs : Holds P streamOut
+  unfolding streamOut
   each-outputs = search (steps, each-sends, each-unprimes) depth 8
 
   each-streams : Holds P streams

@@ -22,7 +22,7 @@ module _ (P : World → Type 0) where
   pub holds-seq : (f g : Step) (w : World) → P (left g (left f w)) → P (left (f then g) w)
   holds-seq f g w h = subst P (sym (exec-then apply f g w)) h
 
-  by-case : (b : Bool) (x y : World) → (b ≡ true → P x) → (b ≡ false → P y) → P (pick b x y)
+  pub by-case : (b : Bool) (x y : World) → (b ≡ true → P x) → (b ≡ false → P y) → P (pick b x y)
   by-case true x y p q = p refl
   by-case false x y p q = q refl
 

@@ -8,21 +8,16 @@ use native.Mathlib.Nat.{mod-lt}
 use lib.Dec.{leb, ltb, eqb}
 use lib.ListN.{length}
 use borrow.Author.Tests.{leb-true, le-leb, ltb-true, lt-ltb, eqb-false}
+use Rattle.bounds.proofs.Laws.{in-ring}
 use Rattle.bits.specs.Pick.{pick}
 use Rattle.bus.specs.Steps.{replay}
 use Rattle.bus.proofs.Sizes.{and-true}
 use Rattle.record.specs.declared.Ring.{Ring}
 use Rattle.record.specs.World.{World}
-use Rattle.record.specs.Change.{Change, bus, ran, lost, count, uf, phase, started, gone, suspended, running, credit, budget, counter, block, timers, control, queued, popped, pushed, cleared, reply, device, config, forgot, midi, serial, received, frame, taken, FRAMES, WORDS, ringedPlace, takenFrom, apply, left}
+use Rattle.record.specs.Change.{Change, bus, ran, lost, count, uf, phase, started, gone, suspended, wasRunning, credit, budget, counter, block, timers, control, queued, popped, pushed, cleared, reply, device, config, forgot, midi, serial, received, frame, taken, FRAMES, WORDS, ringedPlace, takenFrom, apply, left}
 use Rattle.model.specs.Microframe.{microframe}
 use Rattle.bounds.specs.Bounds.{ringOk}
 use Rattle.kept.proofs.Shape.{Shape, shape-kept}
-
-in-ring : (r : Ring) (n : ℕ) → ringOk r n ≡ true → (r .start < n) × (r .len ≤ n)
-unfolding ringOk
-in-ring r n e =
-    let b = and-true (ltb (r .start) n) (leb (r .len) n) e in
-    (ltb-true (r .start) n (b .0), leb-true (r .len) n (b .1))
 
 ring-is : (r : Ring) (n : ℕ) → r .start < n → r .len ≤ n → ringOk r n ≡ true
 unfolding ringOk
@@ -70,7 +65,7 @@ change-rings (phase p) w = (λ h. h, λ h. h)
 change-rings (started n) w = (λ h. h, λ h. h)
 change-rings (gone b) w = (λ h. h, λ h. h)
 change-rings (suspended b) w = (λ h. h, λ h. h)
-change-rings (running b) w = (λ h. h, λ h. h)
+change-rings (wasRunning b) w = (λ h. h, λ h. h)
 change-rings (credit n) w = (λ h. h, λ h. h)
 change-rings (budget n) w = (λ h. h, λ h. h)
 change-rings (counter n) w = (λ h. h, λ h. h)

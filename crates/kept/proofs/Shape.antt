@@ -14,7 +14,7 @@ use Rattle.bus.specs.Stores.{Bus, Store, word, byte, irq, store}
 use Rattle.midi.specs.declared.Packer.{Packer}
 use Rattle.record.specs.declared.Settings.{Settings}
 use Rattle.record.specs.World.{World, busOf}
-use Rattle.record.specs.Change.{Change, bus, ran, lost, count, uf, phase, started, gone, suspended, running, credit, budget, counter, block, timers, control, queued, popped, pushed, cleared, reply, device, config, forgot, midi, serial, received, frame, taken, drained, waiting, ringed, apply, Step, left}
+use Rattle.record.specs.Change.{Change, bus, ran, lost, count, uf, phase, started, gone, suspended, wasRunning, credit, budget, counter, block, timers, control, queued, popped, pushed, cleared, reply, device, config, forgot, midi, serial, received, frame, taken, drained, waiting, ringed, apply, Step, left}
 use Rattle.model.specs.Microframe.{microframe}
 use Rattle.kept.proofs.Every.{Early, Each, adds-any, clears-any, Opening, opening, every-microframe}
 
@@ -83,7 +83,7 @@ module _ (w : World) where
   change-kept (started n) = refl
   change-kept (gone b) = refl
   change-kept (suspended b) = refl
-  change-kept (running b) = refl
+  change-kept (wasRunning b) = refl
   change-kept (credit n) = refl
   change-kept (budget n) = refl
   change-kept (counter n) = refl

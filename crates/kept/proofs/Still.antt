@@ -13,7 +13,7 @@ use Rattle.record.specs.World.{World}
 use Rattle.record.specs.Change.{apply, Step, onBus, onPage, runs}
 use Rattle.model.specs.Phases.{ticks, dropsRequest, forgets, suspends, enters, departs, leaves, idles, powers, resets, startsFrame}
 use Rattle.model.specs.Control.{toStatus, posted, posts, keepsReply, dataStage, asksWhole, chooses, configures, finishes, statusEnds, statusStage, unstalls, stages}
-use Rattle.model.specs.Streams.{naks, drainsSerial, serves}
+use Rattle.model.specs.Streams.{naks, drainsSerial, serialStep}
 use Rattle.model.specs.Audio.{addsBudget, clearsBudget, keepsFrames, unprimes}
 use Rattle.kept.proofs.Holding.{Holds, holds-then, holds-nothing, holds-one, holds-pick}
 use Rattle.kept.proofs.Every.{on-if, on-here, holds-bus, holds-page, holds-run}
@@ -149,8 +149,8 @@ module _ (s : Stats) where
   unfolding drainsSerial apply
   still-serial n = search form depth 8
 
-  pub still-serves : Holds StatsAre serves
-  unfolding serves apply
+  pub still-serves : Holds StatsAre serialStep
+  unfolding serialStep apply
   still-serves = search (form, still-serial) depth 8
 
   pub still-adds : Holds StatsAre addsBudget

@@ -8,8 +8,8 @@ use Rattle.dtd.specs.Dtd.{Run}
 use Rattle.record.specs.declared.Settings.{Settings}
 use Rattle.record.specs.Change.{Step}
 use Rattle.model.specs.Phases.{ticks, cable, sleeps, suspends, startsFrame}
-use Rattle.model.specs.Streams.{naks, reads, readsMidi, drainsSerial, serves, drainsMidi, writesMidi, readsVendor}
-use Rattle.model.specs.Audio.{addsBudget, clearsBudget, keepsFrames, keepsGood, keepsBlock, keepsBlocks, keepsRun, inputs, hears, sendsBlock, unprimes, outputs, streams}
+use Rattle.model.specs.Streams.{naks, reads, midiIn, drainsSerial, serialStep, drainsMidi, midiOut, readsVendor}
+use Rattle.model.specs.Audio.{addsBudget, clearsBudget, keepsFrames, keepsGood, keepsBlock, keepsBlocks, keepsRun, inputs, streamIn, sendsBlock, unprimes, streamOut, streams}
 use Rattle.model.specs.Microframe.{others, transfers}
 use Rattle.model.proofs.Fields.{Keeps, keeps-then, keeps-if, keeps-nothing, keeps-one, keeps-bus, keeps-page, keeps-runs, keeps-here}
 use Rattle.kept.proofs.Asked.{asked}
@@ -54,8 +54,8 @@ keeps-naks : Keeps asked naks
 unfolding naks
 keeps-naks = search keeps-rules
 
-keeps-midi : (asleep : Bool) (every : ℕ) → Keeps asked (readsMidi asleep every)
-unfolding readsMidi
+keeps-midi : (asleep : Bool) (every : ℕ) → Keeps asked (midiIn asleep every)
+unfolding midiIn
 keeps-midi true every = keeps-sleeps
 keeps-midi false every = search (keeps-rules, keeps-naks, keeps-reads) depth 8
 
@@ -63,16 +63,16 @@ keeps-serial : (n : ℕ) → Keeps asked (drainsSerial n)
 unfolding drainsSerial
 keeps-serial n = search keeps-rules depth 8
 
-keeps-serves : Keeps asked serves
-unfolding serves
+keeps-serves : Keeps asked serialStep
+unfolding serialStep
 keeps-serves = search (keeps-rules, keeps-serial) depth 8
 
 keeps-drains : (n : ℕ) → Keeps asked (drainsMidi n)
 unfolding drainsMidi
 keeps-drains n = search keeps-rules depth 8
 
-keeps-writes : Keeps asked writesMidi
-unfolding writesMidi
+keeps-writes : Keeps asked midiOut
+unfolding midiOut
 keeps-writes = search (keeps-rules, keeps-drains)
 
 keeps-vendor : Keeps asked readsVendor
@@ -123,8 +123,8 @@ keeps-inputs : Keeps asked inputs
 unfolding inputs
 keeps-inputs = search (keeps-rules, keeps-run)
 
-keeps-hears : Keeps asked hears
-unfolding hears
+keeps-hears : Keeps asked streamIn
+unfolding streamIn
 keeps-hears = search (keeps-rules, keeps-adds, keeps-clears, keeps-inputs)
 
 keeps-sends : (bs : List ℕ) → Keeps asked (sendsBlock bs)
@@ -135,8 +135,8 @@ keeps-unprimes : Keeps asked unprimes
 unfolding unprimes
 keeps-unprimes = search keeps-rules
 
-keeps-outputs : Keeps asked outputs
-unfolding outputs
+keeps-outputs : Keeps asked streamOut
+unfolding streamOut
 keeps-outputs = search (keeps-rules, keeps-sends, keeps-unprimes)
 
 keeps-streams : Keeps asked streams

@@ -16,7 +16,7 @@ use Rattle.record.specs.Change.{left, FRAMES, WORDS}
 use Rattle.model.specs.Control.{wLength}
 use Rattle.model.specs.Microframe.{rsSet, goneAt, asleepAt, microframe}
 use Rattle.model.specs.Earned.{Counts, countsOf, sentCounts}
-use Rattle.bits.proofs.Tests.{and-first, and-second}
+use Rattle.bits.proofs.Tests.{and-first, and-second, and-both}
 use Rattle.model.proofs.History.{counts-microframe}
 use Rattle.bounds.specs.Bounds.{MOST, times, setupsOk, enumeratingOk, requestOk, made, asksConfiguration, queuesOk, packerOk, countsOk, countersOk, creditOk, timersOk, audioOk, askedOk, heldOk, countedOk, inBounds, ringOk, areasOk}
 use Rattle.kept.proofs.Credit.{SMALL, sent-le, sent-seven}
@@ -49,10 +49,6 @@ record Parts (w : World) : Type 0 where
   audio : audioOk (w .state .audio) ≡ true
   received : ringOk (w .state .audio .received) FRAMES ≡ true
   sending : ringOk (w .state .audio .sending) (length (w .sending) / WORDS) ≡ true
-
-both : (a b : Bool) → a ≡ true → b ≡ true → (a && b) ≡ true
-both true b p q = q
-both false b p q = p
 
 apart : (w : World) → Bounded w → Parts w
 unfolding inBounds queuesOk areasOk
@@ -121,10 +117,10 @@ together w h p =
     let r = p .requests in
     record {
       record-bounds =
-          both _ _ (both _ _ (r .setups) (both _ _ (r .enumeration) (r .request)))
-          (both _ _ (both _ _ (both _ _ (p .queues .midi) (both _ _ (p .queues .packets) (both _ _ (p .queues .serial) (r .device)))) (p .packer))
-          (both _ _ (both _ _ (p .counts) (both _ _ (p .counters) (both _ _ (p .credit) (p .timers)))) (p .audio)));
-      areas = both _ _ (r .config) (reply-inside (w .state) (length (w .reply)) (r .request) (r .second) h);
+          and-both _ _ (and-both _ _ (r .setups) (and-both _ _ (r .enumeration) (r .request)))
+          (and-both _ _ (and-both _ _ (and-both _ _ (p .queues .midi) (and-both _ _ (p .queues .packets) (and-both _ _ (p .queues .serial) (r .device)))) (p .packer))
+          (and-both _ _ (and-both _ _ (p .counts) (and-both _ _ (p .counters) (and-both _ _ (p .credit) (p .timers)))) (p .audio)));
+      areas = and-both _ _ (r .config) (reply-inside (w .state) (length (w .reply)) (r .request) (r .second) h);
       received = p .received;
       sending = p .sending;
       second = r .second;
@@ -164,7 +160,7 @@ module _ (t : ℕ) (w : World) (credit : creditOk (w .state .audio .credit) (w .
       let le = sent-le (rsSet w) (goneAt t w) (asleepAt t w) w small few in
       let seven = sent-seven (rsSet w) (goneAt t w) (asleepAt t w) w small few old-seven in
       let m : left (microframe t) w .state .stats .microframes ≤ MOST = omega (arith, next, before) in
-      both _ _ (eq-eqb (left (microframe t) w .state .audio .credit % 7) 0 (ap (λ (x : ℕ). x % 7) same ∙ seven))
+      and-both _ _ (eq-eqb (left (microframe t) w .state .audio .credit % 7) 0 (ap (λ (x : ℕ). x % 7) same ∙ seven))
       (le-leb (left (microframe t) w .state .audio .credit) (times 623 (left (microframe t) w .state .stats .microframes))
       (omega (arith, same, le, old-le, times-less 623 (left (microframe t) w .state .stats .microframes) m, next)))
 
@@ -242,4 +238,4 @@ unfolding inBounds areasOk
 areas-fit s p setups reply config e short few long wide =
     let asked = and-first (askedOk s setups) _ e in
     let request = and-second (enumeratingOk s) _ (and-second (setupsOk (s .lengths .setups) setups) _ asked) in
-    both _ _ (le-leb (s .lengths .config) config (omega (arith, few, wide))) (reply-inside s reply request short long)
+    and-both _ _ (le-leb (s .lengths .config) config (omega (arith, few, wide))) (reply-inside s reply request short long)

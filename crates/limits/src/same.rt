@@ -37,7 +37,8 @@ fn stage_number(g: Stage) -> u8 {
 
 fn same_port(a: Port, b: Port) -> bool {
     let counts = (a.uf == b.uf) & (a.t == b.t);
-    let flags = (a.suspended == b.suspended) & ((a.gone == b.gone) & (a.running == b.running));
+    let flags = (a.suspended == b.suspended)
+        & ((a.gone == b.gone) & (a.was_running == b.was_running));
     counts & (flags & (a.line == b.line))
 }
 

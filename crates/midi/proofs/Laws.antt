@@ -9,6 +9,7 @@ use lib.ListN.{length, set, getD, take, drop, length-append, drop-of-length-le}
 use lib.Seq.{drop-cons, sets, sets-eq, length-sets}
 use lib.Dec.{leb}
 use borrow.Author.Tests.{le-leb, lt-leb}
+use Rattle.bits.proofs.Lists.{sets-append}
 use Rattle.bits.specs.Pick.{pick-both}
 use Rattle.midi.specs.declared.Packer.{Packer}
 use Rattle.midi.specs.declared.Event.{Event}
@@ -158,11 +159,6 @@ sets-four q at a b c d =
     let two : at + 2 ≡ suc (suc at) = omega arith in
     let three : at + 3 ≡ suc (suc (suc at)) = omega arith in
     rw (one, two, three)
-
--- stores of a list and then of another are the stores of both
-pub sets-append : (q : List ℕ) (at : ℕ) (xs ys : List ℕ) → sets q at (xs ++ ys) ≡ sets (sets q at xs) (at + length xs) ys
-sets-append q at [] ys = rw add-zero
-sets-append q at (x ∷ xs) ys = sets-append (set q at x) (suc at) xs ys ∙ rw (suc-add, add-suc)
 
 -- where a loop stands that writes each packet in some form: what is left to write from here makes the whole
 pub record Writing (form : Event → List ℕ) (bs q₀ q : List ℕ) (start at i : ℕ) (p₀ p : Packer) : Type 0 where

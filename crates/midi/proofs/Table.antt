@@ -6,6 +6,7 @@ use native.Mathlib.Nat.{add-zero, add-suc, suc-add}
 use native.Mathlib.Omega.{arith}
 use lib.Dec.{eqb}
 use borrow.Author.Tests.{eqb-true}
+use Rattle.bits.proofs.Tests.{and-first, and-second}
 use Rattle.midi.specs.Packer.{byteCount, messageLength, messageCode}
 
 -- whether a test holds of the n numbers from lo on
@@ -13,18 +14,10 @@ abbrev pub every : (ℕ → Bool) → ℕ → ℕ → Bool
 every f lo zero = true
 every f lo (suc n) = f lo && every f (suc lo) n
 
-and-left : (a b : Bool) → (a && b) ≡ true → a ≡ true
-and-left true b t = refl
-and-left false b t = t
-
-and-right : (a b : Bool) → (a && b) ≡ true → b ≡ true
-and-right true b t = t
-and-right false b t = let z : _≡_ {A = ℕ} 0 1 = cc in absurd (omega arith)
-
 every-at : (f : ℕ → Bool) (lo n k : ℕ) → every f lo n ≡ true → k < n → f (lo + k) ≡ true
 every-at f lo zero k t h = absurd (omega arith)
-every-at f lo (suc n) zero t h = rw add-zero (and-left (f lo) (every f (suc lo) n) t)
-every-at f lo (suc n) (suc k) t h = rw (add-suc, ← suc-add) (every-at f (suc lo) n k (and-right (f lo) (every f (suc lo) n) t) (omega arith))
+every-at f lo (suc n) zero t h = rw add-zero (and-first (f lo) (every f (suc lo) n) t)
+every-at f lo (suc n) (suc k) t h = rw (add-suc, ← suc-add) (every-at f (suc lo) n k (and-second (f lo) (every f (suc lo) n) t) (omega arith))
 
 -- what the test says of any of those numbers
 pub every-in : (f : ℕ → Bool) (lo n : ℕ) → every f lo n ≡ true → (x : ℕ) → lo ≤ x → x < lo + n → f x ≡ true

@@ -14,7 +14,7 @@ use Rattle.bus.specs.Memory.{Memory}
 use Rattle.transfer.specs.Transfer.{bytesIn, bytesFrom}
 use Rattle.transfer.proofs.Laws.{length-bytesIn, from-in}
 use Rattle.midi.specs.Packer.{byteCount}
-use Rattle.midi.proofs.Laws.{sets-append}
+use Rattle.bits.proofs.Lists.{sets-append}
 use Rattle.midi.proofs.Table.{every-in}
 use Rattle.model.specs.Streams.{decoded}
 use Rattle.midiin.specs.Promises.{Decodes}

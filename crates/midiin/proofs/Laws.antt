@@ -34,7 +34,7 @@ use Rattle.record.specs.Change.{count, received, apply, nothing, one}
 use Rattle.record.specs.Did.{Leads, afterRun}
 use Rattle.record.proofs.Laws.{in-turn, by-true, by-false, unchanged, once, from-here, on-page, run-then}
 use Rattle.model.specs.Phases.{changing}
-use Rattle.model.specs.Streams.{naks, reads, readsAt, readsMidi, brought, nonempty, decoded}
+use Rattle.model.specs.Streams.{naks, reads, readsAt, midiIn, brought, nonempty, decoded}
 use Rattle.streams.specs.Promises.{atReceive, Fewer, Receives}
 use Rattle.streams.proofs.Found.{unprimed-bytes, ended-bytes, active-input, brings}
 use Rattle.streams.proofs.Laws.{fewer-same, fewer-then}
@@ -255,8 +255,8 @@ reads-few every uf =
 
 module _ (every : ℕ) (s t : State) (d f p p′ : List ℕ) (m′ : Memory) (out out′ : List ℕ) (naked : OnPage naks p p′) (count : ℕ) (is : count ≡ readsAt every (s .port .uf))
     (all : Receives (reads count) s (memory d f p′) out t m′ out′) where
-  pub midi-steps : Receives (readsMidi false every) s (memory d f p) out t m′ out′
-  unfolding readsMidi
+  pub midi-steps : Receives (midiIn false every) s (memory d f p) out t m′ out′
+  unfolding midiIn
   midi-steps =
       record {
         leads = λ w. in-turn (naked .leads (atReceive w s (memory d f p) out) s)

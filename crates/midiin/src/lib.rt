@@ -301,7 +301,7 @@ pub fn midi_step(
 ) -> State
     requires { ⌜ Sized (shown dynamic sram page) ⌝ }
     requires { ⌜ s .answer .received + 196584 ≤ length (now receive) ⌝ }
-    ensures { λ r. ⌜ S.Receives (M.readsMidi false every) s (shown (dynamic .entry) (sram .entry) (page .entry)) (now (receive .entry)) r (shown (dynamic .exit) (sram .exit) (page .exit)) (now (receive .exit)) ⌝ }
+    ensures { λ r. ⌜ S.Receives (M.midiIn false every) s (shown (dynamic .entry) (sram .entry) (page .entry)) (now (receive .entry)) r (shown (dynamic .exit) (sram .exit) (page .exit)) (now (receive .exit)) ⌝ }
 {
     nak(page);
     let count = reads(every, s.port.uf);
@@ -310,7 +310,7 @@ pub fn midi_step(
 
 // The state with a microframe of MIDI sleep counted.
 pub fn midi_asleep(s: State) -> State
-    ensures { λ r. ⌜ ((every : ℕ) → R.Alone (M.readsMidi true every) s r) × (r .lengths ≡ s .lengths) ⌝ }
+    ensures { λ r. ⌜ ((every : ℕ) → R.Alone (M.midiIn true every) s r) × (r .lengths ≡ s .lengths) ⌝ }
 {
     let mut next = s;
     let counted = wrapping_add_u64(s.stats.midi_asleep, 1);

@@ -5,11 +5,12 @@ use Prim.Native.Nat.{ℕ, suc, _+_, _*_, _≤_}
 use native.Mathlib.Omega.{arith}
 use lib.ListN.{length, set, drop, length-append}
 use lib.Seq.{sets}
+use Rattle.bits.proofs.Lists.{sets-append}
 use Rattle.midi.specs.declared.Packer.{Packer}
 use Rattle.midi.specs.declared.Event.{Event}
 use Rattle.midi.specs.declared.Event.the-variants.{Quiet, Packet}
 use Rattle.midi.specs.Packer.{feedOf, made, eventsOf, packetCount, header}
-use Rattle.midi.proofs.Laws.{flatMap-append, sets-append, count-le}
+use Rattle.midi.proofs.Laws.{flatMap-append, count-le}
 use Rattle.midilist.specs.Listing.{byteText, line, lineOf, textOf, Lists}
 
 made-size : (e : Event) → length (flatMap lineOf (made e)) ≡ 12 * length (made e)

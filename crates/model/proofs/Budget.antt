@@ -4,7 +4,7 @@ use mathlib.Core.Path.{_≡_, refl}
 use mathlib.Core.Bool.{Bool, true, false, not}
 use Rattle.bits.proofs.Tests.{false-true}
 use Rattle.record.specs.World.{World}
-use Rattle.record.specs.Change.{Change, bus, ran, lost, count, uf, phase, started, gone, suspended, running, credit, budget, counter, block, timers, control, queued, popped, pushed, cleared, reply, device, config, forgot, midi, serial, received, frame, taken, apply}
+use Rattle.record.specs.Change.{Change, bus, ran, lost, count, uf, phase, started, gone, suspended, wasRunning, credit, budget, counter, block, timers, control, queued, popped, pushed, cleared, reply, device, config, forgot, midi, serial, received, frame, taken, apply}
 use Rattle.model.proofs.Fields.{Fields}
 use Rattle.model.proofs.Reading.{Reading, readingOf, quiet}
 
@@ -21,7 +21,7 @@ budgetOn (phase p) k = k
 budgetOn (started n) k = k
 budgetOn (gone b) k = k
 budgetOn (suspended b) k = k
-budgetOn (running b) k = k
+budgetOn (wasRunning b) k = k
 budgetOn (credit n) k = k
 budgetOn (budget n) k = n
 budgetOn (counter n) k = k
@@ -53,7 +53,7 @@ budget-apply (phase p) w = refl
 budget-apply (started n) w = refl
 budget-apply (gone b) w = refl
 budget-apply (suspended b) w = refl
-budget-apply (running b) w = refl
+budget-apply (wasRunning b) w = refl
 budget-apply (credit n) w = refl
 budget-apply (budget n) w = refl
 budget-apply (counter n) w = refl
@@ -95,7 +95,7 @@ budget-leaves (phase p) h k = refl
 budget-leaves (started n) h k = refl
 budget-leaves (gone b) h k = refl
 budget-leaves (suspended b) h k = refl
-budget-leaves (running b) h k = refl
+budget-leaves (wasRunning b) h k = refl
 budget-leaves (credit n) h k = refl
 budget-leaves (budget n) h k = absurd (false-true h)
 budget-leaves (counter n) h k = refl

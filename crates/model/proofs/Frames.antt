@@ -4,7 +4,7 @@ use mathlib.Core.Path.{_≡_, refl}
 use mathlib.Core.Bool.{Bool, true, false}
 use Rattle.record.specs.Record.{wrapped, counted, Counter, microframes, «in_transfers», «out_transfers», «in_frames», «out_frames», «bad_blocks», «midi_dtds», «midi_asleep», «out_underruns», «midi_packets_out», «vendor_in_bytes», restarts, enumerations}
 use Rattle.record.specs.World.{World}
-use Rattle.record.specs.Change.{Change, bus, ran, lost, count, uf, phase, started, gone, suspended, running, credit, budget, counter, block, timers, control, queued, popped, pushed, cleared, reply, device, config, forgot, midi, serial, received, frame, taken, apply}
+use Rattle.record.specs.Change.{Change, bus, ran, lost, count, uf, phase, started, gone, suspended, wasRunning, credit, budget, counter, block, timers, control, queued, popped, pushed, cleared, reply, device, config, forgot, midi, serial, received, frame, taken, apply}
 use Rattle.model.specs.Earned.{Counts, countsOf}
 use Rattle.bits.proofs.Tests.{false-true}
 use Rattle.model.proofs.Fields.{Fields}
@@ -13,13 +13,13 @@ use Rattle.model.proofs.Reading.{Reading, readingOf, quiet, quietCounte
 pub record Frames : Type 0 where
   pub counts : Counts
   pub gone : Bool
-  pub running : Bool
+  pub wasRunning : Bool
 
 abbrev pub framesOf : World → Frames
-framesOf w = record { counts = countsOf w; gone = w .state .port .gone; running = w .state .port .running }
+framesOf w = record { counts = countsOf w; gone = w .state .port .gone; wasRunning = w .state .port .«was_running» }
 
 abbrev pub withCounts : Frames → Counts → Frames
-withCounts k m = record { counts = m; gone = k .gone; running = k .running }
+withCounts k m = record { counts = m; gone = k .gone; wasRunning = k .wasRunning }
 
 abbrev pub onCounts : Counter → ℕ → Counts → Counts
 onCounts microframes n m = m
@@ -44,9 +44,9 @@ onFrames (count c n) k = withCounts k (onCounts c n (k .counts))
 onFrames (uf n) k = k
 onFrames (phase p) k = k
 onFrames (started n) k = k
-onFrames (gone b) k = record { counts = k .counts; gone = b; running = k .running }
+onFrames (gone b) k = record { counts = k .counts; gone = b; wasRunning = k .wasRunning }
 onFrames (suspended b) k = k
-onFrames (running b) k = record { counts = k .counts; gone = k .gone; running = b }
+onFrames (wasRunning b) k = record { counts = k .counts; gone = k .gone; wasRunning = b }
 onFrames (credit n) k = withCounts k (record { credit = n; received = k .counts .received; sent = k .counts .sent })
 onFrames (budget n) k = k
 onFrames (counter n) k = k
@@ -94,7 +94,7 @@ frames-apply (phase p) w = refl
 frames-apply (started n) w = refl
 frames-apply (gone b) w = refl
 frames-apply (suspended b) w = refl
-frames-apply (running b) w = refl
+frames-apply (wasRunning b) w = refl
 frames-apply (credit n) w = refl
 frames-apply (budget n) w = refl
 frames-apply (counter n) w = refl
@@ -151,7 +151,7 @@ frames-leaves (phase p) h k = refl
 frames-leaves (started n) h k = refl
 frames-leaves (gone b) h k = absurd (false-true h)
 frames-leaves (suspended b) h k = refl
-frames-leaves (running b) h k = absurd (false-true h)
+frames-leaves (wasRunning b) h k = absurd (false-true h)
 frames-leaves (credit n) h k = absurd (false-true h)
 frames-leaves (budget n) h k = refl
 frames-leaves (counter n) h k = refl

@@ -14,10 +14,10 @@ use Rattle.dtd.proofs.Runs.{idle-run}
 use Rattle.record.specs.declared.Settings.{Settings}
 use Rattle.record.specs.Record.{counted, wrapped, «in_frames»}
 use Rattle.record.specs.World.{World, busOf}
-use Rattle.record.specs.Change.{Change, count, credit, gone, running, budget, apply, Step, left, _then_, nothing, if, when, one, here}
+use Rattle.record.specs.Change.{Change, count, credit, gone, wasRunning, budget, apply, Step, left, _then_, nothing, if, when, one, here}
 use Rattle.model.specs.Phases.{counts, ticks, cable, unplugging, returns, forgets, dropsRequest, enters, sleeps, suspends, leaves, departs}
 use Rattle.model.specs.Streams.{nonempty, brought, nextTotal}
-use Rattle.model.specs.Audio.{audioIn, BLOCK, BLOCK-FRAMES, named, overBudget, addsBudget, clearsBudget, blocks, blocksOf, good, keepsFrames, keepsGood, keepsBlock, keepsBlocks, keepsRun, inputs, hears, outputs, streams}
+use Rattle.model.specs.Audio.{audioIn, BLOCK, BLOCK-FRAMES, named, overBudget, addsBudget, clearsBudget, blocks, blocksOf, good, keepsFrames, keepsGood, keepsBlock, keepsBlocks, keepsRun, inputs, streamIn, streamOut, streams}
 use Rattle.model.specs.Microframe.{rsSet, goneAt, asleepAt, opens, frameOf, byPhase, enumerates, microframe}
 use Rattle.model.specs.Reach.{streamsIn, toPhase, phaseBy, streamBy, outputBy, withinBudget, inputBy, backBy, leftBy, paced, inputReady, outputReady, bytesAt}
 use Rattle.model.specs.Earned.{Counts, countsOf, earned, sentOne, zeroed, goodBlocks, blocksRead, resetCounts, heardCounts, sentCounts}
@@ -144,8 +144,8 @@ pick-not true ready x y = refl
 pick-not false ready x y = refl
 
 -- `stream` up to the output step
-frames-hears : (u : World) → framesOf (left hears u) ≡ pick (withinBudget (u .state .audio .budget) u && inputReady (paced u)) (earns (blocksRead u) (framesOf u)) (framesOf u)
-unfolding hears
+frames-hears : (u : World) → framesOf (left streamIn u) ≡ pick (withinBudget (u .state .audio .budget) u && inputReady (paced u)) (earns (blocksRead u) (framesOf u)) (framesOf u)
+unfolding streamIn
 frames-hears u =
     let within = withinBudget (u .state .audio .budget) u in
     fields-then frames _ _ u
@@ -161,15 +161,15 @@ unfolding sentOne
 block-sends x = refl
 
 -- `stream_out`
-frames-outputs : (x : World) → framesOf (left outputs x) ≡ pick (outputReady x && leb BLOCK-FRAMES (x .state .audio .credit)) (sends (framesOf x)) (framesOf x)
+frames-outputs : (x : World) → framesOf (left streamOut x) ≡ pick (outputReady x && leb BLOCK-FRAMES (x .state .audio .credit)) (sends (framesOf x)) (framesOf x)
 frames-outputs x =
-    fields-replay frames (outputs x) x ∙ through-outputs framesReading x (framesOf x)
+    fields-replay frames (streamOut x) x ∙ through-outputs framesReading x (framesOf x)
     ∙ pick-eq (outputReady x && leb BLOCK-FRAMES (x .state .audio .credit)) (block-sends x) refl
 
 -- ---- the cable
 
 abbrev goneTo : Bool → Frames → Frames
-goneTo b k = record { counts = k .counts; gone = b; running = k .running }
+goneTo b k = record { counts = k .counts; gone = b; wasRunning = k .wasRunning }
 
 abbrev cabled : Bool → Frames → Frames
 cabled true k = goneTo true k
@@ -180,12 +180,12 @@ unfolding returns forgets dropsRequest andThen one apply counted
 frames-returns v = refl
 
 goes : (b : Bool) (k : Frames) → k .gone ≡ b → pick (not b) (goneTo true k) k ≡ goneTo true k
-goes true k e = λ i. record { counts = k .counts; gone = e i; running = k .running }
+goes true k e = λ i. record { counts = k .counts; gone = e i; wasRunning = k .wasRunning }
 goes false k e = refl
 
 comes : (b : Bool) (k : Frames) → k .gone ≡ b → pick b (goneTo false (withCounts k (zeroed (k .counts)))) k ≡ goneTo false (withCounts k (pick b (zeroed (k .counts)) (k .counts)))
 comes true k e = refl
-comes false k e = λ i. record { counts = k .counts; gone = e i; running = k .running }
+comes false k e = λ i. record { counts = k .counts; gone = e i; wasRunning = k .wasRunning }
 
 frames-cable : (g : Bool) (v : World) → framesOf (left (cable g) v) ≡ cabled g (framesOf v)
 unfolding cable one apply
@@ -210,26 +210,26 @@ counts-departs : (v : World) → countsOf (left departs v) ≡ zeroed (countsOf 
 unfolding departs enters forgets dropsRequest andThen one apply
 counts-departs v = refl
 
-seen : (v : World) → countsOf (left (one (λ w. running true)) v) ≡ countsOf v
+seen : (v : World) → countsOf (left (one (λ w. wasRunning true)) v) ≡ countsOf v
 unfolding one apply
 seen v = refl
 
-counts-leaves : (stack rs : Bool) (v : World) → countsOf (left (leaves stack rs) v) ≡ pick (not rs && (stack && v .state .port .running)) (zeroed (countsOf v)) (countsOf v)
+counts-leaves : (stack rs : Bool) (v : World) → countsOf (left (leaves stack rs) v) ≡ pick (not rs && (stack && v .state .port .«was_running»)) (zeroed (countsOf v)) (countsOf v)
 unfolding leaves
 counts-leaves false true v = ap (λ (k : Frames). k .counts) (keeps-nothing frames v)
 counts-leaves false false v = ap (λ (k : Frames). k .counts) (keeps-nothing frames v)
 counts-leaves true true v = seen v
 counts-leaves true false v =
     ap (λ (k : Frames). k .counts) (fields-if frames _ _ _ v)
-    ∙ pick-map (λ (k : Frames). k .counts) (v .state .port .running) _ _
-    ∙ pick-eq (v .state .port .running) (counts-departs v) (ap (λ (k : Frames). k .counts) (keeps-nothing frames v))
+    ∙ pick-map (λ (k : Frames). k .counts) (v .state .port .«was_running») _ _
+    ∙ pick-eq (v .state .port .«was_running») (counts-departs v) (ap (λ (k : Frames). k .counts) (keeps-nothing frames v))
 
 counts-phase : (rs : Bool) (w : World) → countsOf (phaseBy rs w) ≡ resetCounts rs false false w
 unfolding phaseBy toPhase resetCounts leftBy backBy
 counts-phase rs w =
     ap (λ (k : Frames). k .counts) (fields-then frames _ _ w ∙ fields-then frames _ _ _)
     ∙ counts-leaves (w .settings .«device_stack») rs _
-    ∙ ap (λ (k : Frames). pick (not rs && (w .settings .«device_stack» && k .running)) (zeroed (k .counts)) (k .counts)) (silent-keeps frames (suspends false) (silent-suspends framesReading false) _ ∙ frames-opens (w .settings) false w)
+    ∙ ap (λ (k : Frames). pick (not rs && (w .settings .«device_stack» && k .wasRunning)) (zeroed (k .counts)) (k .counts)) (silent-keeps frames (suspends false) (silent-suspends framesReading false) _ ∙ frames-opens (w .settings) false w)
 
 -- ---- the stream's counts, from those before it
 
@@ -237,9 +237,9 @@ heardFrom : World → Counts → Counts
 heardFrom u m = pick (withinBudget (u .state .audio .budget) u && inputReady (paced u)) (earned (blocksRead u) m) m
 
 sentFrom : World → Counts → Counts
-sentFrom u m = pick (outputReady (left hears u) && leb BLOCK-FRAMES (heardFrom u m .credit)) (sentOne (heardFrom u m)) (heardFrom u m)
+sentFrom u m = pick (outputReady (left streamIn u) && leb BLOCK-FRAMES (heardFrom u m .credit)) (sentOne (heardFrom u m)) (heardFrom u m)
 
-counts-hears : (u : World) → countsOf (left hears u) ≡ heardFrom u (countsOf u)
+counts-hears : (u : World) → countsOf (left streamIn u) ≡ heardFrom u (countsOf u)
 unfolding heardFrom
 counts-hears u =
     ap (λ (k : Frames). k .counts) (frames-hears u)
@@ -248,9 +248,9 @@ counts-hears u =
 counts-streams : (u : World) → countsOf (left streams u) ≡ sentFrom u (countsOf u)
 unfolding sentFrom streams
 counts-streams u =
-    ap (λ (k : Frames). k .counts) (fields-then frames hears outputs u ∙ frames-outputs (left hears u))
-    ∙ pick-map (λ (k : Frames). k .counts) (outputReady (left hears u) && leb BLOCK-FRAMES (left hears u .state .audio .credit)) (sends (framesOf (left hears u))) (framesOf (left hears u))
-    ∙ ap (λ (m : Counts). pick (outputReady (left hears u) && leb BLOCK-FRAMES (m .credit)) (sentOne m) m) (counts-hears u)
+    ap (λ (k : Frames). k .counts) (fields-then frames streamIn streamOut u ∙ frames-outputs (left streamIn u))
+    ∙ pick-map (λ (k : Frames). k .counts) (outputReady (left streamIn u) && leb BLOCK-FRAMES (left streamIn u .state .audio .credit)) (sends (framesOf (left streamIn u))) (framesOf (left streamIn u))
+    ∙ ap (λ (m : Counts). pick (outputReady (left streamIn u) && leb BLOCK-FRAMES (m .credit)) (sentOne m) m) (counts-hears u)
 
 -- from the choice by phase on
 counts-by : (c : Settings) (t : ℕ) (rs : Bool) (v : World) → countsOf (left (byPhase c t rs) v) ≡ pick (getsTo c rs v) (sentFrom (left (enumerates c) v) (countsOf v)) (countsOf v)
@@ -272,7 +272,7 @@ merge true nh nh′ ir same rd n m =
     ap (λ (b : Bool). pick (rd (pick (b && ir) (earned n m) m)) (sentOne (pick (b && ir) (earned n m) m)) (pick (b && ir) (earned n m) m)) (same refl)
 merge false nh nh′ ir same rd n m = refl
 
-four : (a b c d : Step) (w : World) → left (a then b then c then d) w ≡ left d (left (a then b then c) w)
+pub four : (a b c d : Step) (w : World) → left (a then b then c then d) w ≡ left d (left (a then b then c) w)
 four a b c d w =
     exec-then apply a (b then c then d) w
     ∙ exec-then apply b (c then d) (left a w)
@@ -295,7 +295,7 @@ counts-frame t rs false false w =
     ∙ ap (λ (m : Counts). pick closed (sentFrom (streamBy rs w) m) m) (counts-phase rs w)
     ∙ merge closed (withinBudget (streamBy rs w .state .audio .budget) (streamBy rs w)) (withinBudget (w .state .audio .budget) (streamBy rs w)) (inputReady (paced (streamBy rs w)))
     (λ h. ap (λ (n : ℕ). withinBudget n (streamBy rs w)) (budget-stream rs false false w h))
-    (λ m. outputReady (left hears (streamBy rs w)) && leb BLOCK-FRAMES (m .credit)) (blocksRead (streamBy rs w)) (resetCounts rs false false w)
+    (λ m. outputReady (left streamIn (streamBy rs w)) && leb BLOCK-FRAMES (m .credit)) (blocksRead (streamBy rs w)) (resetCounts rs false false w)
 
 pub counts-microframe : (t : ℕ) (w : World) → countsOf (left (microframe t) w) ≡ sentCounts (rsSet w) (goneAt t w) (asleepAt t w) w
 unfolding microframe here

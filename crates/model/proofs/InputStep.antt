@@ -18,7 +18,7 @@ use Rattle.record.specs.World.{World, busOf}
 use Rattle.record.specs.Record.{wrapped, «in_transfers», «in_frames», «bad_blocks»}
 use Rattle.record.specs.Change.{Change, bus, ran, lost, count, credit, frame, apply, FRAMES, Step, left, _then_, nothing, one, here, runs, ranStores}
 use Rattle.model.specs.Streams.{nonempty, brought}
-use Rattle.model.specs.Audio.{audioIn, BLOCK-FRAMES, overBudget, addsBudget, clearsBudget, good, wordsOf, blocks, blocksOf, keepsFrames, keepsGood, keepsBlock, keepsBlocks, keepsRun, inputs, hears, outputs, streams}
+use Rattle.model.specs.Audio.{audioIn, BLOCK-FRAMES, overBudget, addsBudget, clearsBudget, good, wordsOf, blocks, blocksOf, keepsFrames, keepsGood, keepsBlock, keepsBlocks, keepsRun, inputs, streamIn, streamOut, streams}
 use Rattle.model.specs.Microframe.{rsSet, goneAt, asleepAt, microframe}
 use Rattle.model.specs.Reach.{streamBy, withinBudget, inputBy, paced, bytesAt, reachesOutput, reachesInput, inputReady, outputReady, atStream, atInput}
 use Rattle.model.specs.Earned.{Counts, earned}
@@ -46,12 +46,12 @@ met t w e =
     ∙ ap not (and-second (reachesOutput t w) _ e)
 
 pub placed-input : (t : ℕ) (w : World) → reachesInput t w ≡ true → Placed (microframe t) w inputs (atInput w)
-unfolding microframe streams hears inputBy paced
+unfolding microframe streams streamIn inputBy paced
 placed-input t w e =
     let u = streamBy (rsSet w) w in
     placed-here _ inputs w _
     (placed-frame t (rsSet w) (goneAt t w) (asleepAt t w) inputs w _ (and-first _ _ e)
-    (placed-first hears outputs inputs u _
+    (placed-first streamIn streamOut inputs u _
     (placed-second addsBudget _ inputs u _
     (placed-false overBudget nothing _ inputs (left addsBudget u) _ (met t w e)
     (placed-second clearsBudget inputs inputs (left addsBudget u) _ (placed-self inputs _))))))
@@ -163,13 +163,13 @@ inputs-changes x e =
 
 -- ---- the whole microframe, by a reading of the input step alone
 
-module _ {K : Type 0} (R : Reading K) (L : Lasting R) (O : Silent R outputs) where
+module _ {K : Type 0} (R : Reading K) (L : Lasting R) (O : Silent R streamOut) where
   turned : (b : Bool) (x y : K) → pick (not b) x y ≡ pick b y x
   turned true x y = refl
   turned false x y = refl
 
-  through-hears : (u : World) (k : K) → through R hears u k ≡ pick (withinBudget (u .state .audio .budget) u) (through R inputs (paced u) k) k
-  unfolding hears paced
+  through-hears : (u : World) (k : K) → through R streamIn u k ≡ pick (withinBudget (u .state .audio .budget) u) (through R inputs (paced u) k) k
+  unfolding streamIn paced
   through-hears u k =
       let v = left addsBudget u in
       after-silent R _ _ u k (silent-adds R (L .budgets))
@@ -188,19 +188,19 @@ module _ {K : Type 0} (R : Reading K) (L : Lasting R) (O : Silent R outputs) whe
   through-input t w k =
       let u = streamBy (rsSet w) w in
       through-microframe R L t w k
-      ∙ pick-eq (reachesOutput t w) (before-silent R hears outputs u k O ∙ through-hears u k) refl
+      ∙ pick-eq (reachesOutput t w) (before-silent R streamIn streamOut u k O ∙ through-hears u k) refl
       ∙ at-entry (reachesOutput t w) (withinBudget (u .state .audio .budget) u) (withinBudget (w .state .audio .budget) u)
       (λ h. ap (λ (n : ℕ). withinBudget n u) (budget-stream (rsSet w) (goneAt t w) (asleepAt t w) w h)) (through R inputs (atInput w) k) k
 
 -- the output step leaves the ring and the input endpoint's descriptors alone
-kept-outputs : Silent keptReading outputs
+kept-outputs : Silent keptReading streamOut
 kept-outputs x k = through-outputs keptReading x k ∙ pick-same (outputReady x && leb BLOCK-FRAMES (x .state .audio .credit)) k
 
 block-other : (x : World) (n : ℕ) → blockRead (retiredReading true) x n ≡ n
 unfolding retiredBy
 block-other x n = omega arith
 
-retired-outputs : Silent (retiredReading true) outputs
+retired-outputs : Silent (retiredReading true) streamOut
 retired-outputs x n =
     let test = outputReady x && leb BLOCK-FRAMES (x .state .audio .credit) in
     through-outputs (retiredReading true) x n ∙ pick-eq test (block-other x n) refl ∙ pick-same test n

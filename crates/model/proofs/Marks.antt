@@ -8,7 +8,7 @@ use lib.Dec.{eqb}
 use Rattle.bits.specs.Pick.{pick}
 use Rattle.bits.proofs.Tests.{false-true}
 use Rattle.bus.specs.Steps.{replay}
-use Rattle.record.specs.Change.{Change, bus, ran, lost, count, uf, phase, started, gone, suspended, running, credit, budget, counter, block, timers, control, queued, popped, pushed, cleared, reply, device, config, forgot, midi, serial, received, frame, taken}
+use Rattle.record.specs.Change.{Change, bus, ran, lost, count, uf, phase, started, gone, suspended, wasRunning, credit, budget, counter, block, timers, control, queued, popped, pushed, cleared, reply, device, config, forgot, midi, serial, received, frame, taken}
 use Rattle.model.specs.Marks.{isAudio, retiredBy, audioRetired}
 use Rattle.model.proofs.Reading.{Reading, Lasting, Unheard, Unmarked, quiet}
 
@@ -30,7 +30,7 @@ quiet-retires input (phase p) e = refl
 quiet-retires input (started n) e = refl
 quiet-retires input (gone b) e = refl
 quiet-retires input (suspended b) e = refl
-quiet-retires input (running b) e = refl
+quiet-retires input (wasRunning b) e = refl
 quiet-retires input (credit n) e = refl
 quiet-retires input (budget n) e = refl
 quiet-retires input (counter n) e = refl

@@ -23,8 +23,8 @@ use Rattle.record.specs.World.{World, busOf}
 use Rattle.record.specs.Change.{Change, bus, ran, lost, count, phase, gone, credit, counter, taken, apply, Step, left, _then_, nothing, if, when, one, here, onPage, runs, ranStores}
 use Rattle.model.specs.Phases.{counts, ticks, dropsRequest, forgets, returns, cable, suspends, leaves, startsFrame, changing}
 use Rattle.model.specs.Control.{enumerating, posts, configured, stalled, unstalls, stages, controls}
-use Rattle.model.specs.Streams.{serves}
-use Rattle.model.specs.Audio.{audioOut, BLOCK-FRAMES, hears, blockOf, sendsBlock, unprimes, outputs, streams}
+use Rattle.model.specs.Streams.{serialStep}
+use Rattle.model.specs.Audio.{audioOut, BLOCK-FRAMES, streamIn, blockOf, sendsBlock, unprimes, streamOut, streams}
 use Rattle.model.specs.Microframe.{rsSet, goneAt, asleepAt, streaming, opens, frameOf, byPhase, atPhase, talks, transfers, others, enumerates, microframe}
 use Rattle.model.specs.Reach.{streamsIn, toPhase, phaseBy, streamBy, outputBy, reachesOutput, atOutput, outputReady}
 use Rattle.model.specs.Earned.{Out, outOf, sentOut}
@@ -345,7 +345,7 @@ placed-talks c t h v x e₁ e₂ e₃ p =
     (placed-true (λ w. true) _ nothing h v x refl
     (placed-second (enumerates c) _ h v x
     (placed-true _ _ nothing h u x e₃
-    (placed-false (λ w. c .cdc) serves (streams then others c t) h u x e₂
+    (placed-false (λ w. c .cdc) serialStep (streams then others c t) h u x e₂
     (placed-first streams (others c t) h u x p))))))
 
 -- what the closed form says
@@ -403,12 +403,12 @@ placed-frame t rs false true h w x e p = absurd (false-true (sym (reached rs fal
 placed-frame t true false false h w x e p = placed-plain t h w x (reached true false false w e .1 .1 .1) p
 placed-frame t false false false h w x e p = absurd (false-true (reached false false false w e .0))
 
-pub placed-output : (t : ℕ) (w : World) → reachesOutput t w ≡ true → Placed (microframe t) w outputs (atOutput w)
+pub placed-output : (t : ℕ) (w : World) → reachesOutput t w ≡ true → Placed (microframe t) w streamOut (atOutput w)
 unfolding microframe streams
 placed-output t w e =
-    placed-here _ outputs w _
-    (placed-frame t (rsSet w) (goneAt t w) (asleepAt t w) outputs w _ e
-    (placed-second hears outputs outputs _ _ (placed-self outputs _)))
+    placed-here _ streamOut w _
+    (placed-frame t (rsSet w) (goneAt t w) (asleepAt t w) streamOut w _ e
+    (placed-second streamIn streamOut streamOut _ _ (placed-self streamOut _)))
 
 -- ---- what the output step changes
 
@@ -454,8 +454,8 @@ block-list x e =
 
 -- ---- the output step by its tests
 
-outputs-open : (x : World) → outputs x ≡ pick (primed audioOut (x .memory .page) && leb BLOCK-FRAMES (x .state .audio .credit)) (pick (nextActive audioOut (x .memory)) (sendsBlock (blockOf x) x) (unprimes x)) []
-unfolding outputs choose here nothing
+outputs-open : (x : World) → streamOut x ≡ pick (primed audioOut (x .memory .page) && leb BLOCK-FRAMES (x .state .audio .credit)) (pick (nextActive audioOut (x .memory)) (sendsBlock (blockOf x) x) (unprimes x)) []
+unfolding streamOut choose here nothing
 outputs-open x = refl
 
 unprimes-list : (x : World) → unprimes x ≡ unprimed x
@@ -467,7 +467,7 @@ abbrev asked : World → Bool
 asked x = primed audioOut (x .memory .page) && leb BLOCK-FRAMES (x .state .audio .credit)
 
 -- by its tests: a block, or the one store of an ended or inactive list, or nothing
-outputs-list : (x : World) → outputs x ≡ pick (outputReady x && leb BLOCK-FRAMES (x .state .audio .credit)) (oneBlock x) (pick (asked x) (unprimed x) [])
+outputs-list : (x : World) → streamOut x ≡ pick (outputReady x && leb BLOCK-FRAMES (x .state .audio .credit)) (oneBlock x) (pick (asked x) (unprimed x) [])
 unfolding outputReady
 outputs-list x = outputs-open x ∙ by (primed audioOut (x .memory .page)) (leb BLOCK-FRAMES (x .state .audio .credit)) (nextActive audioOut (x .memory)) refl refl
   where
@@ -504,7 +504,7 @@ module _ {K : Type 0} (R : Reading K) where
   through-unprimed true x k = R .leaves (bus _) refl k
   through-unprimed false x k = refl
 
-  pub through-outputs : (x : World) (k : K) → through R outputs x k ≡ pick (outputReady x && leb BLOCK-FRAMES (x .state .audio .credit)) (blockRead x k) k
+  pub through-outputs : (x : World) (k : K) → through R streamOut x k ≡ pick (outputReady x && leb BLOCK-FRAMES (x .state .audio .credit)) (blockRead x k) k
   through-outputs x k =
       let test = outputReady x && leb BLOCK-FRAMES (x .state .audio .credit) in
       ap (λ (cs : List Change). replay (R .on) cs k) (outputs-list x)
@@ -517,12 +517,12 @@ module _ {K : Type 0} (R : Reading K) where
   through-sends L U M t w k =
       let u = streamBy (rsSet w) w in
       through-microframe R L t w k
-      ∙ pick-eq (reachesOutput t w) (after-silent R hears outputs u k (silent-hears R L U M) ∙ through-outputs (left hears u) k) refl
+      ∙ pick-eq (reachesOutput t w) (after-silent R streamIn streamOut u k (silent-hears R L U M) ∙ through-outputs (left streamIn u) k) refl
       ∙ pick-and (reachesOutput t w) _ _ k
 
 -- the stream counter, the sending ring and the frames counted as sent
 out-output : (w : World) → outOf (atOutput w) ≡ outOf w
-out-output w = silent-keeps outs hears (silent-hears outReading outLasting outUnheard (λ r n k. refl)) _ ∙ kept-stream outs out-leaves outLasting (rsSet w) w
+out-output w = silent-keeps outs streamIn (silent-hears outReading outLasting outUnheard (λ r n k. refl)) _ ∙ kept-stream outs out-leaves outLasting (rsSet w) w
 
 block-out : (x : World) → blockRead outReading x (outOf x) ≡ sentOut (outOf x)
 unfolding sentOut
@@ -550,8 +550,8 @@ microframe-retired t w =
 
 -- a block is sent: the output step's changes stand in the microframe's list, whole, and no other descriptor of the endpoint is retired
 pub record OneBlock (t : ℕ) (w : World) : Type 0 where
-  pub placed : Placed (microframe t) w outputs (atOutput w)
-  pub changes : outputs (atOutput w) ≡ oneBlock (atOutput w)
+  pub placed : Placed (microframe t) w streamOut (atOutput w)
+  pub changes : streamOut (atOutput w) ≡ oneBlock (atOutput w)
   pub retired : audioOutRetired (microframe t w) ≡ 1
   pub out : outOf (left (microframe t) w) ≡ sentOut (outOf w)
 
@@ -567,11 +567,11 @@ one-block t w e =
 -- none is sent: no descriptor of the endpoint is retired, an output step that is reached does nothing but un-prime it, and the stream counter, the
 -- sending ring and the frames counted as sent are as they were
 pub record NoBlock (t : ℕ) (w : World) : Type 0 where
-  pub changes : reachesOutput t w ≡ true → (outputs (atOutput w) ≡ []) ⊎ (outputs (atOutput w) ≡ unprimed (atOutput w))
+  pub changes : reachesOutput t w ≡ true → (streamOut (atOutput w) ≡ []) ⊎ (streamOut (atOutput w) ≡ unprimed (atOutput w))
   pub retired : audioOutRetired (microframe t w) ≡ 0
   pub out : outOf (left (microframe t) w) ≡ outOf w
 
-none-or-one : (x : World) (b : Bool) → outputs x ≡ pick b (unprimed x) [] → (outputs x ≡ []) ⊎ (outputs x ≡ unprimed x)
+none-or-one : (x : World) (b : Bool) → streamOut x ≡ pick b (unprimed x) [] → (streamOut x ≡ []) ⊎ (streamOut x ≡ unprimed x)
 none-or-one x true e = inr e
 none-or-one x false e = inl e
 

@@ -5,7 +5,7 @@ use mathlib.Core.Bool.{Bool, true, false, not}
 use Rattle.bits.proofs.Tests.{false-true}
 use Rattle.record.specs.Record.{wrapped, counted, Counter, microframes, «in_transfers», «out_transfers», «in_frames», «out_frames», «bad_blocks», «midi_dtds», «midi_asleep», «out_underruns», «midi_packets_out», «vendor_in_bytes», restarts, enumerations}
 use Rattle.record.specs.World.{World}
-use Rattle.record.specs.Change.{Change, bus, ran, lost, count, uf, phase, started, gone, suspended, running, credit, budget, counter, block, timers, control, queued, popped, pushed, cleared, reply, device, config, forgot, midi, serial, received, frame, taken, takenFrom, apply}
+use Rattle.record.specs.Change.{Change, bus, ran, lost, count, uf, phase, started, gone, suspended, wasRunning, credit, budget, counter, block, timers, control, queued, popped, pushed, cleared, reply, device, config, forgot, midi, serial, received, frame, taken, takenFrom, apply}
 use Rattle.model.specs.Earned.{Out, outOf}
 use Rattle.model.proofs.Fields.{Fields}
 use Rattle.model.proofs.Reading.{Reading, readingOf, Lasting, Unheard, quiet, quietCounter}
@@ -35,7 +35,7 @@ outOn (phase p) o = o
 outOn (started n) o = o
 outOn (gone b) o = o
 outOn (suspended b) o = o
-outOn (running b) o = o
+outOn (wasRunning b) o = o
 outOn (credit n) o = o
 outOn (budget n) o = o
 outOn (counter n) o = record { counter = n; sending = o .sending; capacity = o .capacity; sent = o .sent }
@@ -83,7 +83,7 @@ out-apply (phase p) w = refl
 out-apply (started n) w = refl
 out-apply (gone b) w = refl
 out-apply (suspended b) w = refl
-out-apply (running b) w = refl
+out-apply (wasRunning b) w = refl
 out-apply (credit n) w = refl
 out-apply (budget n) w = refl
 out-apply (counter n) w = refl
@@ -140,7 +140,7 @@ out-leaves (phase p) h k = refl
 out-leaves (started n) h k = refl
 out-leaves (gone b) h k = refl
 out-leaves (suspended b) h k = refl
-out-leaves (running b) h k = refl
+out-leaves (wasRunning b) h k = refl
 out-leaves (credit n) h k = refl
 out-leaves (budget n) h k = refl
 out-leaves (counter n) h k = absurd (false-true h)

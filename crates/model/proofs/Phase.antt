@@ -2,7 +2,7 @@
 use Rattle.record.specs.declared.Phase.{Phase}
 use mathlib.Core.Path.{_≡_, refl}
 use Rattle.record.specs.World.{World}
-use Rattle.record.specs.Change.{Change, bus, ran, lost, count, uf, phase, started, gone, suspended, running, credit, budget, counter, block, timers, control, queued, popped, pushed, cleared, reply, device, config, forgot, midi, serial, received, frame, taken, apply}
+use Rattle.record.specs.Change.{Change, bus, ran, lost, count, uf, phase, started, gone, suspended, wasRunning, credit, budget, counter, block, timers, control, queued, popped, pushed, cleared, reply, device, config, forgot, midi, serial, received, frame, taken, apply}
 use mathlib.Core.Bool.{Bool, true, false, not}
 use Rattle.bits.proofs.Tests.{false-true}
 use Rattle.model.proofs.Fields.{Fields}
@@ -21,7 +21,7 @@ phasesOn (phase p) k = p
 phasesOn (started n) k = k
 phasesOn (gone b) k = k
 phasesOn (suspended b) k = k
-phasesOn (running b) k = k
+phasesOn (wasRunning b) k = k
 phasesOn (credit n) k = k
 phasesOn (budget n) k = k
 phasesOn (counter n) k = k
@@ -53,7 +53,7 @@ phases-apply (phase p) w = refl
 phases-apply (started n) w = refl
 phases-apply (gone b) w = refl
 phases-apply (suspended b) w = refl
-phases-apply (running b) w = refl
+phases-apply (wasRunning b) w = refl
 phases-apply (credit n) w = refl
 phases-apply (budget n) w = refl
 phases-apply (counter n) w = refl
@@ -95,7 +95,7 @@ phases-leaves (phase p) h k = absurd (false-true h)
 phases-leaves (started n) h k = refl
 phases-leaves (gone b) h k = refl
 phases-leaves (suspended b) h k = refl
-phases-leaves (running b) h k = refl
+phases-leaves (wasRunning b) h k = refl
 phases-leaves (credit n) h k = refl
 phases-leaves (budget n) h k = refl
 phases-leaves (counter n) h k = refl

@@ -15,11 +15,11 @@ use Rattle.record.specs.declared.Phase.{Phase}
 use Rattle.record.specs.declared.Settings.{Settings}
 use Rattle.record.specs.Record.{Counter, microframes, «in_transfers», «out_transfers», «in_frames», «out_frames», «bad_blocks», «midi_dtds», «midi_asleep», «out_underruns», «midi_packets_out», «vendor_in_bytes», restarts, enumerations}
 use Rattle.record.specs.World.{World, busOf}
-use Rattle.record.specs.Change.{Change, bus, ran, lost, count, uf, phase, started, gone, suspended, running, credit, budget, counter, block, timers, control, queued, popped, pushed, cleared, reply, device, config, forgot, midi, serial, received, frame, taken, apply, Step, left, _then_, nothing, if, when, one, here, onBus, onPage, runs, ranStores}
+use Rattle.record.specs.Change.{Change, bus, ran, lost, count, uf, phase, started, gone, suspended, wasRunning, credit, budget, counter, block, timers, control, queued, popped, pushed, cleared, reply, device, config, forgot, midi, serial, received, frame, taken, apply, Step, left, _then_, nothing, if, when, one, here, onBus, onPage, runs, ranStores}
 use Rattle.model.specs.Phases.{counts, ticks, cable, returns, forgets, dropsRequest, sleeps, suspends, leaves, departs, enters, idles, powers, resets, startsFrame}
 use Rattle.model.specs.Control.{toStatus, posted, posts, configured, keepsReply, dataStage, asksWhole, chooses, configures, finishes, statusEnds, statusStage, unstalls, stages, controls}
-use Rattle.model.specs.Streams.{naks, reads, readsMidi, drainsSerial, serves, drainsMidi, writesMidi, readsVendor}
-use Rattle.model.specs.Audio.{audioIn, BLOCK-FRAMES, addsBudget, clearsBudget, overBudget, good, keepsFrames, keepsGood, keepsBlock, keepsBlocks, keepsRun, inputs, hears, unprimes}
+use Rattle.model.specs.Streams.{naks, reads, midiIn, drainsSerial, serialStep, drainsMidi, midiOut, readsVendor}
+use Rattle.model.specs.Audio.{audioIn, BLOCK-FRAMES, addsBudget, clearsBudget, overBudget, good, keepsFrames, keepsGood, keepsBlock, keepsBlocks, keepsRun, inputs, streamIn, unprimes}
 use Rattle.model.specs.Microframe.{opens, enumerates, others}
 use Rattle.model.proofs.Fields.{Fields, Keeps, fields-replay}
 
@@ -51,7 +51,7 @@ quiet (phase p) = false
 quiet (started n) = true
 quiet (gone b) = false
 quiet (suspended b) = true
-quiet (running b) = false
+quiet (wasRunning b) = false
 quiet (credit n) = false
 quiet (budget n) = false
 quiet (counter n) = false
@@ -89,7 +89,7 @@ silent-keeps F f p w = fields-replay F (f w) w ∙ p w (F .of w)
 pub record Lasting {K : Type 0} (R : Reading K) : Type 0 where
   pub phases : (p : Phase) (k : K) → R .on (phase p) k ≡ k
   pub goes : (b : Bool) (k : K) → R .on (gone b) k ≡ k
-  pub runs : (b : Bool) (k : K) → R .on (running b) k ≡ k
+  pub runs : (b : Bool) (k : K) → R .on (wasRunning b) k ≡ k
   pub credits : (n : ℕ) (k : K) → R .on (credit n) k ≡ k
   pub budgets : (n : ℕ) (k : K) → R .on (budget n) k ≡ k
 
@@ -273,8 +273,8 @@ module _ {K : Type 0} (R : Reading K) where
   unfolding naks
   silent-naks = search silent-rules
 
-  pub silent-midi : (asleep : Bool) (every : ℕ) → Silent (readsMidi asleep every)
-  unfolding readsMidi
+  pub silent-midi : (asleep : Bool) (every : ℕ) → Silent (midiIn asleep every)
+  unfolding midiIn
   silent-midi true every = silent-sleeps
   silent-midi false every = search (silent-rules, silent-naks, silent-reads) depth 8
 
@@ -282,16 +282,16 @@ module _ {K : Type 0} (R : Reading K) where
   unfolding drainsSerial
   silent-serial n = search silent-rules depth 8
 
-  pub silent-serves : Silent serves
-  unfolding serves
+  pub silent-serves : Silent serialStep
+  unfolding serialStep
   silent-serves = search (silent-rules, silent-serial) depth 8
 
   pub silent-drains : (n : ℕ) → Silent (drainsMidi n)
   unfolding drainsMidi
   silent-drains n = search silent-rules depth 8
 
-  pub silent-writes : Silent writesMidi
-  unfolding writesMidi
+  pub silent-writes : Silent midiOut
+  unfolding midiOut
   silent-writes = search (silent-rules, silent-drains)
 
   pub silent-vendor : Silent readsVendor
@@ -363,8 +363,8 @@ module _ {K : Type 0} (R : Reading K) where
     silent-gone : (b : Bool) → Silent (one (λ w. gone b))
     silent-gone b = silent-by (λ w. gone b) (λ w k. L .goes b k)
 
-    silent-running : (b : Bool) → Silent (one (λ w. running b))
-    silent-running b = silent-by (λ w. running b) (λ w k. L .runs b k)
+    silent-running : (b : Bool) → Silent (one (λ w. wasRunning b))
+    silent-running b = silent-by (λ w. wasRunning b) (λ w k. L .runs b k)
 
     silent-idle : (p : Phase) → Silent (one (λ w. phase p))
     silent-idle = silent-phase (L .phases)
@@ -434,6 +434,6 @@ module _ {K : Type 0} (R : Reading K) where
         unfolding inputs
         silent-inputs w k = through-runs audioIn [] keepsRun w k silent-kept ∙ M _ _ k
 
-        pub silent-hears : Silent hears
-        unfolding hears
+        pub silent-hears : Silent streamIn
+        unfolding streamIn
         silent-hears = search (heard-rules, silent-adds (L .budgets), silent-clears (L .budgets), silent-inputs)

@@ -6,7 +6,7 @@ use mathlib.Core.List.{List}
 use Rattle.bits.proofs.Tests.{false-true}
 use Rattle.record.specs.declared.Ring.{Ring}
 use Rattle.record.specs.World.{World}
-use Rattle.record.specs.Change.{Change, bus, ran, lost, count, uf, phase, started, gone, suspended, running, credit, budget, counter, block, timers, control, queued, popped, pushed, cleared, reply, device, config, forgot, midi, serial, received, frame, taken, apply, ringed, ringedPlace}
+use Rattle.record.specs.Change.{Change, bus, ran, lost, count, uf, phase, started, gone, suspended, wasRunning, credit, budget, counter, block, timers, control, queued, popped, pushed, cleared, reply, device, config, forgot, midi, serial, received, frame, taken, apply, ringed, ringedPlace}
 use Rattle.model.proofs.Fields.{Fields}
 use Rattle.model.proofs.Reading.{Reading, readingOf, Lasting, quiet}
 
@@ -30,7 +30,7 @@ keptOn (phase p) k = k
 keptOn (started n) k = k
 keptOn (gone b) k = k
 keptOn (suspended b) k = k
-keptOn (running b) k = k
+keptOn (wasRunning b) k = k
 keptOn (credit n) k = k
 keptOn (budget n) k = k
 keptOn (counter n) k = k
@@ -62,7 +62,7 @@ kept-apply (phase p) w = refl
 kept-apply (started n) w = refl
 kept-apply (gone b) w = refl
 kept-apply (suspended b) w = refl
-kept-apply (running b) w = refl
+kept-apply (wasRunning b) w = refl
 kept-apply (credit n) w = refl
 kept-apply (budget n) w = refl
 kept-apply (counter n) w = refl
@@ -104,7 +104,7 @@ kept-leaves (phase p) h k = refl
 kept-leaves (started n) h k = refl
 kept-leaves (gone b) h k = refl
 kept-leaves (suspended b) h k = refl
-kept-leaves (running b) h k = refl
+kept-leaves (wasRunning b) h k = refl
 kept-leaves (credit n) h k = refl
 kept-leaves (budget n) h k = refl
 kept-leaves (counter n) h k = refl

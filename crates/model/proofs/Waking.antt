@@ -62,8 +62,8 @@ unfolding leaves
 by-leaves c t false rs v e = by-idle c t rs _ (keeps-nothing phases v ∙ e)
 by-leaves c t true true v e = by-idle c t true _ (keeps-one phases _ (λ w. refl) v ∙ e)
 by-leaves c t true false v e =
-    ap (λ (u : World). left (byPhase c t false) u .state .phase) (exec-choose apply (λ w. w .state .port .running) departs nothing v)
-    ∙ by-running (v .state .port .running)
+    ap (λ (u : World). left (byPhase c t false) u .state .phase) (exec-choose apply (λ w. w .state .port .«was_running») departs nothing v)
+    ∙ by-running (v .state .port .«was_running»)
   where
     by-running : (b : Bool) → left (byPhase c t false) (pick b (left departs v) (left nothing v)) .state .phase ≡ Vbus
     by-running true = by-vbus c t (left departs v) (departed v)

@@ -5,7 +5,7 @@ use lib.ListN.{length}
 use Rattle.record.specs.declared.Phase.{Phase}
 use mathlib.Core.Path.{_≡_, refl}
 use Rattle.record.specs.World.{World}
-use Rattle.record.specs.Change.{Change, bus, ran, lost, count, uf, phase, started, gone, suspended, running, credit, budget, counter, block, timers, control, queued, popped, pushed, cleared, reply, device, config, forgot, midi, serial, received, frame, taken, apply}
+use Rattle.record.specs.Change.{Change, bus, ran, lost, count, uf, phase, started, gone, suspended, wasRunning, credit, budget, counter, block, timers, control, queued, popped, pushed, cleared, reply, device, config, forgot, midi, serial, received, frame, taken, apply}
 use Rattle.model.proofs.Fields.{Fields}
 
 pub record Way : Type 0 where
@@ -29,7 +29,7 @@ wayOn (phase p) k = wayBy p (k .on) (k .setups)
 wayOn (started n) k = k
 wayOn (gone b) k = k
 wayOn (suspended b) k = k
-wayOn (running b) k = k
+wayOn (wasRunning b) k = k
 wayOn (credit n) k = k
 wayOn (budget n) k = k
 wayOn (counter n) k = k
@@ -61,7 +61,7 @@ way-apply (phase p) w = refl
 way-apply (started n) w = refl
 way-apply (gone b) w = refl
 way-apply (suspended b) w = refl
-way-apply (running b) w = refl
+way-apply (wasRunning b) w = refl
 way-apply (credit n) w = refl
 way-apply (budget n) w = refl
 way-apply (counter n) w = refl

@@ -96,8 +96,8 @@ unfoldable pub inputs : Step
 inputs = runs audioIn [] keepsRun
 
 -- 855-896: `stream` up to the output step
-unfoldable pub hears : Step
-hears = addsBudget then if overBudget nothing (clearsBudget then inputs)
+unfoldable pub streamIn : Step
+streamIn = addsBudget then if overBudget nothing (clearsBudget then inputs)
 
 -- ---- a block out (902-952)
 
@@ -147,11 +147,11 @@ unfoldable pub unprimes : Step
 unprimes = onPage (changing EPSR (λ v. clear v 8))
 
 -- 902-952: `stream_out`
-unfoldable pub outputs : Step
-outputs =
+unfoldable pub streamOut : Step
+streamOut =
     when (λ w. primed audioOut (w .memory .page) && leb BLOCK-FRAMES (w .state .audio .credit))
     (if (λ w. nextActive audioOut (w .memory)) (here (λ v. sendsBlock (blockOf v))) unprimes)
 
 -- 855-952: `stream`
 unfoldable pub streams : Step
-streams = hears then outputs
+streams = streamIn then streamOut

@@ -89,8 +89,8 @@ abbrev pub DROP-AFTER : ℕ
 DROP-AFTER = 16000
 
 -- 676, 693: the request began longer ago than that
-abbrev pub late : World → Bool
-late w = ltb (wrapped (w .state .control .t0 + DROP-AFTER)) (now w)
+abbrev pub timedOut : World → Bool
+timedOut w = ltb (wrapped (w .state .control .t0 + DROP-AFTER)) (now w)
 
 -- 660, 666, 672: the status stage is next
 unfoldable pub toStatus : Step
@@ -164,7 +164,7 @@ statusOut c = toHost c && not (eqb (wLength c) 0)
 
 -- 692-700: what follows its run: the request is finished, or waits, or is dropped
 unfoldable pub statusEnds : Bool → Run → Step
-statusEnds stack r = if (λ w. r .done) (finishes stack) (when late dropsRequest)
+statusEnds stack r = if (λ w. r .done) (finishes stack) (when timedOut dropsRequest)
 
 -- 687-700
 unfoldable pub statusStage : Bool → Step
@@ -185,7 +185,7 @@ unstalls = dropsRequest then onPage (changing EPCR0 (λ v. clear v 0x10001))
 unfoldable pub stages : Bool → Step
 stages stack =
     if (λ w. inStatus (w .state .control .stage)) (statusStage stack)
-    (dataStage then if (λ w. inStatus (w .state .control .stage)) (statusStage stack) (when late dropsRequest))
+    (dataStage then if (λ w. inStatus (w .state .control .stage)) (statusStage stack) (when timedOut dropsRequest))
 
 -- 623-701: `control`; stack is the device_stack setting
 unfoldable pub controls : Bool → Step

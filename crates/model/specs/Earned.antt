@@ -10,7 +10,7 @@ use Rattle.record.specs.Record.{wrapped}
 use Rattle.record.specs.declared.Ring.{Ring}
 use Rattle.record.specs.World.{World}
 use Rattle.record.specs.Change.{left, WORDS, takenFrom}
-use Rattle.model.specs.Audio.{BLOCK-FRAMES, good, blocksOf, hears}
+use Rattle.model.specs.Audio.{BLOCK-FRAMES, good, blocksOf, streamIn}
 use Rattle.model.specs.Reach.{streamBy, outputBy, inputBy, backBy, leftBy, paced, inputReady, outputReady, bytesAt}
 
 -- the credit (221), and the frames counted in and out (295-296)
@@ -89,6 +89,6 @@ heardCounts rs g s w =
 
 unfoldable pub sentCounts : Bool → Bool → Bool → World → Counts
 sentCounts rs g s w =
-    pick (outputBy rs g s w && (outputReady (left hears (streamBy rs w)) && leb BLOCK-FRAMES (heardCounts rs g s w .credit)))
+    pick (outputBy rs g s w && (outputReady (left streamIn (streamBy rs w)) && leb BLOCK-FRAMES (heardCounts rs g s w .credit)))
     (sentOne (heardCounts rs g s w))
     (heardCounts rs g s w)

@@ -5,7 +5,7 @@ use mathlib.Core.List.{List, [], _∷_}
 use lib.Dec.{eqb}
 use Rattle.bits.specs.Pick.{pick}
 use Rattle.dtd.specs.Dtd.{Endpoint}
-use Rattle.record.specs.Change.{Change, bus, ran, lost, count, uf, phase, started, gone, suspended, running, credit, budget, counter, block, timers, control, queued, popped, pushed, cleared, reply, device, config, forgot, midi, serial, received, frame, taken}
+use Rattle.record.specs.Change.{Change, bus, ran, lost, count, uf, phase, started, gone, suspended, wasRunning, credit, budget, counter, block, timers, control, queued, popped, pushed, cleared, reply, device, config, forgot, midi, serial, received, frame, taken}
 
 -- 870, 949: endpoint 3, the input one or the output one
 abbrev pub isAudio : Bool → Endpoint → Bool
@@ -22,7 +22,7 @@ retiredBy input (phase p) = 0
 retiredBy input (started n) = 0
 retiredBy input (gone b) = 0
 retiredBy input (suspended b) = 0
-retiredBy input (running b) = 0
+retiredBy input (wasRunning b) = 0
 retiredBy input (credit n) = 0
 retiredBy input (budget n) = 0
 retiredBy input (counter n) = 0

@@ -11,7 +11,7 @@ use Rattle.record.specs.World.{World}
 use Rattle.record.specs.Change.{Step, _then_, nothing, if, when, here}
 use Rattle.model.specs.Phases.{within, anySpan, counts, ticks, cable, sleeps, suspends, leaves, idles, powers, resets, startsFrame}
 use Rattle.model.specs.Control.{controls}
-use Rattle.model.specs.Streams.{readsMidi, serves, writesMidi, readsVendor}
+use Rattle.model.specs.Streams.{midiIn, serialStep, midiOut, readsVendor}
 use Rattle.model.specs.Audio.{streams}
 
 -- ---- what is taken from the entry values: RS (379), gone (384), suspended (412)
@@ -30,8 +30,8 @@ asleepAt t w = within (w .settings .suspend) t
 -- 501-508: what follows the audio stream
 unfoldable pub others : Settings → ℕ → Step
 others c t =
-    when (λ w. c .«midi_in») (readsMidi (within (c .sleep) t) (c .«midi_every»))
-    then when (λ w. c .«device_stack») (writesMidi then readsVendor)
+    when (λ w. c .«midi_in») (midiIn (within (c .sleep) t) (c .«midi_every»))
+    then when (λ w. c .«device_stack») (midiOut then readsVendor)
 
 -- 497, 499: the phase is streaming
 abbrev pub streaming : Phase → Bool
@@ -43,7 +43,7 @@ streaming Stream = true
 
 -- 497-509: the serial device, or the audio stream and what follows it
 unfoldable pub transfers : Settings → ℕ → Step
-transfers c t = when (λ w. streaming (w .state .phase)) (if (λ w. c .cdc) serves (streams then others c t))
+transfers c t = when (λ w. streaming (w .state .phase)) (if (λ w. c .cdc) serialStep (streams then others c t))
 
 -- 493-496: start of frame, and control
 unfoldable pub enumerates : Settings → Step

@@ -17,7 +17,7 @@ use Rattle.record.specs.declared.Phase.the-variants.{Idle, Vbus, Reset, Enumera
 use Rattle.record.specs.declared.Span.{Span}
 use Rattle.record.specs.Record.{wrapped, withOn, Counter, microframes, «midi_asleep», restarts}
 use Rattle.record.specs.World.{World}
-use Rattle.record.specs.Change.{Change, count, uf, phase, started, gone, suspended, running, credit, budget, timers, control, queued, cleared, forgot, Step, _then_, nothing, when, one, here, onPage}
+use Rattle.record.specs.Change.{Change, count, uf, phase, started, gone, suspended, wasRunning, credit, budget, timers, control, queued, cleared, forgot, Step, _then_, nothing, when, one, here, onPage}
 
 -- ---- what the steps read
 
@@ -103,13 +103,13 @@ enters p = one (λ w. phase p) then one (λ w. started (now w))
 
 -- 435-446: the firmware left the bus
 unfoldable pub departs : Step
-departs = one (λ w. running false) then enters Vbus then forgets
+departs = one (λ w. wasRunning false) then enters Vbus then forgets
 
 -- 430-447: with the device stack, by RS as it was read (379)
 unfoldable pub leaves : Bool → Bool → Step
 leaves false rs = nothing
-leaves true true = one (λ w. running true)
-leaves true false = when (λ w. w .state .port .running) departs
+leaves true true = one (λ w. wasRunning true)
+leaves true false = when (λ w. w .state .port .«was_running») departs
 
 -- ---- the phases
 

@@ -12,7 +12,7 @@ use Rattle.record.specs.Change.{Step, _then_, left}
 use Rattle.model.specs.Phases.{suspends, leaves}
 use Rattle.model.specs.Control.{enumerating}
 use Rattle.model.specs.Streams.{ready, nextTotal}
-use Rattle.model.specs.Audio.{audioIn, audioOut, BLOCK, named, addsBudget, clearsBudget, hears}
+use Rattle.model.specs.Audio.{audioIn, audioOut, BLOCK, named, addsBudget, clearsBudget, streamIn}
 use Rattle.model.specs.Microframe.{rsSet, goneAt, asleepAt, streaming, opens, enumerates}
 
 -- ---- reaching, in closed form; rs, g and s: RS, gone and suspended by the entry values
@@ -51,7 +51,7 @@ backBy g w = not g && w .state .port .gone
 
 -- device left: tests 408, 426, 430, 433, 435, reset 441
 unfoldable pub leftBy : Bool → Bool → Bool → World → Bool
-leftBy rs g s w = not g && (not s && (not rs && (w .settings .«device_stack» && w .state .port .running)))
+leftBy rs g s w = not g && (not s && (not rs && (w .settings .«device_stack» && w .state .port .«was_running»)))
 
 -- ---- the same by the time
 
@@ -80,7 +80,7 @@ abbrev pub atInput : World → World
 atInput w = paced (atStream w)
 
 abbrev pub atOutput : World → World
-atOutput w = left hears (atStream w)
+atOutput w = left streamIn (atStream w)
 
 -- primed, with an active next descriptor: input 538, 547, 551; output 904, 909, 915
 unfoldable pub inputReady : World → Bool

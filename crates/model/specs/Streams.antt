@@ -58,9 +58,9 @@ unfoldable pub naks : Step
 naks = when (λ w. not (primed (endpoint 1 true) (w .memory .page))) (onPage (changing EPNAK (λ v. set v 0x20000)))
 
 -- 773-808: `midi`; asleep: the time lies in the MIDI sleep span; every: the midi_every setting
-unfoldable pub readsMidi : Bool → ℕ → Step
-readsMidi true every = sleeps
-readsMidi false every = naks then here (λ v. reads (readsAt every (now v)))
+unfoldable pub midiIn : Bool → ℕ → Step
+midiIn true every = sleeps
+midiIn false every = naks then here (λ v. reads (readsAt every (now v)))
 
 -- ---- to the device: what waits and fits the next descriptor, at most 512 bytes (826-827, 846-847)
 
@@ -72,8 +72,8 @@ unfoldable pub drainsSerial : ℕ → Step
 drainsSerial n = here (λ v. one (λ w. serial n) then runs (endpoint 2 false) (take n (v .serial)) (λ r. nothing))
 
 -- 812-830: `serial`
-unfoldable pub serves : Step
-serves =
+unfoldable pub serialStep : Step
+serialStep =
     runs (endpoint 2 true) [] (λ r. one (λ w. received (r .bytes)))
     then when (λ w. not (eqb (w .state .lengths .serial) 0) && ready (endpoint 2 false) w)
     (here (λ v. drainsSerial (fitting (endpoint 2 false) (v .state .lengths .serial) v)))
@@ -84,8 +84,8 @@ drainsMidi n =
     here (λ v. one (λ w. midi n) then runs (endpoint 1 false) (take n (v .midi)) (λ r. one (λ w. count «midi_packets_out» (n / 4))))
 
 -- 834-851: `midi_out`, whole packets
-unfoldable pub writesMidi : Step
-writesMidi =
+unfoldable pub midiOut : Step
+midiOut =
     when (λ w. not (eqb (w .state .lengths .midi) 0) && ready (endpoint 1 false) w)
     (here (λ v. drainsMidi (fitting (endpoint 1 false) (v .state .lengths .midi) v / 4 * 4)))
 

@@ -18,7 +18,7 @@ use Rattle.usbdev.proofs.Laws.{Inside, done-then}
 use Rattle.gptimers.specs.declared.Timer.{Timer}
 use Rattle.gptimers.specs.declared.Timers.{Timers}
 use Rattle.gptimers.specs.Timer.{ZERO, RUN, RESET, REPEAT, resetting, afterReset, startOf, stopping, expiring, counted, controlOf, ticking, tickingBoth}
-use Rattle.midi.proofs.Laws.{sets-append}
+use Rattle.bits.proofs.Lists.{sets-append}
 use Rattle.record.specs.declared.Phase.{Phase}
 use Rattle.record.specs.declared.State.{State}
 use Rattle.record.specs.Record.{withLengths, withSetups}

@@ -218,7 +218,7 @@ fn device_left(s: State) -> State
     ensures { λ r. ⌜ Alone M.departs s r ⌝ }
 {
     let mut next = s;
-    next.port.running = false;
+    next.port.was_running = false;
     fresh(record::enter(next, Phase::Vbus))
 }
 
@@ -231,10 +231,10 @@ pub fn left_step(s: State, running: bool, device_stack: bool) -> State
     }
     if running {
         let mut next = s;
-        next.port.running = true;
+        next.port.was_running = true;
         return next;
     }
-    if s.port.running {
+    if s.port.was_running {
         return device_left(s);
     }
     s

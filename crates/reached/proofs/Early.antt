@@ -30,7 +30,7 @@ use Rattle.reached.proofs.Opening.{if-true, if-false, when-true, when-f
 
 -- a phase begins
 abbrev pub entered : Phase → Stand → Stand
-entered q k = record { phase = q; on = k .on; waiting = k .waiting; uf = k .uf; t = k .uf; gone = k .gone; suspended = k .suspended; running = k .running }
+entered q k = record { phase = q; on = k .on; waiting = k .waiting; uf = k .uf; t = k .uf; gone = k .gone; suspended = k .suspended; wasRunning = k .wasRunning }
 
 abbrev pub enteredHeld : Phase → Held → Held
 enteredHeld q k = record { stand = entered q (k .stand); queue = k .queue }
@@ -57,7 +57,7 @@ waits-powers v e = when-false (λ w. true && longer 400 w) _ v e
 abbrev pub asking : Held → Held
 asking k =
     record {
-      stand = record { phase = k .stand .phase; on = k .stand .on; waiting = k .stand .waiting + 4; uf = k .stand .uf; t = k .stand .t; gone = k .stand .gone; suspended = k .stand .suspended; running = k .stand .running };
+      stand = record { phase = k .stand .phase; on = k .stand .on; waiting = k .stand .waiting + 4; uf = k .stand .uf; t = k .stand .t; gone = k .stand .gone; suspended = k .stand .suspended; wasRunning = k .stand .wasRunning };
       queue = sets (k .queue) (8 * k .stand .waiting) firstSetups;
     }
 
@@ -84,21 +84,21 @@ waits-resets v e =
 abbrev pub postedHeld : Held → Held
 postedHeld k =
     record {
-      stand = record { phase = k .stand .phase; on = true; waiting = k .stand .waiting - 1; uf = k .stand .uf; t = k .stand .t; gone = k .stand .gone; suspended = k .stand .suspended; running = k .stand .running };
+      stand = record { phase = k .stand .phase; on = true; waiting = k .stand .waiting - 1; uf = k .stand .uf; t = k .stand .t; gone = k .stand .gone; suspended = k .stand .suspended; wasRunning = k .stand .wasRunning };
       queue = drained (k .queue) (8 * k .stand .waiting) 8;
     }
 
 abbrev pub onHeld : Bool → Held → Held
 onHeld b k =
     record {
-      stand = record { phase = k .stand .phase; on = b; waiting = k .stand .waiting; uf = k .stand .uf; t = k .stand .t; gone = k .stand .gone; suspended = k .stand .suspended; running = k .stand .running };
+      stand = record { phase = k .stand .phase; on = b; waiting = k .stand .waiting; uf = k .stand .uf; t = k .stand .t; gone = k .stand .gone; suspended = k .stand .suspended; wasRunning = k .stand .wasRunning };
       queue = k .queue;
     }
 
 abbrev poppedHeld : Held → Held
 poppedHeld k =
     record {
-      stand = record { phase = k .stand .phase; on = k .stand .on; waiting = k .stand .waiting - 1; uf = k .stand .uf; t = k .stand .t; gone = k .stand .gone; suspended = k .stand .suspended; running = k .stand .running };
+      stand = record { phase = k .stand .phase; on = k .stand .on; waiting = k .stand .waiting - 1; uf = k .stand .uf; t = k .stand .t; gone = k .stand .gone; suspended = k .stand .suspended; wasRunning = k .stand .wasRunning };
       queue = drained (k .queue) (8 * k .stand .waiting) 8;
     }
 
@@ -132,7 +132,7 @@ held-unstalls v = fields-then held _ _ v ∙ keeps-page held _ _ ∙ held-drops 
 abbrev pub streamingHeld : Held → Held
 streamingHeld k =
     record {
-      stand = record { phase = Stream; on = k .stand .on; waiting = k .stand .waiting; uf = k .stand .uf; t = k .stand .t; gone = k .stand .gone; suspended = k .stand .suspended; running = k .stand .running };
+      stand = record { phase = Stream; on = k .stand .on; waiting = k .stand .waiting; uf = k .stand .uf; t = k .stand .t; gone = k .stand .gone; suspended = k .stand .suspended; wasRunning = k .stand .wasRunning };
       queue = k .queue;
     }
 

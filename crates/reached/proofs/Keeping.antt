@@ -8,8 +8,8 @@ use Rattle.dtd.specs.Dtd.{Run}
 use Rattle.record.specs.declared.Settings.{Settings}
 use Rattle.record.specs.Change.{Step}
 use Rattle.model.specs.Phases.{sleeps, startsFrame}
-use Rattle.model.specs.Streams.{naks, reads, readsMidi, drainsSerial, serves, drainsMidi, writesMidi, readsVendor}
-use Rattle.model.specs.Audio.{addsBudget, clearsBudget, keepsFrames, keepsGood, keepsBlock, keepsBlocks, keepsRun, inputs, hears, sendsBlock, unprimes, outputs, streams}
+use Rattle.model.specs.Streams.{naks, reads, midiIn, drainsSerial, serialStep, drainsMidi, midiOut, readsVendor}
+use Rattle.model.specs.Audio.{addsBudget, clearsBudget, keepsFrames, keepsGood, keepsBlock, keepsBlocks, keepsRun, inputs, streamIn, sendsBlock, unprimes, streamOut, streams}
 use Rattle.model.specs.Microframe.{others, transfers}
 use Rattle.model.proofs.Fields.{Keeps, keeps-then, keeps-if, keeps-nothing, keeps-one, keeps-bus, keeps-page, keeps-runs, keeps-here}
 use Rattle.reached.proofs.Standing.{held}
@@ -41,8 +41,8 @@ keeps-naks : Keeps held naks
 unfolding naks
 keeps-naks = search keeps-rules
 
-keeps-midi : (asleep : Bool) (every : ℕ) → Keeps held (readsMidi asleep every)
-unfolding readsMidi
+keeps-midi : (asleep : Bool) (every : ℕ) → Keeps held (midiIn asleep every)
+unfolding midiIn
 keeps-midi true every = keeps-sleeps
 keeps-midi false every = search (keeps-rules, keeps-naks, keeps-reads) depth 8
 
@@ -50,16 +50,16 @@ keeps-serial : (n : ℕ) → Keeps held (drainsSerial n)
 unfolding drainsSerial
 keeps-serial n = search keeps-rules depth 8
 
-keeps-serves : Keeps held serves
-unfolding serves
+keeps-serves : Keeps held serialStep
+unfolding serialStep
 keeps-serves = search (keeps-rules, keeps-serial) depth 8
 
 keeps-drains : (n : ℕ) → Keeps held (drainsMidi n)
 unfolding drainsMidi
 keeps-drains n = search keeps-rules depth 8
 
-keeps-writes : Keeps held writesMidi
-unfolding writesMidi
+keeps-writes : Keeps held midiOut
+unfolding midiOut
 keeps-writes = search (keeps-rules, keeps-drains)
 
 keeps-vendor : Keeps held readsVendor
@@ -110,8 +110,8 @@ keeps-inputs : Keeps held inputs
 unfolding inputs
 keeps-inputs = search (keeps-rules, keeps-run)
 
-keeps-hears : Keeps held hears
-unfolding hears
+keeps-hears : Keeps held streamIn
+unfolding streamIn
 keeps-hears = search (keeps-rules, keeps-adds, keeps-clears, keeps-inputs)
 
 keeps-sends : (bs : List ℕ) → Keeps held (sendsBlock bs)
@@ -122,8 +122,8 @@ keeps-unprimes : Keeps held unprimes
 unfolding unprimes
 keeps-unprimes = search keeps-rules
 
-keeps-outputs : Keeps held outputs
-unfolding outputs
+keeps-outputs : Keeps held streamOut
+unfolding streamOut
 keeps-outputs = search (keeps-rules, keeps-sends, keeps-unprimes)
 
 keeps-streams : Keeps held streams

@@ -14,6 +14,7 @@ use Rattle.record.specs.declared.Phase.{Phase}
 use Rattle.bounds.specs.Bounds.{MOST}
 use Rattle.model.specs.Microframe.{rsSet, goneAt, asleepAt, opens, frameOf, byPhase, atPhase, microframe}
 use Rattle.model.proofs.Fields.{keeps-nothing}
+use Rattle.model.proofs.History.{four}
 use Rattle.model.specs.Reach.{toPhase, phaseBy}
 use Rattle.reached.proofs.Standing.{Stand, Held, heldOf, held}
 
@@ -33,13 +34,6 @@ unfolding nothing
 when-false t f w e = if-false t f nothing w e
 
 -- ---- the microframe up to the choice by phase
-
-four : (a b c d : Step) (w : World) → left (a then b then c then d) w ≡ left d (left (a then b then c) w)
-four a b c d w =
-    exec-then apply a (b then c then d) w
-    ∙ exec-then apply b (c then d) (left a w)
-    ∙ exec-then apply c d (left b (left a w))
-    ∙ ap (left d) (sym (exec-then apply a (b then c) w ∙ exec-then apply b c (left a w)))
 
 by-tests : (t : ℕ) (rs g s : Bool) (w : World) → g ≡ false → s ≡ false → left (frameOf (w .settings) t rs g s) w ≡ left (byPhase (w .settings) t rs) (phaseBy rs w)
 unfolding frameOf phaseBy toPhase
@@ -82,7 +76,7 @@ phase-plain rs w e f g =
 -- one microframe more, and RS seen by a device stack
 abbrev pub opened : Bool → Stand → Stand
 opened stack k =
-    record { phase = k .phase; on = k .on; waiting = k .waiting; uf = k .uf + 1; t = k .t; gone = k .gone; suspended = k .suspended; running = pick stack true (k .running) }
+    record { phase = k .phase; on = k .on; waiting = k .waiting; uf = k .uf + 1; t = k .t; gone = k .gone; suspended = k .suspended; wasRunning = pick stack true (k .wasRunning) }
 
 abbrev pub openedHeld : Bool → Held → Held
 openedHeld stack k = record { stand = opened stack (k .stand); queue = k .queue }
@@ -101,7 +95,7 @@ pub record Plain (t : ℕ) (w : World) : Type 0 where
 abbrev pub counting : ℕ → Held → Held
 counting n k =
     record {
-      stand = record { phase = k .stand .phase; on = k .stand .on; waiting = k .stand .waiting; uf = n; t = k .stand .t; gone = k .stand .gone; suspended = k .stand .suspended; running = k .stand .running };
+      stand = record { phase = k .stand .phase; on = k .stand .on; waiting = k .stand .waiting; uf = n; t = k .stand .t; gone = k .stand .gone; suspended = k .stand .suspended; wasRunning = k .stand .wasRunning };
       queue = k .queue;
     }
 
@@ -112,11 +106,11 @@ held-counts w = refl
 abbrev pub seeing : Bool → Held → Held
 seeing b k =
     record {
-      stand = record { phase = k .stand .phase; on = k .stand .on; waiting = k .stand .waiting; uf = k .stand .uf; t = k .stand .t; gone = k .stand .gone; suspended = k .stand .suspended; running = b };
+      stand = record { phase = k .stand .phase; on = k .stand .on; waiting = k .stand .waiting; uf = k .stand .uf; t = k .stand .t; gone = k .stand .gone; suspended = k .stand .suspended; wasRunning = b };
       queue = k .queue;
     }
 
-pub held-leaves : (stack : Bool) (v : World) → heldOf (left (leaves stack true) v) ≡ seeing (pick stack true (v .state .port .running)) (heldOf v)
+pub held-leaves : (stack : Bool) (v : World) → heldOf (left (leaves stack true) v) ≡ seeing (pick stack true (v .state .port .«was_running»)) (heldOf v)
 unfolding leaves one apply
 held-leaves true v = refl
 held-leaves false v = keeps-nothing held v
@@ -128,11 +122,11 @@ module _ (t : ℕ) (w : World) (p : Plain t w) where
       let more : wrapped (w .state .port .uf + 1) ≡ w .state .port .uf + 1 = omega arith in
       ap heldOf (phase-plain true w (p .midi) (p .still) (p .woken))
       ∙ held-leaves (w .settings .«device_stack») (left counts w)
-      ∙ ap (λ (k : Held). seeing (pick (w .settings .«device_stack») true (k .stand .running)) k) (held-counts w)
+      ∙ ap (λ (k : Held). seeing (pick (w .settings .«device_stack») true (k .stand .wasRunning)) k) (held-counts w)
       ∙ ap (λ (n : ℕ). openedAt n) more
     where
       openedAt : ℕ → Held
-      openedAt n = seeing (pick (w .settings .«device_stack») true (w .state .port .running)) (counting n (heldOf w))
+      openedAt n = seeing (pick (w .settings .«device_stack») true (w .state .port .«was_running»)) (counting n (heldOf w))
 
   pub frame-in : (q : Phase) → w .state .phase ≡ q → left (microframe t) w ≡ left (atPhase (w .settings) t true q) (phaseBy true w)
   unfolding byPhase here

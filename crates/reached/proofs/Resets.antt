@@ -5,6 +5,7 @@ use mathlib.Core.Bool.{Bool, true, false, not, _&&_}
 use mathlib.Core.List.{[], _∷_}
 use native.Mathlib.Omega.{arith}
 use lib.Dec.{leb}
+use Rattle.bits.proofs.Tests.{and-false}
 use Rattle.bits.specs.Pick.{pick}
 use Rattle.bits.specs.Word.{any}
 use Rattle.bus.specs.Memory.{Memory}
@@ -34,10 +35,6 @@ use Rattle.reached.proofs.Early.{enteredHeld, held-idles}
 use Rattle.reached.proofs.Summed.{Tested, played, tested-tally}
 use Rattle.reached.proofs.Leading.{Fit, Long, Queue, Enters, Goes, Leads, leads-one}
 use Rattle.reached.proofs.Waits.{standing, seen-is}
-
-and-false : (a : Bool) → (a && false) ≡ false
-and-false true = refl
-and-false false = refl
 
 -- ---- the tests of the sums, where the stream is not reached
 
@@ -75,7 +72,7 @@ tested-back t w e f =
         ∙ and-false (not (goneAt t w))
 
 -- the firmware left the bus: a reset
-tested-left : (t : ℕ) (w : World) → goneAt t w ≡ false → asleepAt t w ≡ false → rsSet w ≡ false → w .settings .«device_stack» ≡ true → w .state .port .running ≡ true → w .state .port .gone ≡ false
+tested-left : (t : ℕ) (w : World) → goneAt t w ≡ false → asleepAt t w ≡ false → rsSet w ≡ false → w .settings .«device_stack» ≡ true → w .state .port .«was_running» ≡ true → w .state .port .gone ≡ false
     → Tested t w true false 0 false
 unfolding leftBy outputBy
 tested-left t w e₁ e₂ e₃ e₄ e₅ e₆ = unreached t w true out (λ g. ap (λ (b : Bool). pick b none (pick (comesBack t w) none g)) went)
@@ -83,7 +80,7 @@ tested-left t w e₁ e₂ e₃ e₄ e₅ e₆ = unreached t w true out (λ g. ap
     went : deviceLeft t w ≡ true
     went =
         ap₂ (λ (a b : Bool). leftBy (rsSet w) a b w) e₁ e₂
-        ∙ ap (λ (b : Bool). not b && (w .settings .«device_stack» && w .state .port .running)) e₃
+        ∙ ap (λ (b : Bool). not b && (w .settings .«device_stack» && w .state .port .«was_running»)) e₃
         ∙ ap₂ (λ (a b : Bool). a && b) e₄ e₅
 
     out : reachesOutput t w ≡ false
@@ -96,7 +93,7 @@ tested-left t w e₁ e₂ e₃ e₄ e₅ e₆ = unreached t w true out (λ g. ap
 abbrev goneHeld : Held → Held
 goneHeld k =
     record {
-      stand = record { phase = k .stand .phase; on = k .stand .on; waiting = k .stand .waiting; uf = k .stand .uf; t = k .stand .t; gone = true; suspended = k .stand .suspended; running = k .stand .running };
+      stand = record { phase = k .stand .phase; on = k .stand .on; waiting = k .stand .waiting; uf = k .stand .uf; t = k .stand .t; gone = true; suspended = k .stand .suspended; wasRunning = k .stand .wasRunning };
       queue = k .queue;
     }
 
@@ -138,7 +135,7 @@ frame-gone t w e f g few =
 abbrev freshHeld : Held → Held
 freshHeld k =
     record {
-      stand = record { phase = Idle; on = false; waiting = 0; uf = k .stand .uf; t = k .stand .t; gone = false; suspended = k .stand .suspended; running = k .stand .running };
+      stand = record { phase = Idle; on = false; waiting = 0; uf = k .stand .uf; t = k .stand .t; gone = false; suspended = k .stand .suspended; wasRunning = k .stand .wasRunning };
       queue = k .queue;
     }
 
@@ -158,7 +155,7 @@ opens-back c w e f =
     ∙ ap freshHeld (held-counts w)
 
 phase-back : (w : World) → w .settings .«midi_in» ≡ false → w .state .port .gone ≡ true → w .state .port .suspended ≡ false → w .state .port .uf < MOST
-    → heldOf (phaseBy true w) ≡ seeing (pick (w .settings .«device_stack») true (w .state .port .running)) (freshHeld (counting (w .state .port .uf + 1) (heldOf w)))
+    → heldOf (phaseBy true w) ≡ seeing (pick (w .settings .«device_stack») true (w .state .port .«was_running»)) (freshHeld (counting (w .state .port .uf + 1) (heldOf w)))
 unfolding phaseBy toPhase suspends
 phase-back w e f g few =
     let c = w .settings in
@@ -169,12 +166,12 @@ phase-back w e f g few =
     ∙ fields-then held (suspends false) (leaves (c .«device_stack») true) o
     ∙ ap (λ (v : World). heldOf (left (leaves (c .«device_stack») true) v)) (when-false (λ v. v .state .port .suspended) _ o (ap (λ (k : Held). k .stand .suspended) back ∙ g))
     ∙ held-leaves (c .«device_stack») o
-    ∙ ap (λ (k : Held). seeing (pick (c .«device_stack») true (k .stand .running)) k) back
+    ∙ ap (λ (k : Held). seeing (pick (c .«device_stack») true (k .stand .wasRunning)) k) back
 
 -- it is Idle, and so in Vbus once the microframe ends
 frame-back : (t : ℕ) (w : World) → goneAt t w ≡ false → asleepAt t w ≡ false → rsSet w ≡ true → w .settings .«midi_in» ≡ false → w .state .port .gone ≡ true → w .state .port .suspended ≡ false
     → w .state .port .uf < MOST
-    → heldOf (left (M.microframe t) w) ≡ enteredHeld Vbus (seeing (pick (w .settings .«device_stack») true (w .state .port .running)) (freshHeld (counting (w .state .port .uf + 1) (heldOf w))))
+    → heldOf (left (M.microframe t) w) ≡ enteredHeld Vbus (seeing (pick (w .settings .«device_stack») true (w .state .port .«was_running»)) (freshHeld (counting (w .state .port .uf + 1) (heldOf w))))
 unfolding byPhase here
 frame-back t w e₁ e₂ e₃ e₄ e₅ e₆ few =
     let v = phaseBy true w in
@@ -188,7 +185,7 @@ frame-back t w e₁ e₂ e₃ e₄ e₅ e₆ few =
 abbrev partedHeld : Held → Held
 partedHeld k =
     record {
-      stand = record { phase = Vbus; on = false; waiting = 0; uf = k .stand .uf; t = k .stand .uf; gone = k .stand .gone; suspended = k .stand .suspended; running = false };
+      stand = record { phase = Vbus; on = false; waiting = 0; uf = k .stand .uf; t = k .stand .uf; gone = k .stand .gone; suspended = k .stand .suspended; wasRunning = false };
       queue = k .queue;
     }
 
@@ -196,9 +193,9 @@ held-departs : (v : World) → heldOf (left departs v) ≡ partedHeld (heldOf v)
 unfolding departs enters forgets dropsRequest andThen one apply
 held-departs v = refl
 
-parts : (stack : Bool) (v : World) → stack ≡ true → v .state .port .running ≡ true → heldOf (left (leaves stack false) v) ≡ partedHeld (heldOf v)
+parts : (stack : Bool) (v : World) → stack ≡ true → v .state .port .«was_running» ≡ true → heldOf (left (leaves stack false) v) ≡ partedHeld (heldOf v)
 unfolding leaves
-parts true v e f = ap heldOf (when-true (λ x. x .state .port .running) departs v f) ∙ held-departs v
+parts true v e f = ap heldOf (when-true (λ x. x .state .port .«was_running») departs v f) ∙ held-departs v
 parts false v e f = let z : _≡_ {A = ℕ} 0 1 = cc in absurd (omega arith)
 
 waits-powers : (v : World) → left (powers false) v ≡ v
@@ -206,7 +203,7 @@ unfolding powers
 waits-powers v = when-false (λ x. false && longer 400 x) _ v refl
 
 frame-left : (t : ℕ) (w : World) → goneAt t w ≡ false → asleepAt t w ≡ false → rsSet w ≡ false → w .settings .«midi_in» ≡ false → w .settings .«device_stack» ≡ true
-    → w .state .port .gone ≡ false → w .state .port .suspended ≡ false → w .state .port .running ≡ true → w .state .port .uf < MOST
+    → w .state .port .gone ≡ false → w .state .port .suspended ≡ false → w .state .port .«was_running» ≡ true → w .state .port .uf < MOST
     → heldOf (left (M.microframe t) w) ≡ partedHeld (counting (w .state .port .uf + 1) (heldOf w))
 unfolding byPhase here
 frame-left t w e₁ e₂ e₃ e₄ e₅ e₆ e₇ e₈ few =
@@ -214,7 +211,7 @@ frame-left t w e₁ e₂ e₃ e₄ e₅ e₆ e₇ e₈ few =
     let more : wrapped (w .state .port .uf + 1) ≡ w .state .port .uf + 1 = omega arith in
     let parted : heldOf v ≡ partedHeld (counting (w .state .port .uf + 1) (heldOf w)) =
     ap heldOf (phase-plain false w e₄ e₆ e₇)
-    ∙ parts (w .settings .«device_stack») (left counts w) e₅ (ap (λ (k : Held). k .stand .running) (held-counts w) ∙ e₈)
+    ∙ parts (w .settings .«device_stack») (left counts w) e₅ (ap (λ (k : Held). k .stand .wasRunning) (held-counts w) ∙ e₈)
     ∙ ap partedHeld (held-counts w ∙ ap (λ (n : ℕ). counting n (heldOf w)) more) in
     ap heldOf (frame-plain t w e₁ e₂ ∙ ap (λ (b : Bool). left (byPhase (w .settings) t b) (phaseBy b w)) e₃)
     ∙ ap (λ (x : Phase). heldOf (left (atPhase (w .settings) t false x) v)) (ap (λ (k : Held). k .stand .phase) parted)
@@ -232,7 +229,7 @@ module _ (c : Settings) (a : Areas) (long : Long a) (few : leb (c .spans) 16 ≡
 
   -- in the stream, and gone
   abbrev pub Gone : ℕ → Stand
-  Gone n = record { phase = q; on = false; waiting = 0; uf = n; t = s; gone = true; suspended = false; running = stack }
+  Gone n = record { phase = q; on = false; waiting = 0; uf = n; t = s; gone = true; suspended = false; wasRunning = stack }
 
   of-settings : {X : Type 0} (f : Settings → X) {k : Stand} {w : World} → Enters c k m w → f (w .settings) ≡ f c
   of-settings f e = ap f (e .settings)
@@ -263,10 +260,10 @@ module _ (c : Settings) (a : Areas) (long : Long a) (few : leb (c .spans) 16 ≡
       leads-one c a long few t m fit (Gone u) early (standing Vbus false 0 (u + 1) (u + 1) stack) y (played true false 0 false y) (λ w e.
       let spans : goneAt t w ≡ false = of-settings (λ x. anySpan (x .gone) 0 (x .spans) t) e ∙ near in
       let away : w .state .port .gone ≡ true = ap (λ (x : Stand). x .gone) (e .stands) in
-      goes (Gone u) (standing Vbus false 0 (u + 1) (u + 1) stack) true y (λ k. enteredHeld Vbus (seeing (pick stack true (k .stand .running)) (freshHeld (counting (k .stand .uf + 1) k)))) w e
+      goes (Gone u) (standing Vbus false 0 (u + 1) (u + 1) stack) true y (λ k. enteredHeld Vbus (seeing (pick stack true (k .stand .wasRunning)) (freshHeld (counting (k .stand .uf + 1) k)))) w e
       (frame-back t w spans (of-settings (λ x. within (x .suspend) t) e ∙ awake) (ap (λ (x : Memory). any (wordAt (x .page) USBCMD) 1) (e .memory) ∙ set)
       (of-settings (λ x. x .«midi_in») e ∙ midi) away (ap (λ (x : Stand). x .suspended) (e .stands)) (omega (arith, ap (λ (x : Stand). x .uf) (e .stands), early))
-      ∙ ap (λ (b : Bool). enteredHeld Vbus (seeing (pick b true (w .state .port .running)) (freshHeld (counting (w .state .port .uf + 1) (heldOf w))))) (of-settings (λ x. x .«device_stack») e))
+      ∙ ap (λ (b : Bool). enteredHeld Vbus (seeing (pick b true (w .state .port .«was_running»)) (freshHeld (counting (w .state .port .uf + 1) (heldOf w))))) (of-settings (λ x. x .«device_stack») e))
       (ap (λ (b : Bool). record { stand = standing Vbus false 0 (u + 1) (u + 1) b; queue = w .setups }) (seen-is stack))
       (tested-back t w spans away))
 
@@ -280,7 +277,7 @@ module _ (c : Settings) (a : Areas) (long : Long a) (few : leb (c .spans) 16 ≡
       let rs : rsSet w ≡ false = ap (λ (x : Memory). any (wordAt (x .page) USBCMD) 1) (e .memory) ∙ clear in
       let device : w .settings .«device_stack» ≡ true = of-settings (λ x. x .«device_stack») e ∙ has in
       let still : w .state .port .gone ≡ false = ap (λ (x : Stand). x .gone) (e .stands) in
-      let ran : w .state .port .running ≡ true = ap (λ (x : Stand). x .running) (e .stands) ∙ has in
+      let ran : w .state .port .«was_running» ≡ true = ap (λ (x : Stand). x .wasRunning) (e .stands) ∙ has in
       goes (standing q false 0 u s stack) (standing Vbus false 0 (u + 1) (u + 1) false) true y (λ k. partedHeld (counting (k .stand .uf + 1) k)) w e
       (frame-left t w spans woken rs (of-settings (λ x. x .«midi_in») e ∙ midi) device still (ap (λ (x : Stand). x .suspended) (e .stands)) ran (omega (arith, ap (λ (x : Stand). x .uf) (e .stands), early)))
       refl

@@ -7,7 +7,7 @@ use lib.ListN.{length, take}
 use lib.Seq.{sets}
 use Rattle.record.specs.declared.Phase.{Phase}
 use Rattle.record.specs.World.{World}
-use Rattle.record.specs.Change.{Change, bus, ran, lost, count, uf, phase, started, gone, suspended, running, credit, budget, counter, block, timers, control, queued, popped, pushed, cleared, reply, device, config, forgot, midi, serial, received, frame, taken, apply, drained}
+use Rattle.record.specs.Change.{Change, bus, ran, lost, count, uf, phase, started, gone, suspended, wasRunning, credit, budget, counter, block, timers, control, queued, popped, pushed, cleared, reply, device, config, forgot, midi, serial, received, frame, taken, apply, drained}
 use Rattle.model.proofs.Fields.{Fields}
 
 -- on: a request runs; waiting: how many setups wait; t: the phase's start
@@ -19,7 +19,7 @@ pub record Stand : Type 0 where
   pub t : ℕ
   pub gone : Bool
   pub suspended : Bool
-  pub running : Bool
+  pub wasRunning : Bool
 
 -- and the array of setups
 pub record Held : Type 0 where
@@ -36,7 +36,7 @@ standOf w =
       t = w .state .port .t;
       gone = w .state .port .gone;
       suspended = w .state .port .suspended;
-      running = w .state .port .running;
+      wasRunning = w .state .port .«was_running»;
     }
 
 abbrev pub heldOf : World → Held
@@ -47,22 +47,22 @@ heldOn (bus s) k = k
 heldOn (ran e r n) k = k
 heldOn (lost n) k = k
 heldOn (count c n) k = k
-heldOn (uf n) k = record { stand = record { phase = k .stand .phase; on = k .stand .on; waiting = k .stand .waiting; uf = n; t = k .stand .t; gone = k .stand .gone; suspended = k .stand .suspended; running = k .stand .running }; queue = k .queue }
-heldOn (phase p) k = record { stand = record { phase = p; on = k .stand .on; waiting = k .stand .waiting; uf = k .stand .uf; t = k .stand .t; gone = k .stand .gone; suspended = k .stand .suspended; running = k .stand .running }; queue = k .queue }
-heldOn (started n) k = record { stand = record { phase = k .stand .phase; on = k .stand .on; waiting = k .stand .waiting; uf = k .stand .uf; t = n; gone = k .stand .gone; suspended = k .stand .suspended; running = k .stand .running }; queue = k .queue }
-heldOn (gone b) k = record { stand = record { phase = k .stand .phase; on = k .stand .on; waiting = k .stand .waiting; uf = k .stand .uf; t = k .stand .t; gone = b; suspended = k .stand .suspended; running = k .stand .running }; queue = k .queue }
-heldOn (suspended b) k = record { stand = record { phase = k .stand .phase; on = k .stand .on; waiting = k .stand .waiting; uf = k .stand .uf; t = k .stand .t; gone = k .stand .gone; suspended = b; running = k .stand .running }; queue = k .queue }
-heldOn (running b) k = record { stand = record { phase = k .stand .phase; on = k .stand .on; waiting = k .stand .waiting; uf = k .stand .uf; t = k .stand .t; gone = k .stand .gone; suspended = k .stand .suspended; running = b }; queue = k .queue }
+heldOn (uf n) k = record { stand = record { phase = k .stand .phase; on = k .stand .on; waiting = k .stand .waiting; uf = n; t = k .stand .t; gone = k .stand .gone; suspended = k .stand .suspended; wasRunning = k .stand .wasRunning }; queue = k .queue }
+heldOn (phase p) k = record { stand = record { phase = p; on = k .stand .on; waiting = k .stand .waiting; uf = k .stand .uf; t = k .stand .t; gone = k .stand .gone; suspended = k .stand .suspended; wasRunning = k .stand .wasRunning }; queue = k .queue }
+heldOn (started n) k = record { stand = record { phase = k .stand .phase; on = k .stand .on; waiting = k .stand .waiting; uf = k .stand .uf; t = n; gone = k .stand .gone; suspended = k .stand .suspended; wasRunning = k .stand .wasRunning }; queue = k .queue }
+heldOn (gone b) k = record { stand = record { phase = k .stand .phase; on = k .stand .on; waiting = k .stand .waiting; uf = k .stand .uf; t = k .stand .t; gone = b; suspended = k .stand .suspended; wasRunning = k .stand .wasRunning }; queue = k .queue }
+heldOn (suspended b) k = record { stand = record { phase = k .stand .phase; on = k .stand .on; waiting = k .stand .waiting; uf = k .stand .uf; t = k .stand .t; gone = k .stand .gone; suspended = b; wasRunning = k .stand .wasRunning }; queue = k .queue }
+heldOn (wasRunning b) k = record { stand = record { phase = k .stand .phase; on = k .stand .on; waiting = k .stand .waiting; uf = k .stand .uf; t = k .stand .t; gone = k .stand .gone; suspended = k .stand .suspended; wasRunning = b }; queue = k .queue }
 heldOn (credit n) k = k
 heldOn (budget n) k = k
 heldOn (counter n) k = k
 heldOn (block n m) k = k
 heldOn (timers ts) k = k
-heldOn (control c) k = record { stand = record { phase = k .stand .phase; on = c .on; waiting = k .stand .waiting; uf = k .stand .uf; t = k .stand .t; gone = k .stand .gone; suspended = k .stand .suspended; running = k .stand .running }; queue = k .queue }
-heldOn (queued bs) k = record { stand = record { phase = k .stand .phase; on = k .stand .on; waiting = k .stand .waiting + length bs / 8; uf = k .stand .uf; t = k .stand .t; gone = k .stand .gone; suspended = k .stand .suspended; running = k .stand .running }; queue = sets (k .queue) (8 * k .stand .waiting) bs }
-heldOn popped k = record { stand = record { phase = k .stand .phase; on = k .stand .on; waiting = k .stand .waiting - 1; uf = k .stand .uf; t = k .stand .t; gone = k .stand .gone; suspended = k .stand .suspended; running = k .stand .running }; queue = drained (k .queue) (8 * k .stand .waiting) 8 }
-heldOn (pushed bs) k = record { stand = record { phase = k .stand .phase; on = k .stand .on; waiting = k .stand .waiting + 1; uf = k .stand .uf; t = k .stand .t; gone = k .stand .gone; suspended = k .stand .suspended; running = k .stand .running }; queue = sets (k .queue) 0 (bs ++ take (8 * k .stand .waiting) (k .queue)) }
-heldOn cleared k = record { stand = record { phase = k .stand .phase; on = k .stand .on; waiting = 0; uf = k .stand .uf; t = k .stand .t; gone = k .stand .gone; suspended = k .stand .suspended; running = k .stand .running }; queue = k .queue }
+heldOn (control c) k = record { stand = record { phase = k .stand .phase; on = c .on; waiting = k .stand .waiting; uf = k .stand .uf; t = k .stand .t; gone = k .stand .gone; suspended = k .stand .suspended; wasRunning = k .stand .wasRunning }; queue = k .queue }
+heldOn (queued bs) k = record { stand = record { phase = k .stand .phase; on = k .stand .on; waiting = k .stand .waiting + length bs / 8; uf = k .stand .uf; t = k .stand .t; gone = k .stand .gone; suspended = k .stand .suspended; wasRunning = k .stand .wasRunning }; queue = sets (k .queue) (8 * k .stand .waiting) bs }
+heldOn popped k = record { stand = record { phase = k .stand .phase; on = k .stand .on; waiting = k .stand .waiting - 1; uf = k .stand .uf; t = k .stand .t; gone = k .stand .gone; suspended = k .stand .suspended; wasRunning = k .stand .wasRunning }; queue = drained (k .queue) (8 * k .stand .waiting) 8 }
+heldOn (pushed bs) k = record { stand = record { phase = k .stand .phase; on = k .stand .on; waiting = k .stand .waiting + 1; uf = k .stand .uf; t = k .stand .t; gone = k .stand .gone; suspended = k .stand .suspended; wasRunning = k .stand .wasRunning }; queue = sets (k .queue) 0 (bs ++ take (8 * k .stand .waiting) (k .queue)) }
+heldOn cleared k = record { stand = record { phase = k .stand .phase; on = k .stand .on; waiting = 0; uf = k .stand .uf; t = k .stand .t; gone = k .stand .gone; suspended = k .stand .suspended; wasRunning = k .stand .wasRunning }; queue = k .queue }
 heldOn (reply n bs) k = k
 heldOn (device bs) k = k
 heldOn (config bs) k = k
@@ -84,7 +84,7 @@ held-apply (phase p) w = refl
 held-apply (started n) w = refl
 held-apply (gone b) w = refl
 held-apply (suspended b) w = refl
-held-apply (running b) w = refl
+held-apply (wasRunning b) w = refl
 held-apply (credit n) w = refl
 held-apply (budget n) w = refl
 held-apply (counter n) w = refl

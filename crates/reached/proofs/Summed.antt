@@ -24,13 +24,13 @@ use Rattle.record.proofs.Laws.{replay-bus}
 use Rattle.model.specs.Phases.{startsFrame}
 use Rattle.model.specs.Control.{enumerating, configured, posts, controls}
 use Rattle.model.specs.Streams.{nextTotal, brought}
-use Rattle.model.specs.Audio.{audioIn, audioOut, named, addsBudget, overBudget, clearsBudget, blocksOf, good, keepsFrames, keepsGood, keepsBlock, keepsBlocks, keepsRun, inputs, hears}
+use Rattle.model.specs.Audio.{audioIn, audioOut, named, addsBudget, overBudget, clearsBudget, blocksOf, good, keepsFrames, keepsGood, keepsBlock, keepsBlocks, keepsRun, inputs, streamIn}
 use Rattle.model.specs.Microframe.{rsSet, goneAt, asleepAt, enumerates}
 use Rattle.model.specs.Reach.{streamsIn, outputBy, withinBudget, inputBy, backBy, leftBy, phaseBy, streamBy, paced, reachesOutput, comesBack, deviceLeft, atInput, atOutput, inputReady, outputReady, bytesAt}
 use Rattle.model.specs.Earned.{goodBlocks}
 use Rattle.model.proofs.Fields.{left-runs, ranWorld}
 use Rattle.model.proofs.History.{over-within}
-use Rattle.bits.proofs.Tests.{and-first, and-second}
+use Rattle.bits.proofs.Tests.{and-first, and-second, and-false}
 use Rattle.kept.proofs.Holding.{Holds, holds-then, holds-nothing, holds-one, holds-pick}
 use Rattle.kept.proofs.Every.{on-if}
 use Rattle.history.specs.Sums as S
@@ -45,9 +45,9 @@ use Rattle.reached.proofs.Early.{asked, asked-on, asked-waiting}
 -- r: a reset; h: the input step is reached and ready, and reads n good blocks; o: the output step is reached and ready
 pub record Tested (t : ℕ) (w : World) (r h : Bool) (n : ℕ) (o : Bool) : Type 0 where
   pub fresh : (g : Sums) → reset t w g ≡ pick r none g
-  pub heard : S.hears t w ≡ h
+  pub heard : S.inputReached t w ≡ h
   pub read : (g : Sums) → pick h (receive (readAt w) g) g ≡ pick h (receive (7 * n) g) g
-  pub answers : S.answers t w ≡ o
+  pub answers : S.outputReached t w ≡ o
 
 -- what they make of the sums
 abbrev heardSums : Bool → Bool → ℕ → Sums → Sums
@@ -82,10 +82,6 @@ tested-tally t w r h n o p y =
     ∙ ap (λ (b : Bool). record { since = answer b (heardSums r h n g); ever = pick (b && S.earned (heardSums r h n g)) (send (heardSums false h n e)) (heardSums false h n e) }) (p .answers)
 
 -- ---- no reset
-
-and-false : (a : Bool) → (a && false) ≡ false
-and-false true = refl
-and-false false = refl
 
 module _ (t : ℕ) (w : World) (p : Plain t w) where
   left-not : deviceLeft t w ≡ false
@@ -289,8 +285,8 @@ inputs-memory x =
     ∙ keeps-run _ _ (ranWorld held audioIn [] x) (ran-memory x)
 
 -- the budget is met
-hears-memory : (u : World) → overBudget (left addsBudget u) ≡ false → left hears u .memory ≡ ranMemory (u .memory) (paced u .state .port .line)
-unfolding hears paced
+hears-memory : (u : World) → overBudget (left addsBudget u) ≡ false → left streamIn u .memory ≡ ranMemory (u .memory) (paced u .state .port .line)
+unfolding streamIn paced
 hears-memory u e =
     ap (λ (v : World). v .memory) (exec-then apply addsBudget _ u ∙ if-false overBudget nothing _ (left addsBudget u) e ∙ exec-then apply clearsBudget inputs (left addsBudget u))
     ∙ inputs-memory (paced u)
@@ -314,11 +310,11 @@ module _ (t : ℕ) (w : World) (s : Streams t w) where
   abbrev within : Bool
   within = withinBudget (w .state .audio .budget) (streamBy (rsSet w) w)
 
-  hears-is : S.hears t w ≡ (within && inputReady (atInput w))
+  hears-is : S.inputReached t w ≡ (within && inputReady (atInput w))
   unfolding inputBy
   hears-is = ap (λ (b : Bool). (b && within) && inputReady (atInput w)) (reach-is t w (s .plain) ∙ s .streams)
 
-  answers-is : S.answers t w ≡ outputReady (atOutput w)
+  answers-is : S.outputReached t w ≡ outputReady (atOutput w)
   answers-is = ap (λ (b : Bool). b && outputReady (atOutput w)) (reach-is t w (s .plain) ∙ s .streams)
 
   ready-is : inputReady (atInput w) ≡ readyIn seen
@@ -327,7 +323,7 @@ module _ (t : ℕ) (w : World) (s : Streams t w) where
 
   output-memory : withinBudget (streamBy true w .state .audio .budget) (streamBy true w) ≡ true → atOutput w .memory ≡ ranMemory seen (paced (streamBy true w) .state .port .line)
   output-memory e =
-      ap (λ (b : Bool). left hears (streamBy b w) .memory) (s .plain .rs)
+      ap (λ (b : Bool). left streamIn (streamBy b w) .memory) (s .plain .rs)
       ∙ hears-memory (streamBy true w) (over-within (streamBy true w) ∙ ap not e)
       ∙ ap (λ (m : Memory). ranMemory m (paced (streamBy true w) .state .port .line)) (stream-memory t w s)
 
@@ -355,7 +351,7 @@ module _ (t : ℕ) (w : World) (s : Streams t w) where
     at-entry : within ≡ true
     at-entry = ap (λ (b : Bool). withinBudget (w .state .audio .budget) (streamBy b w)) (s .plain .rs) ∙ within-small _ (streamBy true w) few asks
 
-    pub hears-brings : S.hears t w ≡ true
+    pub hears-brings : S.inputReached t w ≡ true
     hears-brings = hears-is ∙ ap₂ _&&_ at-entry (ready-is ∙ e)
 
     pub reads-brings : bytesAt (atInput w) ≡ bytesRead seen

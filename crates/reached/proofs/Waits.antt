@@ -44,7 +44,7 @@ pub record Calm (c : Settings) (t : ℕ) : Type 0 where
 -- a host that is neither gone nor suspended
 abbrev pub standing : Phase → Bool → ℕ → ℕ → ℕ → Bool → Stand
 standing q on n uf t r =
-    record { phase = q; on = on; waiting = n; uf = uf; t = t; gone = false; suspended = false; running = r }
+    record { phase = q; on = on; waiting = n; uf = uf; t = t; gone = false; suspended = false; wasRunning = r }
 
 pub seen-is : (stack : Bool) → pick stack true stack ≡ stack
 seen-is true = refl

@@ -13,7 +13,7 @@ use Rattle.usbhost.specs.Host.{newHost, created}
 use Rattle.usbhost.specs.Frame.{Lent, worldOf, lengthsOk}
 use Rattle.history.specs.Calls.{Call, after}
 use Rattle.history.specs.Sums as S
-use Rattle.history.specs.Sums.{Sums, none, hears, tally}
+use Rattle.history.specs.Sums.{Sums, none, inputReached, tally}
 use Rattle.reached.specs.Lists.{Areas, lend, words, blockAt400, primedPage, plain, withStack, withSpan, toStream, inAndOut, inAndOutAtOnce, badBlock, rewritten, oneBlock, goneAndBack, goneAndAgain, runBitCleared}
 
 -- areas and static memory that every microframe accepts, and bytes in those where bytes are
@@ -44,7 +44,7 @@ pub record Ends (c : Settings) (cs : List Call) (since ever : Sums) (credit : �
 
 -- the microframe that comes next reaches its input step, whose endpoint is ready, and reads these blocks
 pub record Hears (c : Settings) (cs : List Call) (l : Lent) (blocks : List (List ℕ)) : Type 0 where
-  pub heard : hears 0 (worldOf (after (newHost c) cs) l) ≡ true
+  pub heard : inputReached 0 (worldOf (after (newHost c) cs) l) ≡ true
   pub read : blocksOf (bytesAt (atInput (worldOf (after (newHost c) cs) l))) ≡ blocks
 
 pub record Reached (a : Areas) (f : List ℕ) : Type 0 where

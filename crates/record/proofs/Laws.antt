@@ -3,8 +3,10 @@ use Prim.Native.Nat.{ℕ, _+_}
 use mathlib.Core.Bool.{Bool, true, false}
 use mathlib.Core.List.{List, [], _∷_, _++_, map}
 use mathlib.Core.Path.{_≡_, refl, sym, ap, _∙_}
+use native.Mathlib.Omega.{arith}
+use lib.ListN.{getD}
 use Rattle.bits.specs.Pick.{pick}
-use Rattle.bus.specs.Memory.{Memory, memory}
+use Rattle.bus.specs.Memory.{Memory, memory, word}
 use Rattle.bus.specs.Steps.{replay, replay-append, exec, exec-then, exec-choose}
 use Rattle.bus.specs.Stores as S
 use Rattle.bus.specs.Stores.{Bus, Store, store, stored, droppedBy, BusStep, Does}
@@ -15,6 +17,7 @@ use Rattle.dtd.specs.Promises.{Runs, running}
 use Rattle.dtd.specs.declared.Ran.{Ran}
 use Rattle.record.specs.declared.State.{State}
 use Rattle.record.specs.Record.{wrapped}
+use Rattle.record.specs.Setups.{little}
 use Rattle.record.specs.World.{World, busOf, withBus, atPage, atBus, lined}
 use Rattle.record.specs.Change.{Change, bus, ran, lost, apply, Step, left, _then_, nothing, if, one, here, onBus, onPage, runs, ranStores}
 use Rattle.record.specs.Did.{Leads, dropping, afterRun}
@@ -110,3 +113,8 @@ run-then e bs k w s m m′ r p q =
           ∙ ap (left (k run)) (stored-run e bs w s m m′ r p)
           ∙ sym (exec-then apply (λ v. ranStores e run) (k run) (atBus w s m));
     }
+
+-- a setup's word from its bytes, the low one first in the queue
+pub word-little : (q : List ℕ) (i : ℕ) → word (getD q (i + 3) 0) (getD q (i + 2) 0) (getD q (i + 1) 0) (getD q i 0) ≡ little q i
+unfolding word
+word-little q i = omega arith

@@ -29,7 +29,7 @@ pub data Change : Type 0 where
   started : ℕ → Change  -- the phase's start, `t` (438, 456, 465, 476)
   gone : Bool → Change  -- `is_gone` (386)
   suspended : Bool → Change  -- 414
-  running : Bool → Change  -- RS was seen set, `was_running` (434, 436)
+  wasRunning : Bool → Change  -- RS was seen set (434, 436)
   credit : ℕ → Change  -- 400, 441, 890, 947
   budget : ℕ → Change  -- bytes that the input endpoint may still move, `in_budget` (401, 442, 863, 867)
   counter : ℕ → Change  -- the stream counter, `out_counter` (932)
@@ -87,7 +87,7 @@ apply (phase p) w = withState w (withPhase (w .state) p)
 apply (started n) w = inPort w (withT (w .state .port) n)
 apply (gone b) w = inPort w (withGone (w .state .port) b)
 apply (suspended b) w = inPort w (withSuspended (w .state .port) b)
-apply (running b) w = inPort w (withRunning (w .state .port) b)
+apply (wasRunning b) w = inPort w (withRunning (w .state .port) b)
 apply (credit n) w = inAudio w (withCredit (w .state .audio) n)
 apply (budget n) w = inAudio w (withBudget (w .state .audio) n)
 apply (counter n) w = inAudio w (withCounter (w .state .audio) n)

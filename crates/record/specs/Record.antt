@@ -16,22 +16,22 @@ use Rattle.record.specs.declared.State.{State}
 -- ---- the port
 
 abbrev pub withUf : Port → ℕ → Port
-withUf r x = record { uf = x; t = r .t; suspended = r .suspended; gone = r .gone; running = r .running; line = r .line }
+withUf r x = record { uf = x; t = r .t; suspended = r .suspended; gone = r .gone; «was_running» = r .«was_running»; line = r .line }
 
 abbrev pub withT : Port → ℕ → Port
-withT r x = record { uf = r .uf; t = x; suspended = r .suspended; gone = r .gone; running = r .running; line = r .line }
+withT r x = record { uf = r .uf; t = x; suspended = r .suspended; gone = r .gone; «was_running» = r .«was_running»; line = r .line }
 
 abbrev pub withSuspended : Port → Bool → Port
-withSuspended r x = record { uf = r .uf; t = r .t; suspended = x; gone = r .gone; running = r .running; line = r .line }
+withSuspended r x = record { uf = r .uf; t = r .t; suspended = x; gone = r .gone; «was_running» = r .«was_running»; line = r .line }
 
 abbrev pub withGone : Port → Bool → Port
-withGone r x = record { uf = r .uf; t = r .t; suspended = r .suspended; gone = x; running = r .running; line = r .line }
+withGone r x = record { uf = r .uf; t = r .t; suspended = r .suspended; gone = x; «was_running» = r .«was_running»; line = r .line }
 
 abbrev pub withRunning : Port → Bool → Port
-withRunning r x = record { uf = r .uf; t = r .t; suspended = r .suspended; gone = r .gone; running = x; line = r .line }
+withRunning r x = record { uf = r .uf; t = r .t; suspended = r .suspended; gone = r .gone; «was_running» = x; line = r .line }
 
 abbrev pub withLine : Port → Bool → Port
-withLine r x = record { uf = r .uf; t = r .t; suspended = r .suspended; gone = r .gone; running = r .running; line = x }
+withLine r x = record { uf = r .uf; t = r .t; suspended = r .suspended; gone = r .gone; «was_running» = r .«was_running»; line = x }
 
 -- ---- the audio stream
 

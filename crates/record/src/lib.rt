@@ -4,7 +4,7 @@ ghost use Prim.Native.Nat.{_+_, _*_, _≤_, _<_};
 ghost use lib.Seq.{sets};
 ghost use Rattle.record.specs.Record as R;
 ghost use Rattle.record.specs.Did.{entered, afterRun};
-ghost use Rattle.record.specs.Setups.{littleBytes, setupBytes};
+ghost use Rattle.record.specs.Setups.{little, littleBytes, setupBytes};
 use dtd::Ran;
 use gptimers::Timers;
 use std::num::wrapping_add_u64;
@@ -48,7 +48,7 @@ pub struct Port {
     pub t: u64,
     pub suspended: bool,
     pub gone: bool,
-    pub running: bool,
+    pub was_running: bool,
     pub line: bool,
 }
 
@@ -189,6 +189,14 @@ fn put_word(setups: &mut [u8; 2056], at: usize, v: u32)
     setups[at + 1] = (v / 0x100 % 256) as u8;
     setups[at + 2] = (v / 0x1_0000 % 256) as u8;
     setups[at + 3] = (v / 0x100_0000) as u8;
+}
+
+// The little-endian word of the setup queue from index `at` on.
+pub fn word_from(setups: &[u8; 2056], at: usize) -> u32
+    requires { ⌜ at + 4 ≤ 2056 ⌝ }
+    ensures { λ r. ⌜ r ≡ little (now (setups .entry)) at ⌝ }
+{
+    bus::word(setups[at + 3], setups[at + 2], setups[at + 1], setups[at])
 }
 
 // Stores a setup, by its two words, behind the first `count`.

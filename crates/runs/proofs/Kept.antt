@@ -6,6 +6,7 @@ use native.Mathlib.Nat.{add-zero, add-suc, suc-add, suc-min-suc, zero-min, min-z
 use native.Mathlib.Omega.{arith}
 use lib.ListN.{length, set, take, drop, length-take, length-append}
 use lib.Seq.{sets, sets-eq, length-sets}
+use Rattle.bits.proofs.Lists.{sets-append}
 use Rattle.bus.specs.Memory.{Memory}
 use Rattle.transfer.specs.Transfer.{pointers, pointersFor, bytesIn, received}
 use Rattle.transfer.proofs.Addresses.{received-for}
@@ -29,11 +30,6 @@ take-append (suc n) [] ys = let all : suc n - 0 ≡ suc n = omega arith in ap (�
 take-append (suc n) (x ∷ xs) ys =
     let less : suc n - suc (length (take n xs)) ≡ n - length (take n xs) = omega arith in
     ap (λ (r : List ℕ). x ∷ r) (take-append n xs ys) ∙ ap (λ (k : ℕ). x ∷ (take n xs ++ take k ys)) (sym less)
-
--- stores of a list and then of another are the stores of both
-sets-append : (q : List ℕ) (at : ℕ) (xs ys : List ℕ) → sets q at (xs ++ ys) ≡ sets (sets q at xs) (at + length xs) ys
-sets-append q at [] ys = rw add-zero
-sets-append q at (x ∷ xs) ys = sets-append (set q at x) (suc at) xs ys ∙ rw (suc-add, add-suc)
 
 -- two parts kept one after the other
 module _ (out : List ℕ) (at limit : ℕ) (xs ys : List ℕ) where

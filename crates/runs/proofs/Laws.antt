@@ -7,6 +7,7 @@ use native.Mathlib.Nat.{min-le-left, min-le-right}
 use native.Mathlib.Omega.{arith}
 use lib.ListN.{length, take, drop, length-drop}
 use lib.Seq.{drop-nil, drop-drop, take-length}
+use Rattle.bits.proofs.Tests.{or-false}
 use Rattle.bits.specs.Pick.{pick}
 use Rattle.bits.specs.Word.{any, clear}
 use Rattle.bus.specs.Memory.{Memory}
@@ -34,10 +35,6 @@ use Rattle.runs.proofs.Kept.{kept-append, end-append, kept-none, end-no
 or-assoc : (x y z : Bool) → x || (y || z) ≡ (x || y) || z
 or-assoc true y z = refl
 or-assoc false y z = refl
-
-or-false : (x : Bool) → x || false ≡ x
-or-false true = refl
-or-false false = refl
 
 -- ---- one input descriptor, from what the code does
 

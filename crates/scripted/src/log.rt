@@ -238,7 +238,7 @@ fn show_port(state: State, out: &mut [u8; 65536], at: usize) -> usize
     let timers: Timers = state.timers;
     let mut end = text::flag(out, at, port.suspended);
     end = text::flag(out, end, port.gone);
-    end = text::flag(out, end, port.running);
+    end = text::flag(out, end, port.was_running);
     end = show_timer(timers.zero, out, end);
     show_timer(timers.one, out, end)
 }

@@ -9,6 +9,7 @@ use lib.Dec.{eqb}
 use borrow.Author.Tests.{eq-eqb, ne-eqb}
 use lib.ListN.{length, getD, take, drop, set, length-drop}
 use lib.Seq.{sets, take-all, length-take-le, getD-append-add, getD-drop, paste, paste-suc}
+use Rattle.bits.proofs.Tests.{and-false}
 use Rattle.bus.specs.Memory.{Memory, memory}
 use Rattle.bus.specs.Sized.{Sized}
 use Rattle.bus.specs.Stores as S
@@ -26,7 +27,7 @@ use Rattle.record.specs.World.{World, atBus, withSerialQueue, withMidiQueue, wi
 use Rattle.record.specs.Change.{count, received, serial, midi, drained, apply, Step, nothing, when, one, here, runs}
 use Rattle.record.specs.Did.{Leads, Did, afterRun}
 use Rattle.record.proofs.Laws.{in-turn, by-true, by-false, unchanged, once, from-here, leads-as, leads-by, run-then}
-use Rattle.model.specs.Streams.{ready, fitting, drainsSerial, serves, drainsMidi, writesMidi, readsVendor}
+use Rattle.model.specs.Streams.{ready, fitting, drainsSerial, serialStep, drainsMidi, midiOut, readsVendor}
 use Rattle.streams.specs.Promises.{atSerial, atMidi, atReceive, packetOf, takesSerial, givesSerial, Fewer, Receives, Serves, Writes, ServesBoth}
 use Rattle.streams.proofs.Found.{unprimed-not, ended-not, active-ready, active-token, brings}
 
@@ -125,10 +126,6 @@ module _ (e : Endpoint) (held : World → ℕ) (f : ℕ → Step) (a : World) wh
 
   pub none-ready : ready e a ≡ false → Leads sends a a
   none-ready h = by-false _ _ _ (ap (λ (t : Bool). not (eqb (held a) 0) && t) h ∙ and-false (not (eqb (held a) 0))) (unchanged a)
-    where
-      and-false : (t : Bool) → t && false ≡ false
-      and-false true = refl
-      and-false false = refl
 
   pub some-sent : (held a ≡ 0 → ⊥) → (qh n tok : ℕ) → found e (a .memory) ≡ Active qh n tok → {b : World} → Leads (f (packetOf tok (held a))) a b → Leads sends a b
   some-sent some qh n tok is p =
@@ -192,8 +189,8 @@ module _ (s : State) (m m′ : Memory) (q : List ℕ) (n : ℕ) (r : Ran) (run :
 
 -- both directions
 module _ (s s₁ s₂ : State) (m m₁ m₂ : Memory) (q q′ out out′ : List ℕ) (taken : Receives takesSerial s m out s₁ m₁ out′) (given : Serves givesSerial s₁ m₁ q s₂ m₂ q′) where
-  pub serial-steps : ServesBoth serves s m q out s₂ m₂ q′ out′
-  unfolding serves
+  pub serial-steps : ServesBoth serialStep s m q out s₂ m₂ q′ out′
+  unfolding serialStep
   serial-steps =
       record {
         leads = λ w. in-turn (taken .leads (withSerialQueue w q)) (given .leads (withReceiveArea w out′));
@@ -261,18 +258,18 @@ module _ (s : State) (m : Memory) (q : List ℕ) where
     pub serial-ended : found (endpoint 2 false) m ≡ Ended → Serves givesSerial s m q s m q
     serial-ended f = serial-not (ended-not (endpoint 2 false) m f)
 
-    pub midi-none : s .lengths .midi ≡ 0 → Writes writesMidi s m q s m q
-    unfolding writesMidi
+    pub midi-none : s .lengths .midi ≡ 0 → Writes midiOut s m q s m q
+    unfolding midiOut
     midi-none h = record { leads = λ w. none-held (endpoint 1 false) (λ v. v .state .lengths .midi) (λ n. drainsMidi (n / 4 * 4)) (atMidi w s m q) h; sized = z; few = fewer-same refl }
 
-    midi-not : primed (endpoint 1 false) (m .page) && nextActive (endpoint 1 false) m ≡ false → Writes writesMidi s m q s m q
-    unfolding writesMidi
+    midi-not : primed (endpoint 1 false) (m .page) && nextActive (endpoint 1 false) m ≡ false → Writes midiOut s m q s m q
+    unfolding midiOut
     midi-not h = record { leads = λ w. none-ready (endpoint 1 false) (λ v. v .state .lengths .midi) (λ n. drainsMidi (n / 4 * 4)) (atMidi w s m q) h; sized = z; few = fewer-same refl }
 
-    pub midi-unprimed : found (endpoint 1 false) m ≡ Unprimed → Writes writesMidi s m q s m q
+    pub midi-unprimed : found (endpoint 1 false) m ≡ Unprimed → Writes midiOut s m q s m q
     midi-unprimed f = midi-not (unprimed-not (endpoint 1 false) m f)
 
-    pub midi-ended : found (endpoint 1 false) m ≡ Ended → Writes writesMidi s m q s m q
+    pub midi-ended : found (endpoint 1 false) m ≡ Ended → Writes midiOut s m q s m q
     midi-ended f = midi-not (ended-not (endpoint 1 false) m f)
 
   module _ (qh n tok : ℕ) (s′ : State) (m′ : Memory) (q′ : List ℕ) where
@@ -286,8 +283,8 @@ module _ (s : State) (m : Memory) (q : List ℕ) where
         }
 
     pub midi-given : (s .lengths .midi ≡ 0 → ⊥) → found (endpoint 1 false) m ≡ Active qh n tok
-        → Writes (drainsMidi (packetOf tok (s .lengths .midi) / 4 * 4)) s m q s′ m′ q′ → Writes writesMidi s m q s′ m′ q′
-    unfolding writesMidi
+        → Writes (drainsMidi (packetOf tok (s .lengths .midi) / 4 * 4)) s m q s′ m′ q′ → Writes midiOut s m q s′ m′ q′
+    unfolding midiOut
     midi-given some f p =
         record {
           leads = λ w. some-sent (endpoint 1 false) (λ v. v .state .lengths .midi) (λ k. drainsMidi (k / 4 * 4)) (atMidi w s m q) some qh n tok f (p .leads w);

@@ -35,7 +35,7 @@ atServed w s m q out = atBus (withReceiveArea (withSerialQueue w q) out) s m
 abbrev pub packetOf : ℕ → ℕ → ℕ
 packetOf tok held = min (min (totalOf tok) 512) held
 
--- 813-814, 815-829: `serves` in its two directions
+-- 813-814, 815-829: `serialStep` in its two directions
 abbrev pub takesSerial : Step
 takesSerial = runs (endpoint 2 true) [] (λ r. one (λ w. received (r .bytes)))
 

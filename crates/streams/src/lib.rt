@@ -145,7 +145,7 @@ pub fn serial_step(
 ) -> State
     requires { ⌜ Sized (shown dynamic sram page) ⌝ }
     requires { ⌜ (s .lengths .serial ≤ length (now serial)) × (s .answer .received + 32767 ≤ length (now receive)) ⌝ }
-    ensures { λ r. ⌜ P.ServesBoth M.serves s (shown (dynamic .entry) (sram .entry) (page .entry)) (now (serial .entry)) (now (receive .entry)) r (shown (dynamic .exit) (sram .exit) (page .exit)) (now (serial .exit)) (now (receive .exit)) ⌝ }
+    ensures { λ r. ⌜ P.ServesBoth M.serialStep s (shown (dynamic .entry) (sram .entry) (page .entry)) (now (serial .entry)) (now (receive .entry)) r (shown (dynamic .exit) (sram .exit) (page .exit)) (now (serial .exit)) (now (receive .exit)) ⌝ }
 {
     let next = serial_in(s, dynamic, sram, page, receive);
     serial_out(next, dynamic, sram, page, serial)
@@ -208,7 +208,7 @@ pub fn midi_out(
 ) -> State
     requires { ⌜ Sized (shown dynamic sram page) ⌝ }
     requires { ⌜ s .lengths .midi ≤ length (now midi) ⌝ }
-    ensures { λ r. ⌜ P.Writes M.writesMidi s (shown (dynamic .entry) (sram .entry) (page .entry)) (now (midi .entry)) r (shown (dynamic .exit) (sram .exit) (page .exit)) (now (midi .exit)) ⌝ }
+    ensures { λ r. ⌜ P.Writes M.midiOut s (shown (dynamic .entry) (sram .entry) (page .entry)) (now (midi .entry)) r (shown (dynamic .exit) (sram .exit) (page .exit)) (now (midi .exit)) ⌝ }
 {
     if s.lengths.midi == 0 {
         return s;

@@ -7,6 +7,7 @@ use native.Mathlib.Omega.{arith}
 use borrow.Rule.Slice.PartMut.{putMid, post-is}
 use lib.ListN.{length, getD, take, drop, length-drop}
 use lib.Seq.{ext-getD, getD-take, getD-drop, length-take-le, paste, paste-zero, length-paste, take-all, drop-length, take-paste, drop-paste, drop-drop, take-add}
+use Rattle.bus.proofs.PageWords.{lost-shift}
 use Rattle.bus.specs.declared.Place.{Place}
 use Rattle.bus.specs.declared.Place.the-variants.{Dynamic, Static, Page, Nowhere}
 use Rattle.bus.specs.Memory.{Memory, at, lost, peek8, poke8, dropped8}
@@ -140,13 +141,6 @@ out-run m ps s i n m₁ m₂ a e room p h q =
 
     long : length part ≡ n
     long = part-count s i n room
-
-lost-shift : (q : Place) (k : ℕ) → lost (shift q k) ≡ lost q
-unfolding lost
-lost-shift (Dynamic i) k = refl
-lost-shift (Static i) k = refl
-lost-shift (Page i) k = refl
-lost-shift Nowhere k = refl
 
 dropped-shift : (m : Memory) (a k : ℕ) → Sized m → a % 4096 + k < 4096 → dropped8 (a + k) ≡ dropped8 a
 dropped-shift m a k s h =

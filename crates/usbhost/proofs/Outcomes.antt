@@ -9,6 +9,7 @@ use lib.Dec.{eqb, leb, ltb}
 use lib.ListN.{length, take, drop, replicate}
 use lib.Seq.{sets}
 use borrow.Author.Tests.{eq-eqb, ne-eqb, le-leb, lt-leb, eqb-true, leb-true, ltb-true}
+use Rattle.bounds.proofs.Laws.{in-ring}
 use Rattle.bus.proofs.Sizes.{and-true}
 use Rattle.midi.specs.declared.Packer.{Packer}
 use Rattle.midi.specs.declared.Sent as Midi
@@ -143,12 +144,6 @@ sending-lengths n e =
     let a = and-true (leb 84 n) _ e in
     (leb-true 84 n (a .0), leb-true n 576000 (and-true (leb n 576000) (eqb (n % 12) 0) (a .1) .0))
 
-ring-inside : (r : Ring) (n : ℕ) → ringOk r n ≡ true → (r .start < n) × (r .len ≤ n)
-unfolding ringOk
-ring-inside r n e =
-    let a = and-true (ltb (r .start) n) (leb (r .len) n) e in
-    (ltb-true (r .start) n (a .0), leb-true (r .len) n (a .1))
-
 accepted-gives : (h : Host) (frame sending : List ℕ) → giveNumber h frame sending ≡ 0 → Gives (stateOf h) frame sending
 unfolding giveNumber
 accepted-gives h frame sending e =
@@ -163,7 +158,7 @@ accepted-gives h frame sending e =
       whole = eqb-true (length frame) 12 (right .1);
       least = long .0;
       most = long .1;
-      inside = ring-inside (h .audio .sending) (length sending / 12) (and-true (bounded h) _ (bounds .0) .1) .0;
+      inside = in-ring (h .audio .sending) (length sending / 12) (and-true (bounded h) _ (bounds .0) .1) .0;
       room = ltb-true _ _ (met 7 (ltb (h .audio .sending .len) (length sending / 12)) 0 (omega arith) (bounds .1) .0);
     }
 
@@ -224,7 +219,7 @@ accepted-takes h received e =
     let two = met 2 (eqb (length received) 576000) (unless 3 (fewSpans h) five) (omega arith) e in
     let three = met 3 (fewSpans h) five (omega arith) (two .1) in
     let bounds = met 5 (bounded h && receivedOk (stateOf h)) 0 (omega arith) (three .1) in
-    let ring = ring-inside (h .audio .received) 48000 (and-true (bounded h) _ (bounds .0) .1) in
+    let ring = in-ring (h .audio .received) 48000 (and-true (bounded h) _ (bounds .0) .1) in
     record { long = eqb-true (length received) 576000 (two .0); inside = ring .0; few = ring .1 }
 
 module _ (s : State) (spans : ℕ) (p : Packer) (setups received : List ℕ) {n : ℕ} (e : n ≡ takeNumber (bare s spans p setups) received) where

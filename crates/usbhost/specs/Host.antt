@@ -73,7 +73,7 @@ unfoldable pub newHost : Settings → Host
 newHost c =
     record {
       phase = Idle;
-      port = record { uf = 0; t = 0; suspended = false; gone = false; running = false; line = false };
+      port = record { uf = 0; t = 0; suspended = false; gone = false; «was_running» = false; line = false };
       audio =
           record {
             credit = 0;

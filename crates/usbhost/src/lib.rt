@@ -235,7 +235,7 @@ fn new_port() -> Port
         t: 0,
         suspended: false,
         gone: false,
-        running: false,
+        was_running: false,
         line: false,
     }
 }

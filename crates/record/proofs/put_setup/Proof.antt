@@ -3,7 +3,7 @@ use mathlib.Core.List.{List}
 use mathlib.Core.Path.{sym, ap, _∙_}
 use Prim.Native.Nat.{ℕ, _+_, _*_}
 use lib.Seq.{sets}
-use Rattle.midi.proofs.Laws.{sets-append}
+use Rattle.bits.proofs.Lists.{sets-append}
 use Rattle.record.specs.Setups.{littleBytes}
 use borrow.Author.Needs.{needs}
 use Rattle.record.proofs.put_setup.Statement.{statement}

@@ -1,9 +1,9 @@
--- `control::word_from` meets its contract.
+-- `record::word_from` meets its contract.
 use mathlib.Core.Path.{_∙_}
-use Rattle.control.proofs.Laws.{little-word}
+use Rattle.record.proofs.Laws.{word-little}
 use borrow.Author.Needs.{needs}
-use Rattle.control.proofs.word_from.Statement.{statement}
-use Rattle.control.proofs.word_from.Tie as tie
+use Rattle.record.proofs.word_from.Statement.{statement}
+use Rattle.record.proofs.word_from.Tie as tie
 
 add-word : tie.Need-add-word
 add-word c = search needs
@@ -30,7 +30,7 @@ word-requires : tie.Need-word-requires
 word-requires c κs = search needs
 
 returns : tie.Need-returns
-returns c = c .word .ensures ∙ little-word (c .before .before .before .before .before .args .setups .now) (c .before .before .before .before .before .args .at)
+returns c = c .word .ensures ∙ word-little (c .before .before .before .before .before .args .setups .now) (c .before .before .before .before .before .args .at)
 
 pub word-from-spec : {M : Type 1} → statement M
 word-from-spec =
