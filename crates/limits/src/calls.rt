@@ -1,7 +1,6 @@
 // Each call at a record, with what it must answer: its number, the record, and every byte or word of what it is lent.
 use crate::same::MARK;
 use crate::same::WORD_MARK;
-use crate::same::as_count;
 use crate::same::changed_words;
 use crate::same::part_is;
 use crate::same::put_frame;
@@ -27,11 +26,26 @@ pub fn frame() -> [u32; 12] {
     [1, 2, 3, 4, 5, 6, 7, 8, 9, 10, 11, 12]
 }
 
-// A device access: the length of the page that is lent, its offset and its size.
+// A device access: the length of the page that is lent, its offset and its size, the number that it meets, and the record's faults.
 pub struct Access {
     pub page: usize,
     pub off: u32,
     pub size: u32,
+    pub number: u8,
+    pub faults: u8,
+}
+
+// How much a call adds, which is nothing where it is refused.
+pub fn where_accepted(number: u8, adds: usize) -> usize {
+    if number == 0 { adds } else { 0 }
+}
+
+// A call that must answer a number and leave a state, and whose other results were right or not.
+pub fn judged(refusal: u8, number: u8, after: State, expected: State, right: bool) -> Seen {
+    one(
+        refusal,
+        (refusal == number) & same_state(after, expected) & right,
+    )
 }
 
 // A MIDI send that queues `adds` bytes, the last packet that of F8, and leaves the packer `next`.
@@ -52,9 +66,8 @@ pub fn midi_sent(
     expected.lengths.midi = length;
     let after = sent.state;
     let left = sent.packer;
-    let alike = same_state(after, expected) & same_packer(left, next);
-    let queued = queued_midi(&queue, length, adds);
-    one(sent.refusal, (sent.refusal == number) & (alike & queued))
+    let right = same_packer(left, next) & queued_midi(&queue, length, adds);
+    judged(sent.refusal, number, after, expected, right)
 }
 
 // A serial send that queues `adds` bytes, the first of them A5.
@@ -69,8 +82,21 @@ pub fn serial_sent(r: Trial, setups: &[u8; 2056], bytes: &[u8], number: u8, adds
     expected.lengths.serial = length;
     let after = sent.state;
     let queued = queued_serial(&queue, held, adds);
-    let alike = same_state(after, expected);
-    one(sent.refusal, (sent.refusal == number) & (alike & queued))
+    judged(sent.refusal, number, after, expected, queued)
+}
+
+// The state once a frame is given, where it is accepted.
+pub fn with_frame(s: State, number: u8) -> State {
+    let mut next = s;
+    let length = wrapping_add_usize(s.audio.sending.len, where_accepted(number, 1));
+    next.audio.sending.len = length;
+    next
+}
+
+// Whether an accepted frame stands at word `at` of a ring of marks, and nothing else does.
+fn stands_alone(ring: &[u32], at: usize, frame: &[u32], number: u8) -> bool {
+    let stands = (number != 0) | part_is(ring, at, frame);
+    stands & (changed_words(ring) == where_accepted(number, 12))
 }
 
 // A frame given to a ring of marks. Where it is accepted it must stand at word `at`; then the ring is marked again.
@@ -85,56 +111,75 @@ pub fn given(
     let state = r.state;
     let packer = r.packer;
     let done = usbhost::give_frame(state, r.spans, packer, frame, setups, sending);
-    let accepted = as_count(number == 0);
-    let length = wrapping_add_usize(state.audio.sending.len, accepted);
-    let mut expected = state;
-    expected.audio.sending.len = length;
-    let after = done.state;
-    let alike = same_state(after, expected);
-    let stands = (number != 0) | part_is(&*sending, at, frame);
-    let alone = changed_words(&*sending) == if number == 0 { 12 } else { 0 };
+    let right = stands_alone(&*sending, at, frame, number);
     put_frame(sending, at, [WORD_MARK; 12]);
-    one(
+    let after = done.state;
+    judged(
         done.refusal,
-        (done.refusal == number) & (alike & (stands & alone)),
+        number,
+        after,
+        with_frame(state, number),
+        right,
     )
 }
 
-// The state once a frame is taken.
-fn without_frame(s: State) -> State {
-    let start = s.audio.received.start;
-    let held = s.audio.received.len;
-    let second = if start == 47_999 {
-        0
-    } else {
-        wrapping_add_usize(start, 1)
-    };
-    let length = wrapping_sub_usize(held, 1);
+// The state once a frame is taken, where one is.
+fn without_frame(s: State, gives: bool) -> State {
     let mut next = s;
-    next.audio.received.start = second;
-    next.audio.received.len = length;
+    if gives {
+        let start = s.audio.received.start;
+        let held = s.audio.received.len;
+        let second = wrapping_add_usize(start, 1);
+        let length = wrapping_sub_usize(held, 1);
+        next.audio.received.start = if start == 47_999 { 0 } else { second };
+        next.audio.received.len = length;
+    }
     next
 }
 
+// The frame that must come, or zeros.
+fn frame_if(gives: bool) -> [u32; 12] {
+    if gives { frame() } else { [0u32; 12] }
+}
+
 // A frame taken; `gives` says whether one must come.
-pub fn taken(r: Trial, setups: &[u8; 2056], received: &[u32], number: u8, gives: bool) -> Seen {
+fn taken(r: Trial, setups: &[u8; 2056], received: &[u32], number: u8, gives: bool) -> Seen {
     let state = r.state;
     let packer = r.packer;
     let done = usbhost::take_frame(state, r.spans, packer, setups, received);
-    let expected = if gives { without_frame(state) } else { state };
-    let wanted = if gives { frame() } else { [0u32; 12] };
     let after = done.state;
     let came = done.frame;
-    let alike = same_state(after, expected) & same_frame(came, wanted);
-    let empty = (number == 0) & !gives;
-    one(
+    let empty = done.empty == ((number == 0) & !gives);
+    let right = empty & same_frame(came, frame_if(gives));
+    judged(
         done.refusal,
-        (done.refusal == number) & (alike & (done.empty == empty)),
+        number,
+        after,
+        without_frame(state, gives),
+        right,
     )
 }
 
-// The marks of so many bytes.
-fn marks(size: u32) -> u32 {
+// A frame taken from the first words of a ring.
+pub fn taken_first(
+    r: Trial,
+    setups: &[u8; 2056],
+    ring: &[u32],
+    words: usize,
+    number: u8,
+    gives: bool,
+) -> Seen {
+    if ring.len() < words {
+        return one(99, false);
+    }
+    taken(r, setups, &ring[..words], number, gives)
+}
+
+// What a read of so many bytes of marks gives; nothing where it is refused.
+fn marks(size: u32, number: u8) -> u32 {
+    if number != 0 {
+        return 0;
+    }
     match size {
         1 => 0xEE,
         2 => 0xEEEE,
@@ -157,13 +202,13 @@ fn read_first(r: Trial, setups: &[u8; 2056], page: &[u8], a: Access) -> Value {
 }
 
 // A device read on the first bytes of a page of marks.
-pub fn read(r: Trial, setups: &[u8; 2056], a: Access, number: u8) -> Seen {
+fn read(r: Trial, setups: &[u8; 2056], a: Access) -> Seen {
     let page = [MARK; 4097];
     let done = read_first(r, setups, &page, a);
-    let value = if number == 0 { marks(a.size) } else { 0 };
+    let value = marks(a.size, a.number);
     one(
         done.refusal,
-        (done.refusal == number) & (done.value == value),
+        (done.refusal == a.number) & (done.value == value),
     )
 }
 
@@ -188,19 +233,19 @@ fn write_first(r: Trial, setups: &[u8; 2056], page: &mut [u8], a: Access) -> Sto
 }
 
 // A device write on the first bytes of a page of marks.
-pub fn written(r: Trial, setups: &[u8; 2056], a: Access, number: u8) -> Seen {
+fn written(r: Trial, setups: &[u8; 2056], a: Access) -> Seen {
     let mut page = [MARK; 4097];
     let done = write_first(r, setups, &mut page, a);
     let state = r.state;
     let after = done.state;
-    let size = if number == 0 { a.size as usize } else { 0 };
-    let alike = same_state(after, state) & stored(&page, a.off as usize, size);
-    one(done.refusal, (done.refusal == number) & alike)
+    let size = where_accepted(a.number, a.size as usize);
+    let right = stored(&page, a.off as usize, size);
+    judged(done.refusal, a.number, after, state, right)
 }
 
 // A device read and a device write at one place.
-pub fn accessed(r: Trial, setups: &[u8; 2056], a: Access, number: u8) -> Seen {
-    both(read(r, setups, a, number), written(r, setups, a, number))
+pub fn accessed(r: Trial, setups: &[u8; 2056], a: Access) -> Seen {
+    both(read(r, setups, a), written(r, setups, a))
 }
 
 // The number of a send that nothing but a full queue refuses.
@@ -214,31 +259,26 @@ fn with_space(number: u8, held: usize, most: usize) -> u8 {
 
 // The calls that are lent no ring: F8, a serial byte, and a word read and written.
 pub fn four(r: Trial, setups: &[u8; 2056], number: u8) -> Seen {
-    let state = r.state;
     let packer = r.packer;
-    let midi = with_space(number, state.lengths.midi, 4092);
-    let serial = with_space(number, state.lengths.serial, 4095);
-    let packet = if midi == 0 { 4 } else { 0 };
-    let sent = midi_sent(r, setups, b"\xF8", midi, packet, packer);
-    let byte = serial_sent(r, setups, b"\xA5", serial, as_count(serial == 0));
-    let word = accessed(
-        r,
-        setups,
-        Access {
-            page: 4096,
-            off: 0x200,
-            size: 4,
-        },
+    let midi = with_space(number, r.state.lengths.midi, 4092);
+    let serial = with_space(number, r.state.lengths.serial, 4095);
+    let sent = midi_sent(r, setups, b"\xF8", midi, where_accepted(midi, 4), packer);
+    let byte = serial_sent(r, setups, b"\xA5", serial, where_accepted(serial, 1));
+    let place = Access {
+        page: 4096,
+        off: 0x200,
+        size: 4,
         number,
-    );
-    both(word, both(sent, byte))
+        faults: 0,
+    };
+    both(accessed(r, setups, place), both(sent, byte))
 }
 
-// All six calls, the frame given to an empty ring of seven and taken from an empty one.
-pub fn six(r: Trial, setups: &[u8; 2056], received: &[u32], number: u8) -> Seen {
+// All six calls, the frame given to an empty ring of seven and taken from an empty one of the right length.
+pub fn six(r: Trial, setups: &[u8; 2056], ring: &[u32; 576_012], number: u8) -> Seen {
     let mut sending = [WORD_MARK; 84];
     let words = frame();
     let frames = given(r, setups, &words, &mut sending, number, 0);
-    let empty = taken(r, setups, received, number, false);
+    let empty = taken_first(r, setups, ring, 576_000, number, false);
     both(four(r, setups, number), both(frames, empty))
 }

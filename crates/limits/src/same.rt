@@ -1,11 +1,9 @@
 // Whether two records are alike in every field, and how much of an area is not as it was filled.
-use gptimers::Timer;
+use gptimers::Timers;
 use midi::Packer;
 use record::Audio;
-use record::Control;
+use record::Lengths;
 use record::Phase;
-use record::Port;
-use record::Ring;
 use record::Stage;
 use record::State;
 use record::Stats;
@@ -35,81 +33,85 @@ fn stage_number(g: Stage) -> u8 {
     }
 }
 
-fn same_port(a: Port, b: Port) -> bool {
-    let counts = (a.uf == b.uf) & (a.t == b.t);
-    let flags = (a.suspended == b.suspended)
-        & ((a.gone == b.gone) & (a.was_running == b.was_running));
-    counts & (flags & (a.line == b.line))
-}
-
-fn same_ring(a: Ring, b: Ring) -> bool {
-    (a.start == b.start) & (a.len == b.len)
+// The port, and the answer of the last microframe.
+fn same_port(a: State, b: State) -> bool {
+    (a.port.uf == b.port.uf)
+        & (a.port.t == b.port.t)
+        & (a.port.suspended == b.port.suspended)
+        & (a.port.gone == b.port.gone)
+        & (a.port.was_running == b.port.was_running)
+        & (a.port.line == b.port.line)
+        & (a.answer.received == b.answer.received)
+        & (a.answer.dropped == b.answer.dropped)
 }
 
 fn same_audio(a: Audio, b: Audio) -> bool {
-    let received = a.received;
-    let sending = a.sending;
-    let rings = same_ring(received, b.received) & same_ring(sending, b.sending);
-    let stream = (a.credit == b.credit) & ((a.counter == b.counter) & (a.budget == b.budget));
-    rings & (stream & ((a.block == b.block) & (a.channels == b.channels)))
-}
-
-fn same_control(a: Control, b: Control) -> bool {
-    let stage = a.stage;
-    let other = b.stage;
-    let stages = stage_number(stage) == stage_number(other);
-    let setup = (a.first == b.first) & (a.second == b.second);
-    (a.on == b.on) & (stages & (setup & ((a.got == b.got) & (a.t0 == b.t0))))
-}
-
-fn same_timer(a: Timer, b: Timer) -> bool {
-    (a.set == b.set) & (a.count == b.count)
+    (a.credit == b.credit)
+        & (a.counter == b.counter)
+        & (a.budget == b.budget)
+        & (a.block == b.block)
+        & (a.channels == b.channels)
+        & (a.received.start == b.received.start)
+        & (a.received.len == b.received.len)
+        & (a.sending.start == b.sending.start)
+        & (a.sending.len == b.sending.len)
 }
 
 fn same_stats(a: Stats, b: Stats) -> bool {
-    let audio = (a.in_transfers == b.in_transfers)
-        & ((a.out_transfers == b.out_transfers)
-            & ((a.in_frames == b.in_frames)
-                & ((a.out_frames == b.out_frames) & (a.bad_blocks == b.bad_blocks))));
-    let midi = (a.midi_dtds == b.midi_dtds)
-        & ((a.midi_asleep == b.midi_asleep) & (a.midi_packets_out == b.midi_packets_out));
-    let others = (a.out_underruns == b.out_underruns)
-        & ((a.vendor_in_bytes == b.vendor_in_bytes)
-            & ((a.restarts == b.restarts) & (a.enumerations == b.enumerations)));
-    (a.microframes == b.microframes) & (audio & (midi & others))
+    (a.microframes == b.microframes)
+        & (a.in_transfers == b.in_transfers)
+        & (a.out_transfers == b.out_transfers)
+        & (a.in_frames == b.in_frames)
+        & (a.out_frames == b.out_frames)
+        & (a.bad_blocks == b.bad_blocks)
+        & (a.midi_dtds == b.midi_dtds)
+        & (a.midi_asleep == b.midi_asleep)
+        & (a.midi_packets_out == b.midi_packets_out)
+        & (a.out_underruns == b.out_underruns)
+        & (a.vendor_in_bytes == b.vendor_in_bytes)
+        & (a.restarts == b.restarts)
+        & (a.enumerations == b.enumerations)
 }
 
-// Lengths in use, and the answer of the last microframe.
-fn same_lengths(a: State, b: State) -> bool {
-    let queues = (a.lengths.setups == b.lengths.setups)
-        & ((a.lengths.midi == b.lengths.midi) & (a.lengths.serial == b.lengths.serial));
-    let areas = (a.lengths.device == b.lengths.device) & (a.lengths.config == b.lengths.config);
-    let answers = (a.answer.received == b.answer.received) & (a.answer.dropped == b.answer.dropped);
-    queues & (areas & answers)
+fn same_lengths(a: Lengths, b: Lengths) -> bool {
+    (a.setups == b.setups)
+        & (a.midi == b.midi)
+        & (a.serial == b.serial)
+        & (a.device == b.device)
+        & (a.config == b.config)
 }
 
-// Timers, request and phase.
+fn same_timers(a: Timers, b: Timers) -> bool {
+    (a.zero.set == b.zero.set)
+        & (a.zero.count == b.zero.count)
+        & (a.one.set == b.one.set)
+        & (a.one.count == b.one.count)
+}
+
+// The phase and the request.
 fn same_run(a: State, b: State) -> bool {
     let phase = a.phase;
     let other = b.phase;
-    let control = a.control;
-    let zero = a.timers.zero;
-    let one = a.timers.one;
-    let timers = same_timer(zero, b.timers.zero) & same_timer(one, b.timers.one);
-    let phases = phase_number(phase) == phase_number(other);
-    timers & (phases & same_control(control, b.control))
+    let request = a.control;
+    let beside = b.control;
+    let stage = request.stage;
+    let other_stage = beside.stage;
+    (phase_number(phase) == phase_number(other))
+        & (stage_number(stage) == stage_number(other_stage))
+        & (request.on == beside.on)
+        & (request.first == beside.first)
+        & (request.second == beside.second)
+        & (request.got == beside.got)
+        & (request.t0 == beside.t0)
 }
 
 pub fn same_state(a: State, b: State) -> bool {
-    let port = a.port;
-    let audio = a.audio;
-    let stats = a.stats;
-    let ports = same_port(port, b.port);
-    let audios = same_audio(audio, b.audio);
-    let counters = same_stats(stats, b.stats);
-    let lengths = same_lengths(a, b);
-    let runs = same_run(a, b);
-    ports & (audios & (counters & (lengths & runs)))
+    same_port(a, b)
+        & same_run(a, b)
+        & same_audio(a.audio, b.audio)
+        & same_stats(a.stats, b.stats)
+        & same_lengths(a.lengths, b.lengths)
+        & same_timers(a.timers, b.timers)
 }
 
 pub fn same_packer(a: Packer, b: Packer) -> bool {
@@ -133,7 +135,7 @@ pub fn same_words(a: &[u32], b: &[u32]) -> bool {
 }
 
 // 1 where it holds.
-pub fn as_count(other: bool) -> usize {
+fn as_count(other: bool) -> usize {
     if other { 1 } else { 0 }
 }
 
@@ -160,7 +162,7 @@ pub fn changed_words(words: &[u32]) -> usize {
 }
 
 // The byte at a place, or 0 where there is none.
-fn byte_at(bytes: &[u8], at: usize) -> u8 {
+pub fn byte_at(bytes: &[u8], at: usize) -> u8 {
     if at < bytes.len() {
         return bytes[at];
     }

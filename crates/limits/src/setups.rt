@@ -1,32 +1,54 @@
-// Number 5, the bounds on setups, requests, replies and the packer.
+// Number 5, the bounds on setups, requests and the packer.
 use crate::calls::six;
+use crate::lists::List;
+use crate::lists::cases;
+use crate::numbers;
 use crate::tally::Seen;
 use crate::tally::Tally;
-use crate::tally::answer;
-use crate::tally::answer_at;
 use crate::tally::both;
 use crate::tally::counted;
 use crate::tally::end;
 use crate::tally::print;
 use crate::tally::print_number;
-use crate::trial::Field;
 use crate::trial::Trial;
 use crate::trial::asking;
 use crate::trial::in_phase;
+use crate::trial::little_word;
 use crate::trial::usual;
 use crate::trial::waiting;
-use crate::trial::with;
-use crate::trial::with_packer;
 use midi::Packer;
 use record::Phase;
 use std::num::wrapping_add_u64;
 
-fn address() -> [u8; 8] {
-    [0, 5, 7, 0, 0, 0, 0, 0]
+const ADDRESS: [u8; 8] = [0, 5, 7, 0, 0, 0, 0, 0];
+
+const CONFIGURATION: [u8; 8] = [0x80, 6, 0, 2, 0, 0, 9, 0];
+
+// A queue of setups that are all alike but for those at two places, how many of them wait, the request that runs or none, and the number that
+// all this meets in enumeration.
+struct Case {
+    alike: [u8; 8],
+    other: [u8; 8],
+    first: usize,
+    second: usize,
+    waits: usize,
+    runs: bool,
+    request: [u8; 8],
+    number: u8,
 }
 
-fn configuration() -> [u8; 8] {
-    [0x80, 6, 0, 2, 0, 0, 9, 0]
+// A setup that waits alone, or runs alone: whether it is accepted.
+struct Alone {
+    setup: [u8; 8],
+    number: u8,
+}
+
+// A packer with bytes held under a status, and the number that it meets.
+struct Holding {
+    status: u8,
+    held: u8,
+    sysex: bool,
+    number: u8,
 }
 
 // A queue of one setup over and over.
@@ -44,235 +66,177 @@ fn full_of(setup: [u8; 8]) -> [u8; 2056] {
 fn with_setup(queue: [u8; 2056], i: usize, setup: [u8; 8]) -> [u8; 2056] {
     let mut next = queue;
     if i < 257 {
-        let at = 8 * i;
-        next[at] = setup[0];
-        next[at + 1] = setup[1];
-        next[at + 2] = setup[2];
-        next[at + 3] = setup[3];
-        next[at + 4] = setup[4];
-        next[at + 5] = setup[5];
-        next[at + 6] = setup[6];
-        next[at + 7] = setup[7];
+        record::put_setup(&mut next, i, little_word(setup, 0), little_word(setup, 4));
     }
     next
 }
 
-// A queue of which so many setups wait.
-fn queue(
-    t: Tally,
-    received: &[u32],
-    text: &[u8],
-    setups: [u8; 2056],
-    count: usize,
-    number: u8,
-) -> Tally {
-    let trial = waiting(usual(3), count);
-    answer(t, text, six(trial, &setups, received, number))
+// Addresses of which so many wait, another setup among them.
+fn queued(waits: usize, other: [u8; 8], place: usize, number: u8) -> Case {
+    Case {
+        alike: ADDRESS,
+        other,
+        first: place,
+        second: place,
+        waits,
+        runs: false,
+        request: ADDRESS,
+        number,
+    }
 }
 
-fn lengths(t: Tally, received: &[u32]) -> Tally {
-    let addresses = full_of(address());
-    let t = queue(t, received, b"setups waiting 257", addresses, 257, 0);
-    let t = queue(t, received, b", 258", addresses, 258, 5);
-    let t = queue(
-        t,
-        received,
-        b", 2^64 - 1",
-        addresses,
-        0xFFFF_FFFF_FFFF_FFFF,
-        5,
-    );
-    end(t)
+// Addresses of which so many wait, a configuration request at a place among them.
+fn asked(waits: usize, place: usize, number: u8) -> Case {
+    queued(waits, CONFIGURATION, place, number)
 }
 
-// A record in each of the five phases: `outside` is what it meets in the four that are not enumeration.
-fn phases(t: Tally, received: &[u32], text: &[u8], r: Trial, outside: u8) -> Tally {
-    let setups = full_of(address());
-    let t = answer(
-        t,
-        text,
-        six(in_phase(r, Phase::Idle), &setups, received, outside),
-    );
-    let t = answer(
-        t,
-        b", Vbus",
-        six(in_phase(r, Phase::Vbus), &setups, received, outside),
-    );
-    let t = answer(
-        t,
-        b", Reset",
-        six(in_phase(r, Phase::Reset), &setups, received, outside),
-    );
-    let t = answer(
-        t,
-        b", Enumerate",
-        six(in_phase(r, Phase::Enumerate), &setups, received, 0),
-    );
-    let t = answer(
-        t,
-        b", Stream",
-        six(in_phase(r, Phase::Stream), &setups, received, outside),
-    );
-    end(t)
+// The same with two configuration requests.
+fn asked_twice(waits: usize, number: u8) -> Case {
+    let mut next = asked(waits, 0, number);
+    next.second = 1;
+    next
 }
 
-fn outside(t: Tally, received: &[u32]) -> Tally {
+// A running request with setups that wait, the first of which is given.
+fn behind(request: [u8; 8], waits: usize, other: [u8; 8], number: u8) -> Case {
+    let mut next = queued(waits, other, 0, number);
+    next.runs = true;
+    next.request = request;
+    next
+}
+
+// How many wait; configuration requests, which must be the last of them; and requests that run.
+fn queue(i: usize) -> Case {
+    match i {
+        0 => queued(257, ADDRESS, 0, 0),
+        1 => queued(258, ADDRESS, 0, 5),
+        2 => queued(0xFFFF_FFFF_FFFF_FFFF, ADDRESS, 0, 5),
+        58 => asked(1, 0, 0),
+        59 => asked(2, 0, 5),
+        60 => asked(2, 1, 0),
+        61 => asked(3, 1, 5),
+        62 => asked_twice(2, 5),
+        63 => asked(1, 1, 0),
+        64 => asked(257, 256, 0),
+        65 => asked(257, 255, 5),
+        66 => queued(257, [0; 8], 256, 5),
+        67 => queued(256, [0; 8], 256, 0),
+        68 => behind(CONFIGURATION, 0, ADDRESS, 0),
+        69 => behind(CONFIGURATION, 1, ADDRESS, 5),
+        70 => behind(CONFIGURATION, 257, ADDRESS, 5),
+        71 => behind(CONFIGURATION, 1, CONFIGURATION, 5),
+        72 => behind(ADDRESS, 1, ADDRESS, 0),
+        73 => behind(ADDRESS, 257, ADDRESS, 0),
+        _ => behind(ADDRESS, 1, CONFIGURATION, 0),
+    }
+}
+
+fn phase(i: usize) -> Phase {
+    match i {
+        0 => Phase::Idle,
+        1 => Phase::Vbus,
+        2 => Phase::Reset,
+        3 => Phase::Enumerate,
+        _ => Phase::Stream,
+    }
+}
+
+// Nothing, a setup that waits and a request that runs, in each of the five phases; the last two belong to enumeration alone.
+fn phase_tried(i: usize, ring: &[u32; 576_012]) -> Seen {
+    let setups = full_of(ADDRESS);
+    let r = match i / 5 {
+        0 => usual(3),
+        1 => waiting(usual(3), 1),
+        _ => asking(usual(3), ADDRESS),
+    };
+    let number = if (i < 5) | (i % 5 == 3) { 0 } else { 5 };
+    six(in_phase(r, phase(i % 5)), &setups, ring, number)
+}
+
+fn trial(c: Case) -> Trial {
+    let request = c.request;
+    let r = waiting(usual(3), c.waits);
+    if c.runs { asking(r, request) } else { r }
+}
+
+// All six calls on the record and its queue.
+fn queue_tried(c: Case, ring: &[u32; 576_012]) -> Seen {
+    let alike = c.alike;
+    let other = c.other;
+    let once = with_setup(full_of(alike), c.first, other);
+    let setups = with_setup(once, c.second, other);
+    six(trial(c), &setups, ring, c.number)
+}
+
+fn right(setup: [u8; 8]) -> Alone {
+    Alone { setup, number: 0 }
+}
+
+fn wrong(setup: [u8; 8]) -> Alone {
+    Alone { setup, number: 5 }
+}
+
+// Descriptors, addresses and set configurations.
+fn form(i: usize) -> Alone {
+    match i {
+        18 => right([0x80, 6, 0, 1, 0, 0, 64, 0]),
+        19 => wrong([0x80, 6, 0, 1, 0, 0, 63, 0]),
+        20 => wrong([0x80, 6, 0, 1, 0, 0, 65, 0]),
+        21 => right([0x80, 6, 0, 1, 0, 0, 18, 0]),
+        22 => wrong([0x80, 6, 0, 1, 0, 0, 17, 0]),
+        23 => wrong([0x80, 6, 0, 1, 0, 0, 19, 0]),
+        24 => wrong([0x80, 6, 0, 1, 0, 0, 64, 1]),
+        25 => wrong([0x80, 6, 0, 0, 0, 0, 64, 0]),
+        26 => right([0x80, 6, 0, 2, 0, 0, 64, 0]),
+        27 => wrong([0x80, 6, 0, 3, 0, 0, 64, 0]),
+        28 => wrong([0x80, 6, 1, 1, 0, 0, 64, 0]),
+        29 => wrong([0x80, 6, 0, 1, 9, 0, 64, 0]),
+        30 => wrong([0x80, 6, 0, 1, 0, 4, 64, 0]),
+        31 => right([0, 5, 7, 0, 0, 0, 0, 0]),
+        32 => wrong([0, 5, 6, 0, 0, 0, 0, 0]),
+        33 => wrong([0, 5, 8, 0, 0, 0, 0, 0]),
+        34 => wrong([0, 5, 7, 1, 0, 0, 0, 0]),
+        35 => wrong([0, 5, 7, 0, 0, 0, 1, 0]),
+        36 => right([0, 9, 1, 0, 0, 0, 0, 0]),
+        37 => wrong([0, 9, 0, 0, 0, 0, 0, 0]),
+        38 => wrong([0, 9, 2, 0, 0, 0, 0, 0]),
+        39 => wrong([0, 9, 1, 1, 0, 0, 0, 0]),
+        40 => wrong([0, 9, 1, 0, 1, 0, 0, 0]),
+        _ => later_form(i),
+    }
+}
+
+// Configurations, interfaces and a setup of zeros.
+fn later_form(i: usize) -> Alone {
+    match i {
+        41 => right([0x80, 6, 0, 2, 0, 0, 0, 0]),
+        42 => right([0x80, 6, 0, 2, 0, 0, 9, 0]),
+        43 => right([0x80, 6, 0, 2, 0, 0, 255, 0]),
+        44 => right([0x80, 6, 0, 2, 0, 0, 255, 255]),
+        45 => wrong([0x80, 6, 1, 2, 0, 0, 9, 0]),
+        46 => wrong([0x80, 6, 0, 2, 1, 0, 9, 0]),
+        47 => wrong([0x80, 6, 0, 2, 0, 1, 9, 0]),
+        48 => right([1, 11, 1, 0, 0, 0, 0, 0]),
+        49 => right([1, 11, 255, 0, 0, 0, 0, 0]),
+        50 => wrong([1, 11, 0, 0, 0, 0, 0, 0]),
+        51 => wrong([1, 11, 0, 1, 0, 0, 0, 0]),
+        52 => wrong([1, 11, 1, 1, 0, 0, 0, 0]),
+        53 => right([1, 11, 1, 0, 255, 0, 0, 0]),
+        54 => wrong([1, 11, 1, 0, 0, 1, 0, 0]),
+        55 => wrong([1, 11, 1, 0, 0, 0, 1, 0]),
+        56 => wrong([1, 11, 1, 0, 0, 0, 0, 1]),
+        _ => wrong([0, 0, 0, 0, 0, 0, 0, 0]),
+    }
+}
+
+// All six calls where the setup waits alone, and where it runs alone.
+fn form_tried(f: Alone, ring: &[u32; 576_012]) -> Seen {
     let r = usual(3);
-    let t = phases(t, received, b"no setup waiting or running in Idle", r, 0);
-    let t = phases(t, received, b"a setup waiting in Idle", waiting(r, 1), 5);
-    phases(
-        t,
-        received,
-        b"a request running in Idle",
-        asking(r, address()),
-        5,
-    )
-}
-
-// A setup that waits alone, and one that runs alone.
-fn form(t: Tally, received: &[u32], text: &[u8], setup: [u8; 8], number: u8) -> Tally {
-    let r = usual(3);
+    let setup = f.setup;
     let setups = with_setup([0u8; 2056], 0, setup);
-    let waits = six(waiting(r, 1), &setups, received, number);
-    let runs = six(asking(r, setup), &setups, received, number);
-    answer(t, text, both(waits, runs))
-}
-
-fn descriptors(t: Tally, received: &[u32]) -> Tally {
-    let t = form(
-        t,
-        received,
-        b"device descriptor of 64 bytes",
-        [0x80, 6, 0, 1, 0, 0, 64, 0],
-        0,
-    );
-    let t = form(t, received, b", 63", [0x80, 6, 0, 1, 0, 0, 63, 0], 5);
-    let t = form(t, received, b", 65", [0x80, 6, 0, 1, 0, 0, 65, 0], 5);
-    let t = form(t, received, b", 18", [0x80, 6, 0, 1, 0, 0, 18, 0], 0);
-    let t = form(t, received, b", 17", [0x80, 6, 0, 1, 0, 0, 17, 0], 5);
-    let t = form(t, received, b", 19", [0x80, 6, 0, 1, 0, 0, 19, 0], 5);
-    let t = form(t, received, b", 320", [0x80, 6, 0, 1, 0, 0, 64, 1], 5);
-    let t = end(t);
-    let t = form(
-        t,
-        received,
-        b"descriptor of type 0",
-        [0x80, 6, 0, 0, 0, 0, 64, 0],
-        5,
-    );
-    let t = form(t, received, b", type 2", [0x80, 6, 0, 2, 0, 0, 64, 0], 0);
-    let t = form(t, received, b", type 3", [0x80, 6, 0, 3, 0, 0, 64, 0], 5);
-    let t = form(t, received, b", index 1", [0x80, 6, 1, 1, 0, 0, 64, 0], 5);
-    let t = form(
-        t,
-        received,
-        b", language 9",
-        [0x80, 6, 0, 1, 9, 0, 64, 0],
-        5,
-    );
-    let t = form(
-        t,
-        received,
-        b", language 400",
-        [0x80, 6, 0, 1, 0, 4, 64, 0],
-        5,
-    );
-    end(t)
-}
-
-fn addresses(t: Tally, received: &[u32]) -> Tally {
-    let t = form(t, received, b"address 7", [0, 5, 7, 0, 0, 0, 0, 0], 0);
-    let t = form(t, received, b", 6", [0, 5, 6, 0, 0, 0, 0, 0], 5);
-    let t = form(t, received, b", 8", [0, 5, 8, 0, 0, 0, 0, 0], 5);
-    let t = form(t, received, b", 263", [0, 5, 7, 1, 0, 0, 0, 0], 5);
-    let t = form(
-        t,
-        received,
-        b", 7 with a length",
-        [0, 5, 7, 0, 0, 0, 1, 0],
-        5,
-    );
-    let t = end(t);
-    let t = form(
-        t,
-        received,
-        b"set configuration 1",
-        [0, 9, 1, 0, 0, 0, 0, 0],
-        0,
-    );
-    let t = form(t, received, b", 0", [0, 9, 0, 0, 0, 0, 0, 0], 5);
-    let t = form(t, received, b", 2", [0, 9, 2, 0, 0, 0, 0, 0], 5);
-    let t = form(t, received, b", 257", [0, 9, 1, 1, 0, 0, 0, 0], 5);
-    let t = form(
-        t,
-        received,
-        b", 1 with an index",
-        [0, 9, 1, 0, 1, 0, 0, 0],
-        5,
-    );
-    end(t)
-}
-
-fn configurations(t: Tally, received: &[u32]) -> Tally {
-    let t = form(
-        t,
-        received,
-        b"configuration of 0 bytes",
-        [0x80, 6, 0, 2, 0, 0, 0, 0],
-        0,
-    );
-    let t = form(t, received, b", 9", [0x80, 6, 0, 2, 0, 0, 9, 0], 0);
-    let t = form(t, received, b", 255", [0x80, 6, 0, 2, 0, 0, 255, 0], 0);
-    let t = form(t, received, b", 65535", [0x80, 6, 0, 2, 0, 0, 255, 255], 0);
-    let t = form(t, received, b", index 1", [0x80, 6, 1, 2, 0, 0, 9, 0], 5);
-    let t = form(t, received, b", language 1", [0x80, 6, 0, 2, 1, 0, 9, 0], 5);
-    let t = form(
-        t,
-        received,
-        b", language 256",
-        [0x80, 6, 0, 2, 0, 1, 9, 0],
-        5,
-    );
-    end(t)
-}
-
-fn interfaces(t: Tally, received: &[u32]) -> Tally {
-    let t = form(
-        t,
-        received,
-        b"interface 0 with alternate 1",
-        [1, 11, 1, 0, 0, 0, 0, 0],
-        0,
-    );
-    let t = form(t, received, b", 255", [1, 11, 255, 0, 0, 0, 0, 0], 0);
-    let t = form(t, received, b", 0", [1, 11, 0, 0, 0, 0, 0, 0], 5);
-    let t = form(t, received, b", 256", [1, 11, 0, 1, 0, 0, 0, 0], 5);
-    let t = form(t, received, b", 257", [1, 11, 1, 1, 0, 0, 0, 0], 5);
-    let t = form(
-        t,
-        received,
-        b", interface 255",
-        [1, 11, 1, 0, 255, 0, 0, 0],
-        0,
-    );
-    let t = form(
-        t,
-        received,
-        b", interface 256",
-        [1, 11, 1, 0, 0, 1, 0, 0],
-        5,
-    );
-    let t = form(t, received, b", length 1", [1, 11, 1, 0, 0, 0, 1, 0], 5);
-    let t = form(t, received, b", length 256", [1, 11, 1, 0, 0, 0, 0, 1], 5);
-    let t = end(t);
-    let t = form(
-        t,
-        received,
-        b"a setup of zeros",
-        [0, 0, 0, 0, 0, 0, 0, 0],
-        5,
-    );
-    end(t)
+    let waits = six(waiting(r, 1), &setups, ring, f.number);
+    let runs = six(asking(r, setup), &setups, ring, f.number);
+    both(waits, runs)
 }
 
 fn with_byte(setup: [u8; 8], at: usize, v: u8) -> [u8; 8] {
@@ -352,7 +316,7 @@ fn sweeps(t: Tally, running: bool) -> Tally {
     let t = sweep(
         t,
         b"  address 7:",
-        address(),
+        ADDRESS,
         running,
         [1, 1, 1, 1, 1, 1, 1, 1],
     );
@@ -366,7 +330,7 @@ fn sweeps(t: Tally, running: bool) -> Tally {
     let t = sweep(
         t,
         b"  configuration of 9 bytes:",
-        configuration(),
+        CONFIGURATION,
         running,
         [1, 1, 1, 1, 1, 1, 256, 256],
     );
@@ -386,256 +350,127 @@ fn sweeps(t: Tally, running: bool) -> Tally {
     )
 }
 
-// A configuration request and setups behind it.
-fn last(t: Tally, received: &[u32]) -> Tally {
-    let one = with_setup(full_of(address()), 0, configuration());
-    let two = with_setup(full_of(address()), 1, configuration());
-    let t = queue(t, received, b"configuration request first of 1", one, 1, 0);
-    let t = queue(t, received, b", first of 2", one, 2, 5);
-    let t = queue(t, received, b", second of 2", two, 2, 0);
-    let t = queue(t, received, b", second of 3", two, 3, 5);
-    let t = queue(
-        t,
-        received,
-        b", both of 2",
-        with_setup(one, 1, configuration()),
-        2,
-        5,
-    );
-    let t = queue(t, received, b", behind the last", two, 1, 0);
-    end(t)
-}
-
-fn last_of_all(t: Tally, received: &[u32]) -> Tally {
-    let end_of = with_setup(full_of(address()), 256, configuration());
-    let before = with_setup(full_of(address()), 255, configuration());
-    let stray = with_setup(full_of(address()), 256, [0, 0, 0, 0, 0, 0, 0, 0]);
-    let t = queue(
-        t,
-        received,
-        b"configuration request last of 257",
-        end_of,
-        257,
-        0,
-    );
-    let t = queue(t, received, b", last but one", before, 257, 5);
-    let t = end(t);
-    let t = queue(t, received, b"a setup of zeros last of 257", stray, 257, 5);
-    let t = queue(t, received, b", behind 256", stray, 256, 0);
-    end(t)
-}
-
-// A running request with setups that wait.
-fn behind(
-    t: Tally,
-    received: &[u32],
-    text: &[u8],
-    setup: [u8; 8],
-    setups: [u8; 2056],
-    count: usize,
-    number: u8,
-) -> Tally {
-    let trial = asking(waiting(usual(3), count), setup);
-    answer(t, text, six(trial, &setups, received, number))
-}
-
-fn running(t: Tally, received: &[u32]) -> Tally {
-    let others = full_of(address());
-    let one = with_setup(others, 0, configuration());
-    let t = behind(
-        t,
-        received,
-        b"configuration request running with 0 waiting",
-        configuration(),
-        others,
-        0,
-        0,
-    );
-    let t = behind(t, received, b", 1", configuration(), others, 1, 5);
-    let t = behind(t, received, b", 257", configuration(), others, 257, 5);
-    let t = behind(
-        t,
-        received,
-        b", another configuration request",
-        configuration(),
-        one,
-        1,
-        5,
-    );
-    let t = end(t);
-    let t = behind(
-        t,
-        received,
-        b"address running with 1 waiting",
-        address(),
-        others,
-        1,
-        0,
-    );
-    let t = behind(t, received, b", 257", address(), others, 257, 0);
-    let t = behind(
-        t,
-        received,
-        b", a configuration request",
-        address(),
-        one,
-        1,
-        0,
-    );
-    end(t)
-}
-
-// A line of a reply as long as its request asks, and one longer.
-fn reply(t: Tally, received: &[u32], text: &[u8], setup: [u8; 8], asked: u64, more: u64) -> Tally {
-    let setups = [0u8; 2056];
-    let r = asking(usual(3), setup);
-    let t = answer_at(
-        t,
-        text,
-        asked,
-        six(with(r, Field::Reply, asked), &setups, received, 0),
-    );
-    let t = answer_at(
-        t,
-        b", ",
-        more,
-        six(with(r, Field::Reply, more), &setups, received, 5),
-    );
-    end(t)
-}
-
-fn replies(t: Tally, received: &[u32]) -> Tally {
-    let setups = [0u8; 2056];
-    let t = reply(
-        t,
-        received,
-        b"reply of a request for 64 bytes ",
-        [0x80, 6, 0, 1, 0, 0, 64, 0],
-        64,
-        65,
-    );
-    let t = reply(
-        t,
-        received,
-        b"reply of a request for 18 bytes ",
-        [0x80, 6, 0, 1, 0, 0, 18, 0],
-        18,
-        19,
-    );
-    let t = reply(
-        t,
-        received,
-        b"reply of a request for 9 bytes ",
-        configuration(),
-        9,
-        10,
-    );
-    let t = reply(
-        t,
-        received,
-        b"reply of a request for 256 bytes ",
-        [0x80, 6, 0, 2, 0, 0, 0, 1],
-        256,
-        257,
-    );
-    let t = reply(
-        t,
-        received,
-        b"reply of a request for 65535 bytes ",
-        [0x80, 6, 0, 2, 0, 0, 255, 255],
-        65_535,
-        65_536,
-    );
-    let t = reply(
-        t,
-        received,
-        b"reply of a request for none ",
-        address(),
-        0,
-        1,
-    );
-    let t = answer_at(
-        t,
-        b"reply where no request runs ",
-        65_536,
-        six(with(usual(3), Field::Reply, 65_536), &setups, received, 0),
-    );
-    end(t)
-}
-
-// A packer with bytes held under a status.
-fn packer(
-    t: Tally,
-    received: &[u32],
-    text: &[u8],
-    status: u8,
-    held: u8,
-    sysex: bool,
-    number: u8,
-) -> Tally {
-    let setups = [0u8; 2056];
-    let holding = Packer {
+fn held(status: u8, held: u8, sysex: bool, number: u8) -> Holding {
+    Holding {
         status,
-        first: 0x3C,
-        second: 0x40,
         held,
         sysex,
-    };
-    let trial = with_packer(usual(3), holding);
-    answer(t, text, six(trial, &setups, received, number))
-}
-
-fn held(t: Tally, received: &[u32]) -> Tally {
-    let t = packer(t, received, b"bytes held under 90: 2", 0x90, 2, false, 0);
-    let t = packer(t, received, b", 3", 0x90, 3, false, 5);
-    let t = packer(t, received, b", 255", 0x90, 255, false, 5);
-    let t = packer(t, received, b"; in SysEx 2", 0x90, 2, true, 0);
-    let t = packer(t, received, b", 3", 0x90, 3, true, 5);
-    end(t)
+        number,
+    }
 }
 
 // So many bytes held under each status at an end of a range, and `number` met under a two-byte one.
-fn statuses(t: Tally, received: &[u32], text: &[u8], held: u8, sysex: bool, number: u8) -> Tally {
-    let t = packer(t, received, text, 0xBF, held, sysex, 0);
-    let t = packer(t, received, b", C0", 0xC0, held, sysex, number);
-    let t = packer(t, received, b", D5", 0xD5, held, sysex, number);
-    let t = packer(t, received, b", DF", 0xDF, held, sysex, number);
-    let t = packer(t, received, b", E0", 0xE0, held, sysex, 0);
-    let t = packer(t, received, b", F0", 0xF0, held, sysex, 0);
-    let t = packer(t, received, b", F1", 0xF1, held, sysex, number);
-    let t = packer(t, received, b", F2", 0xF2, held, sysex, 0);
-    let t = packer(t, received, b", F3", 0xF3, held, sysex, number);
-    let t = packer(t, received, b", F4", 0xF4, held, sysex, 0);
-    end(t)
+fn status(i: usize, count: u8, sysex: bool, number: u8) -> Holding {
+    match i {
+        0 => held(0xBF, count, sysex, 0),
+        1 => held(0xC0, count, sysex, number),
+        2 => held(0xD5, count, sysex, number),
+        3 => held(0xDF, count, sysex, number),
+        4 => held(0xE0, count, sysex, 0),
+        5 => held(0xF0, count, sysex, 0),
+        6 => held(0xF1, count, sysex, number),
+        7 => held(0xF2, count, sysex, 0),
+        8 => held(0xF3, count, sysex, number),
+        _ => held(0xF4, count, sysex, 0),
+    }
 }
 
-fn packers(t: Tally, received: &[u32]) -> Tally {
-    let t = held(t, received);
-    let t = statuses(t, received, b"1 byte held under BF", 1, false, 5);
-    let t = statuses(t, received, b"2 bytes held under BF", 2, false, 5);
-    let t = statuses(t, received, b"none held under BF", 0, false, 0);
-    let t = statuses(t, received, b"in SysEx, 1 byte held under BF", 1, true, 0);
-    statuses(t, received, b"in SysEx, 2 bytes held under BF", 2, true, 0)
+fn packer(i: usize) -> Holding {
+    match i {
+        0 => held(0x90, 2, false, 0),
+        1 => held(0x90, 3, false, 5),
+        2 => held(0x90, 255, false, 5),
+        3 => held(0x90, 2, true, 0),
+        4 => held(0x90, 3, true, 5),
+        5..=14 => status(i - 5, 1, false, 5),
+        15..=24 => status(i - 15, 2, false, 5),
+        25..=34 => status(i - 25, 0, false, 0),
+        35..=44 => status(i - 35, 1, true, 0),
+        45..=54 => status(i - 45, 2, true, 0),
+        _ => held(0, 0, false, 0),
+    }
 }
 
-fn forms(t: Tally, received: &[u32]) -> Tally {
-    let t = descriptors(t, received);
-    let t = addresses(t, received);
-    let t = configurations(t, received);
-    let t = interfaces(t, received);
+// All six calls on a record with the packer.
+fn packer_tried(h: Holding, ring: &[u32; 576_012]) -> Seen {
+    let setups = [0u8; 2056];
+    let packer = Packer {
+        status: h.status,
+        first: 0x3C,
+        second: 0x40,
+        held: h.held,
+        sysex: h.sysex,
+    };
+    let mut r = usual(3);
+    r.packer = packer;
+    six(r, &setups, ring, h.number)
+}
+
+pub fn tried(i: usize, ring: &[u32; 576_012]) -> Seen {
+    match i {
+        3..=17 => phase_tried(i - 3, ring),
+        18..=57 => form_tried(form(i), ring),
+        75..=129 => packer_tried(packer(i - 75), ring),
+        _ => queue_tried(queue(i), ring),
+    }
+}
+
+fn forms(t: Tally, ring: &mut [u32; 576_012]) -> Tally {
+    cases(
+        t,
+        List::Setups,
+        0,
+        b"setups waiting 257|, 258|, 2^64 - 1\n\
+        no setup waiting or running in Idle|, Vbus|, Reset|, Enumerate|, Stream\n\
+        a setup waiting in Idle|, Vbus|, Reset|, Enumerate|, Stream\n\
+        a request running in Idle|, Vbus|, Reset|, Enumerate|, Stream\n\
+        device descriptor of 64 bytes|, 63|, 65|, 18|, 17|, 19|, 320\n\
+        descriptor of type 0|, type 2|, type 3|, index 1|, language 9|, language 400\n\
+        address 7|, 6|, 8|, 263|, 7 with a length\n\
+        set configuration 1|, 0|, 2|, 257|, 1 with an index\n\
+        configuration of 0 bytes|, 9|, 255|, 65535|, index 1|, language 1|, language 256\n\
+        interface 0 with alternate 1|, 255|, 0|, 256|, 257|, interface 255|, interface 256|, length 1|, length 256\n\
+        a setup of zeros\n",
+        ring,
+    )
+}
+
+fn queues(t: Tally, ring: &mut [u32; 576_012]) -> Tally {
+    cases(
+        t,
+        List::Setups,
+        58,
+        b"configuration request first of 1|, first of 2|, second of 2|, second of 3|, both of 2|, behind the last\n\
+        configuration request last of 257|, last but one\n\
+        a setup of zeros last of 257|, behind 256\n\
+        configuration request running with 0 waiting|, 1|, 257|, another configuration request\n\
+        address running with 1 waiting|, 257|, a configuration request\n",
+        ring,
+    )
+}
+
+fn packers(t: Tally, ring: &mut [u32; 576_012]) -> Tally {
+    cases(
+        t,
+        List::Setups,
+        75,
+        b"bytes held under 90: 2|, 3|, 255|; in SysEx 2|, 3\n\
+        1 byte held under BF|, C0|, D5|, DF|, E0|, F0|, F1|, F2|, F3|, F4\n\
+        2 bytes held under BF|, C0|, D5|, DF|, E0|, F0|, F1|, F2|, F3|, F4\n\
+        none held under BF|, C0|, D5|, DF|, E0|, F0|, F1|, F2|, F3|, F4\n\
+        in SysEx, 1 byte held under BF|, C0|, D5|, DF|, E0|, F0|, F1|, F2|, F3|, F4\n\
+        in SysEx, 2 bytes held under BF|, C0|, D5|, DF|, E0|, F0|, F1|, F2|, F3|, F4\n",
+        ring,
+    )
+}
+
+pub fn setups(t: Tally, ring: &mut [u32; 576_012]) -> Tally {
+    let t = forms(t, ring);
     print(b"accepted of 256 values of each byte of a setup that waits:\n");
     let t = sweeps(t, false);
     print(b"accepted of 256 values of each byte of a setup that runs:\n");
-    sweeps(t, true)
-}
-
-pub fn setups(t: Tally, received: &[u32]) -> Tally {
-    let t = lengths(t, received);
-    let t = outside(t, received);
-    let t = forms(t, received);
-    let t = last(t, received);
-    let t = last_of_all(t, received);
-    let t = running(t, received);
-    let t = replies(t, received);
-    packers(t, received)
+    let t = sweeps(t, true);
+    let t = queues(t, ring);
+    let t = numbers::replies(t, ring);
+    packers(t, ring)
 }

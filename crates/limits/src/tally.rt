@@ -67,19 +67,15 @@ pub fn counted(t: Tally, seen: Seen) -> Tally {
     }
 }
 
-// Writes what calls answered behind a text, and counts them.
-pub fn answer(t: Tally, text: &[u8], seen: Seen) -> Tally {
-    print(text);
+// Writes what calls answered and counts them; `last` ends the line.
+pub fn answer(t: Tally, seen: Seen, last: bool) -> Tally {
     print(b": ");
     print_number(wide(seen.number));
-    counted(t, seen)
-}
-
-// The same behind a text and a number.
-pub fn answer_at(t: Tally, text: &[u8], n: u64, seen: Seen) -> Tally {
-    print(text);
-    print_number(n);
-    answer(t, b"", seen)
+    let next = counted(t, seen);
+    if last {
+        return end(next);
+    }
+    next
 }
 
 // Ends a line with the checks that it stands for.

@@ -2,6 +2,7 @@
 use gptimers::Timer;
 use gptimers::Timers;
 use midi::Packer;
+use record::Audio;
 use record::Phase;
 use record::State;
 use record::Stats;
@@ -15,7 +16,7 @@ pub struct Trial {
 
 // A number in the record; `Counts` is both counts of microframes, `Block` sets the channels that match too, and the timers are set or not.
 pub enum Field {
-    Setups,
+    Spans,
     Midi,
     Serial,
     Device,
@@ -62,33 +63,70 @@ pub fn usual(n: u64) -> Trial {
     }
 }
 
+fn with_state(r: Trial, state: State) -> Trial {
+    let mut next = r;
+    next.state = state;
+    next
+}
+
+// The record in another phase.
+pub fn in_phase(r: Trial, p: Phase) -> Trial {
+    let state = r.state;
+    with_state(r, record::with_phase(state, p))
+}
+
+// The little-endian word of a setup from a byte on.
+pub fn little_word(setup: [u8; 8], at: usize) -> u32 {
+    if 4 < at {
+        return 0;
+    }
+    bus::word(setup[at + 3], setup[at + 2], setup[at + 1], setup[at])
+}
+
 // The record in enumeration, with a running request.
 pub fn asking(r: Trial, setup: [u8; 8]) -> Trial {
-    let state = r.state;
-    let mut next = record::with_phase(state, Phase::Enumerate);
-    let first = bus::word(setup[3], setup[2], setup[1], setup[0]);
-    let second = bus::word(setup[7], setup[6], setup[5], setup[4]);
-    next.control.on = true;
-    next.control.first = first;
-    next.control.second = second;
-    with_state(r, next)
+    let mut next = in_phase(r, Phase::Enumerate);
+    let first = little_word(setup, 0);
+    let second = little_word(setup, 4);
+    next.state.control.on = true;
+    next.state.control.first = first;
+    next.state.control.second = second;
+    next
 }
 
 // The record in enumeration, with setups that wait.
 pub fn waiting(r: Trial, count: usize) -> Trial {
-    let state = r.state;
-    let mut next = record::with_phase(state, Phase::Enumerate);
-    next.lengths.setups = count;
-    with_state(r, next)
+    let mut next = in_phase(r, Phase::Enumerate);
+    next.state.lengths.setups = count;
+    next
 }
 
-pub fn with_state(r: Trial, state: State) -> Trial {
-    let packer = r.packer;
-    Trial {
-        state,
-        spans: r.spans,
-        packer,
+// The record with so many faults: 1, a device descriptor of 65 bytes; 2, 17 gone spans too.
+pub fn faulty(r: Trial, faults: u8) -> Trial {
+    let mut next = r;
+    if 1 <= faults {
+        next.state.lengths.device = 65;
     }
+    if 2 <= faults {
+        next.spans = 17;
+    }
+    next
+}
+
+// A record whose sending ring starts at a frame and holds so many.
+pub fn sending(start: usize, len: usize) -> Trial {
+    let mut next = usual(3);
+    next.state.audio.sending.start = start;
+    next.state.audio.sending.len = len;
+    next
+}
+
+// A record whose received ring starts at a frame and holds so many.
+pub fn receiving(start: usize, len: usize) -> Trial {
+    let mut next = usual(3);
+    next.state.audio.received.start = start;
+    next.state.audio.received.len = len;
+    next
 }
 
 fn low(v: u64) -> u32 {
@@ -103,50 +141,41 @@ fn channels(block: u32) -> u32 {
     (block - 32) / 28
 }
 
-fn with_length(s: State, f: Field, v: u64) -> State {
+fn with_counter(s: Stats, f: Field, v: u64) -> Stats {
     let mut next = s;
     match f {
-        Field::Setups => next.lengths.setups = v as usize,
-        Field::Midi => next.lengths.midi = v as usize,
-        Field::Serial => next.lengths.serial = v as usize,
-        Field::Device => next.lengths.device = v as usize,
-        Field::Config => next.lengths.config = v as usize,
-        Field::Reply => next.control.got = v as usize,
+        Field::StatsCount => next.microframes = v,
+        Field::InTransfers => next.in_transfers = v,
+        Field::OutTransfers => next.out_transfers = v,
+        Field::InFrames => next.in_frames = v,
+        Field::OutFrames => next.out_frames = v,
+        Field::BadBlocks => next.bad_blocks = v,
+        Field::MidiDtds => next.midi_dtds = v,
+        Field::MidiAsleep => next.midi_asleep = v,
+        Field::OutUnderruns => next.out_underruns = v,
+        Field::MidiPacketsOut => next.midi_packets_out = v,
+        Field::VendorInBytes => next.vendor_in_bytes = v,
+        Field::Restarts => next.restarts = v,
+        Field::Enumerations => next.enumerations = v,
         _ => {}
     }
     next
 }
 
-fn with_count(s: State, f: Field, v: u64) -> State {
-    let mut next = s;
-    match f {
-        Field::Counts => {
-            next.port.uf = v;
-            next.stats.microframes = v;
-        }
-        Field::HostCount => next.port.uf = v,
-        Field::StatsCount => next.stats.microframes = v,
-        Field::PhaseStart => next.port.t = v,
-        Field::RequestStart => next.control.t0 = v,
-        _ => {}
-    }
-    next
-}
-
-fn with_audio(s: State, f: Field, v: u64) -> State {
-    let mut next = s;
+fn with_audio(a: Audio, f: Field, v: u64) -> Audio {
+    let mut next = a;
     let word = low(v);
     let half = (v % 0x1_0000) as u16;
     let matching = channels(word);
     match f {
-        Field::Credit => next.audio.credit = v,
-        Field::Counter => next.audio.counter = half,
-        Field::Budget => next.audio.budget = v,
+        Field::Credit => next.credit = v,
+        Field::Counter => next.counter = half,
+        Field::Budget => next.budget = v,
         Field::Block => {
-            next.audio.block = word;
-            next.audio.channels = matching;
+            next.block = word;
+            next.channels = matching;
         }
-        Field::Channels => next.audio.channels = word,
+        Field::Channels => next.channels = word,
         _ => {}
     }
     next
@@ -172,21 +201,22 @@ fn with_timer(ts: Timers, f: Field, v: u64) -> Timers {
     next
 }
 
-fn with_counter(s: Stats, f: Field, v: u64) -> Stats {
+// The state with one number changed, but for those above.
+fn with_number(s: State, f: Field, v: u64) -> State {
     let mut next = s;
     match f {
-        Field::InTransfers => next.in_transfers = v,
-        Field::OutTransfers => next.out_transfers = v,
-        Field::InFrames => next.in_frames = v,
-        Field::OutFrames => next.out_frames = v,
-        Field::BadBlocks => next.bad_blocks = v,
-        Field::MidiDtds => next.midi_dtds = v,
-        Field::MidiAsleep => next.midi_asleep = v,
-        Field::OutUnderruns => next.out_underruns = v,
-        Field::MidiPacketsOut => next.midi_packets_out = v,
-        Field::VendorInBytes => next.vendor_in_bytes = v,
-        Field::Restarts => next.restarts = v,
-        Field::Enumerations => next.enumerations = v,
+        Field::Midi => next.lengths.midi = v as usize,
+        Field::Serial => next.lengths.serial = v as usize,
+        Field::Device => next.lengths.device = v as usize,
+        Field::Config => next.lengths.config = v as usize,
+        Field::Reply => next.control.got = v as usize,
+        Field::RequestStart => next.control.t0 = v,
+        Field::PhaseStart => next.port.t = v,
+        Field::HostCount => next.port.uf = v,
+        Field::Counts => {
+            next.port.uf = v;
+            next.stats.microframes = v;
+        }
         _ => {}
     }
     next
@@ -195,35 +225,17 @@ fn with_counter(s: Stats, f: Field, v: u64) -> Stats {
 // The record with one number changed.
 pub fn with(r: Trial, f: Field, v: u64) -> Trial {
     let state = r.state;
-    let stats = state.stats;
-    let timers = state.timers;
-    let counters = with_counter(stats, f, v);
-    let timed = with_timer(timers, f, v);
-    let mut next = with_length(state, f, v);
-    next.stats = counters;
-    next.timers = timed;
-    let counted = with_count(next, f, v);
-    let last = with_audio(counted, f, v);
-    with_state(r, last)
-}
-
-// The record in another phase.
-pub fn in_phase(r: Trial, p: Phase) -> Trial {
-    let state = r.state;
-    let next = record::with_phase(state, p);
-    with_state(r, next)
-}
-
-// The record with another count of gone spans.
-pub fn with_spans(r: Trial, spans: usize) -> Trial {
-    let mut next = r;
-    next.spans = spans;
-    next
-}
-
-// The record with another packer.
-pub fn with_packer(r: Trial, packer: Packer) -> Trial {
-    let mut next = r;
-    next.packer = packer;
+    let audio = with_audio(state.audio, f, v);
+    let timers = with_timer(state.timers, f, v);
+    let stats = with_counter(state.stats, f, v);
+    let mut changed = state;
+    changed.audio = audio;
+    changed.timers = timers;
+    changed.stats = stats;
+    let mut next = with_state(r, with_number(changed, f, v));
+    match f {
+        Field::Spans => next.spans = v as usize,
+        _ => {}
+    }
     next
 }

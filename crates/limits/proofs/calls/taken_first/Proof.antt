@@ -1,10 +1,10 @@
--- `limits::rings::take_first` is safe and ends. A part of the ring is as long as it is cut.
+-- `limits::calls::taken_first` is safe and ends. A part of the message is as long as it is cut.
 use mathlib.Core.Path.{sym}
 use native.Mathlib.Omega.{arith}
 use lib.Seq.{length-take-le}
 use borrow.Author.Needs.{needs}
-use Rattle.limits.proofs.rings.take_first.Statement.{statement}
-use Rattle.limits.proofs.rings.take_first.Tie as tie
+use Rattle.limits.proofs.calls.taken_first.Statement.{statement}
+use Rattle.limits.proofs.calls.taken_first.Tie as tie
 
 one-requires : tie.Need-one-requires
 one-requires c κs = search needs
@@ -21,6 +21,6 @@ taken-requires c κs = search needs
 returns-2 : tie.Need-returns-2
 returns-2 c = search needs
 
-pub take-first-spec : {M : Type 1} → statement M
-take-first-spec =
+pub taken-first-spec : {M : Type 1} → statement M
+taken-first-spec =
     tie.close (tie.spec one-requires returns slice-aggregate-taken taken-requires returns-2)
