@@ -10,11 +10,9 @@ use lib.ListN.{length}
 use Rattle.bus.specs.Memory.{Memory}
 use Rattle.bus.specs.Stores.{bus}
 use Rattle.usbdev.specs.Transfer.{totalOf}
-use Rattle.transfer.specs.Transfer.{pointers, bytesIn}
-use Rattle.transfer.proofs.Laws.{length-bytesIn}
 use Rattle.dtd.specs.declared.Found.the-variants.{Unprimed, Ended, Active}
-use Rattle.dtd.specs.Dtd.{endpoint, descriptor, interrupts, bytesOf, Run, settled, runDtds, found}
-use Rattle.dtd.proofs.Runs.{says-unprimed, says-ended, says-active, IsActive, run-unprimed, run-ended, active-bytes, active-done, single}
+use Rattle.dtd.specs.Dtd.{endpoint, interrupts, Run, settled, runDtds, found}
+use Rattle.dtd.proofs.Runs.{says-unprimed, says-ended, says-active, IsActive, run-unprimed, run-ended, active-done, single, input-length}
 use Rattle.model.specs.Streams.{nonempty, brought}
 
 nonempty-by : (bs : List ℕ) → nonempty bs ≡ not (eqb (length bs) 0)
@@ -38,12 +36,6 @@ module _ (ep : ℕ) (some : 0 < ep) (m : Memory) (flag : Bool) where
     is-active : IsActive (endpoint ep true) m qh n tok
     is-active = says-active (endpoint ep true) m qh n tok f
 
-    pub input-bytes : runDtds (endpoint ep true) [] (bus m flag) .bytes ≡ bytesIn m (pointers m (descriptor n)) (totalOf tok)
-    unfolding bytesOf
-    input-bytes =
-        active-bytes (endpoint ep true) [] (bus m flag) (single ep true some) qh n tok is-active
-        ∙ ap (λ (x : ℕ). bytesIn m (pointers m (descriptor n)) (totalOf x)) (sym (is-active .token))
-
     pub input-done : runDtds (endpoint ep true) [] (bus m flag) .done ≡ interrupts tok
     input-done = active-done (endpoint ep true) [] (bus m flag) (single ep true some) qh n tok is-active
 
@@ -51,4 +43,4 @@ module _ (ep : ℕ) (some : 0 < ep) (m : Memory) (flag : Bool) where
     input-brought =
         ap₂ (λ (x y : Bool). x || y) input-done
         (nonempty-by (runDtds (endpoint ep true) [] (bus m flag) .bytes)
-        ∙ ap (λ (x : ℕ). not (eqb x 0)) (ap length input-bytes ∙ length-bytesIn m (pointers m (descriptor n)) (totalOf tok)))
+        ∙ ap (λ (x : ℕ). not (eqb x 0)) (input-length ep some m flag qh n tok is-active))

@@ -25,7 +25,7 @@ use Rattle.dtd.specs.declared.Ran.{Ran}
 use Rattle.dtd.specs.declared.Found.the-variants.{Unprimed, Ended, Active}
 use Rattle.dtd.specs.Dtd.{descriptor, bitOf, primed, nextActive, terminates, queueHead, nextOf, nextDtd, tokenOf, found, settling, listEnds, unpriming, reporting, Run, runDtds}
 use Rattle.dtd.specs.Promises.{noneRan, TakesOne, SendsOne, Runs}
-use Rattle.dtd.proofs.Runs.{runs-unprimed, runs-ended, runs-active, single, says-unprimed, says-ended, says-active}
+use Rattle.dtd.proofs.Runs.{runs-unprimed, runs-ended, runs-active, single, says-unprimed, says-ended, says-active, input-bytes}
 use Rattle.record.specs.declared.Ring.{Ring}
 use Rattle.record.specs.declared.Audio.{Audio}
 use Rattle.record.specs.declared.Stats.{Stats}
@@ -42,7 +42,7 @@ use Rattle.blocks.specs.declared.Decoded.{Decoded}
 use Rattle.blocks.specs.Promises.{InRing, atBlocks, Keeps, withDecoded}
 use Rattle.audio.specs.declared.Paced.{Paced}
 use Rattle.audio.specs.Promises.{pacedOf, decodedOf, countedIn, SameOut, atHeard, Hears, InSending, CanSend, sentBlock, atSent, Outputs, Unprimes, atStream, Streams}
-use Rattle.audio.proofs.Found.{unprimed-brought, ended-brought, input-bytes, input-brought}
+use Rattle.audio.proofs.Found.{unprimed-brought, ended-brought, input-brought}
 
 -- ---- the budget
 
@@ -183,7 +183,7 @@ module _ (s : State) (m m′ : Memory) (l l′ : List ℕ) (qh td tok total : �
       ap (λ (x : List ℕ). bytesIn m x total) (is-pointers ∙ ap (λ (x : ℕ). pointersFor m x total) is-at)
       ∙ bytes-for m (descriptor td) total (omega (arith, total-lt tok, is-total)) m total (omega arith)
       ∙ ap (bytesIn m (pointers m (descriptor td))) is-total
-      ∙ sym (input-bytes 3 (omega arith) m (s .port .line) qh td tok is)
+      ∙ sym (input-bytes 3 (omega arith) m (s .port .line) qh td tok (says-active audioIn m qh td tok is))
 
   kept-so : Keeps (keepsBlocks (blocksOf (run .bytes))) (decodedOf s) l d l′
   kept-so =

@@ -15,9 +15,9 @@ use Rattle.bus.specs.Sized.{Sized}
 use Rattle.bus.specs.Stores.{Bus, bus, Store, store, stored, droppedBy, BusStep, _then_, nothing, reading, when, Does}
 use Rattle.bus.proofs.Storing.{does-then, does-as, does-counted}
 use Rattle.usbdev.specs.Transfer.{totalOf}
-use Rattle.transfer.specs.Transfer.{pointers, pointersFor, sending}
+use Rattle.transfer.specs.Transfer.{pointers, pointersFor, bytesIn, sending}
 use Rattle.transfer.proofs.Addresses.{sending-for}
-use Rattle.transfer.proofs.Laws.{dropped-le}
+use Rattle.transfer.proofs.Laws.{dropped-le, length-bytesIn}
 use Rattle.transfer.proofs.Sending.{sending-dropped}
 use Rattle.usbdev.proofs.Tokens.{total-lt}
 use native.Mathlib.Nat.{min-le-left, min-le-right}
@@ -298,3 +298,16 @@ idle-run e bs b one h = by-prime (primed e (b .memory .page)) refl
     by-prime true p = by-active p (nextActive e (b .memory)) refl
     by-prime false p =
         record { bytes = ap (λ (r : Run). r .bytes) (run-unprimed e bs b p); retired = ap (λ (r : Run). r .retired) (run-unprimed e bs b p) }
+
+-- ---- an active descriptor of an input endpoint other than 0
+
+module _ (ep : ℕ) (other : 0 < ep) (m : Memory) (l : Bool) (qh n tok : ℕ) (is : IsActive (endpoint ep true) m qh n tok) where
+  -- its bytes are those at its addresses, as many as its total
+  pub input-bytes : runDtds (endpoint ep true) [] (bus m l) .bytes ≡ bytesIn m (pointers m (descriptor n)) (totalOf tok)
+  unfolding bytesOf
+  input-bytes =
+      active-bytes (endpoint ep true) [] (bus m l) (single ep true other) qh n tok is
+      ∙ ap (λ (x : ℕ). bytesIn m (pointers m (descriptor n)) (totalOf x)) (sym (is .token))
+
+  pub input-length : length (runDtds (endpoint ep true) [] (bus m l) .bytes) ≡ totalOf tok
+  input-length = ap length input-bytes ∙ length-bytesIn m (pointers m (descriptor n)) (totalOf tok)

@@ -10,10 +10,9 @@ use Rattle.bus.specs.Stores.{bus}
 use Rattle.usbdev.specs.Transfer.{totalOf}
 use Rattle.usbdev.proofs.Tokens.{total-lt}
 use Rattle.transfer.specs.Transfer.{pointers, bytesIn}
-use Rattle.transfer.proofs.Laws.{length-bytesIn}
 use Rattle.dtd.specs.declared.Found.the-variants.{Unprimed, Ended, Active}
-use Rattle.dtd.specs.Dtd.{Endpoint, endpoint, primed, queueHead, nextDtd, nextActive, tokenOf, descriptor, moves, bytesOf, Run, settled, runDtds, found}
-use Rattle.dtd.proofs.Runs.{IsActive, says-unprimed, says-ended, says-active, run-unprimed, run-ended, active-bytes, active-moved, single}
+use Rattle.dtd.specs.Dtd.{Endpoint, endpoint, primed, queueHead, nextDtd, nextActive, tokenOf, descriptor, moves, Run, settled, runDtds, found}
+use Rattle.dtd.proofs.Runs.{IsActive, says-unprimed, says-ended, says-active, run-unprimed, run-ended, active-moved, single, input-bytes, input-length}
 
 -- ---- an endpoint is ready where its next descriptor is active, and only there
 
@@ -44,15 +43,6 @@ module _ (ep : ℕ) (other : 0 < ep) (m : Memory) (l : Bool) where
 
   -- of an endpoint whose next descriptor is active
   module _ (qh n tok : ℕ) (is : IsActive here m qh n tok) where
-    pub is-bytes : runDtds here [] (bus m l) .bytes ≡ bytesIn m (pointers m (descriptor n)) (totalOf tok)
-    unfolding bytesOf
-    is-bytes =
-        active-bytes here [] (bus m l) (single ep true other) qh n tok is
-        ∙ ap (λ (x : ℕ). bytesIn m (pointers m (descriptor n)) (totalOf x)) (sym (is .token))
-
-    pub is-length : length (runDtds here [] (bus m l) .bytes) ≡ totalOf tok
-    is-length = ap length is-bytes ∙ length-bytesIn m (pointers m (descriptor n)) (totalOf tok)
-
     is-moved : runDtds here [] (bus m l) .moved ≡ totalOf tok
     unfolding moves
     is-moved = active-moved here [] (bus m l) (single ep true other) qh n tok is
@@ -79,7 +69,7 @@ module _ (ep : ℕ) (other : 0 < ep) (m : Memory) (l : Bool) where
           none-brings (runDtds here [] (bus m l)) (ap (λ (r : Run). r .moved) (run-ended here [] (bus m l) (single _ true other) ep ea)) (ended-run ep ea)
       by-cases true true ep ea =
           let is : IsActive here m (queueHead here (m .page)) (nextDtd here m) (tokenOf (nextDtd here m) m) = record { prime = ep; active = ea; head = refl; next = refl; token = refl } in
-          let size = is-length (queueHead here (m .page)) (nextDtd here m) (tokenOf (nextDtd here m) m) is in
+          let size = input-length _ other m l (queueHead here (m .page)) (nextDtd here m) (tokenOf (nextDtd here m) m) is in
           record {
             moved = is-moved (queueHead here (m .page)) (nextDtd here m) (tokenOf (nextDtd here m) m) is ∙ sym size;
             few = omega (arith, size, total-lt (tokenOf (nextDtd here m) m));
@@ -93,4 +83,4 @@ module _ (ep : ℕ) (other : 0 < ep) (m : Memory) (l : Bool) where
   ended-bytes f = ended-run (says-ended here m f .0) (says-ended here m f .1)
 
   pub active-input : (qh n tok : ℕ) → found here m ≡ Active qh n tok → runDtds here [] (bus m l) .bytes ≡ bytesIn m (pointers m (descriptor n)) (totalOf tok)
-  active-input qh n tok f = is-bytes qh n tok (says-active here m qh n tok f)
+  active-input qh n tok f = input-bytes ep other m l qh n tok (says-active here m qh n tok f)
