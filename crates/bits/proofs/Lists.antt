@@ -1,5 +1,5 @@
 -- Laws on lists that several crates cite.
-use Prim.Native.Nat.{ℕ, zero, suc, _+_}
+use Prim.Native.Nat.{ℕ, suc, _+_}
 use mathlib.Core.List.{List, [], _∷_, _++_}
 use mathlib.Core.Path.{_≡_, _∙_}
 use native.Mathlib.Nat.{add-zero, suc-add, add-suc}

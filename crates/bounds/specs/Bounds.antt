@@ -1,9 +1,8 @@
 -- The bounds of a host record (document 01, "Numbers of refusal", 5): each clause of that text stands in one of the named parts below.
 use Prim.Native.Nat.{ℕ, zero, suc, _+_, _-_, _*_, _/_, _%_, _^_, min}
-use mathlib.Core.Bool.{Bool, true, false, not, _&&_, _||_}
+use mathlib.Core.Bool.{Bool, true, not, _&&_, _||_}
 use mathlib.Core.List.{List}
 use lib.Dec.{eqb, leb, ltb}
-use lib.ListN.{length}
 use Rattle.midi.specs.declared.Packer.{Packer}
 use Rattle.midi.specs.Packer.{messageLength}
 use Rattle.gptimers.specs.declared.Timer.{Timer}

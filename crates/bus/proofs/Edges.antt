@@ -1,8 +1,8 @@
 -- Words of a window, across its wrap and across windows, for every length at once; and the source's short path.
-use Prim.Native.Nat.{ℕ, _+_, _-_, _*_, _/_, _%_, _^_, _<_, _≤_}
+use Prim.Native.Nat.{ℕ, _+_, _-_, _%_, _^_, _<_, _≤_}
 use mathlib.Core.Bool.{Bool, true, false}
-use mathlib.Core.Path.{_≡_, refl, sym, ap, subst, _∙_}
-use native.Mathlib.Nat.{mod-eq-of-lt, sub-add-cancel}
+use mathlib.Core.Path.{_≡_, refl, sym, ap, _∙_}
+use native.Mathlib.Nat.{mod-eq-of-lt}
 use native.Mathlib.Omega.{arith}
 use borrow.Author.Tests.{leb-true}
 use lib.Dec.{leb}
@@ -10,11 +10,10 @@ use lib.ListN.{length, getD}
 use Rattle.bits.specs.Pick.{pick}
 use Rattle.bus.specs.declared.Place.{Place}
 use Rattle.bus.specs.declared.Place.the-variants.{Dynamic, Static, Page, Nowhere}
-use Rattle.bus.specs.Memory.{Memory, place, read, at, after, word, peek8, peek32}
-use Rattle.bus.specs.Sized.{Power, Sized}
+use Rattle.bus.specs.Memory.{Memory, read, at, after, word, peek8, peek32}
+use Rattle.bus.specs.Sized.{Sized}
 use Rattle.bus.specs.Words.{wordAt, shortPath, sourcePeek32}
 use Rattle.bus.proofs.Places.{place-dynamic, place-static, peek-at}
-use Rattle.bus.proofs.Pages.{mod-shift}
 use Rattle.bus.proofs.Words.{short-word}
 
 -- the byte k after address a, where it still lies in dynamic memory, and where it lies in static memory: each window's bytes by its own remainder

@@ -1,18 +1,16 @@
 -- The laws of memory that later proofs cite: what a read gives after a write.
-use Prim.Native.Nat.{ℕ, zero, suc, _+_, _*_, _-_, _/_, _%_, _^_, _<_, _≤_}
-use mathlib.Core.Path.{_≡_, refl, sym, ap, subst, _∙_}
+use Prim.Native.Nat.{ℕ, _-_, _%_, _^_}
+use mathlib.Core.Path.{_≡_, refl, sym, ap, _∙_}
 use native.Mathlib.Nat.{sub-add-cancel}
 use native.Mathlib.Decide.{ℕ-discrete}
 use native.Mathlib.Omega.{arith}
-use lib.Dec.{lit<}
-use lib.ListN.{length, getD, set}
 use lib.Pow.{mod-mod-pow}
 use lib.Seq.{getD-set-same, getD-set-other}
 use Rattle.bus.specs.declared.Place.{Place}
 use Rattle.bus.specs.declared.Place.the-variants.{Dynamic, Static, Page, Nowhere}
-use Rattle.bus.specs.Memory.{Memory, memory, place, read, write, lost, at, peek8, poke8, dropped8, after, word, peek32, poke32, dropped32}
+use Rattle.bus.specs.Memory.{Memory, place, read, write, lost, at, peek8, poke8, dropped8}
 use Rattle.bus.specs.Sized.{Power, Sized}
-use Rattle.bus.proofs.Places.{Inside, inside, Kept, kept-poke8, sized-kept, place-case, dropped-at}
+use Rattle.bus.proofs.Places.{Inside, inside, Kept, kept-poke8, place-case, dropped-at}
 
 zero-one : _≡_ {A = ℕ} 0 1 → ⊥
 zero-one e = omega arith

@@ -1,13 +1,11 @@
 -- A word that lies in one page is a word of one window.
-use Prim.Native.Nat.{ℕ, zero, suc, _+_, _*_, _-_, _/_, _%_, _^_, _<_, _≤_}
-use mathlib.Core.List.{List}
-use mathlib.Core.Path.{_≡_, refl, sym, ap, subst, _∙_}
+use Prim.Native.Nat.{ℕ, _+_, _*_, _-_, _/_, _%_, _^_, _<_, _≤_}
+use mathlib.Core.Path.{_≡_, refl, ap, _∙_}
 use native.Mathlib.Nat.{mod-eq-of-lt}
 use native.Mathlib.Omega.{arith}
-use lib.ListN.{length, getD, set}
 use Rattle.bus.specs.declared.Place.{Place}
 use Rattle.bus.specs.declared.Place.the-variants.{Dynamic, Static, Page, Nowhere}
-use Rattle.bus.specs.Memory.{Memory, memory, at, read, write, lost, word, after, peek8, poke8, peek32, poke32, dropped8, dropped32}
+use Rattle.bus.specs.Memory.{Memory, memory, at, read, write, lost, word, after, poke8, peek32, poke32, dropped32}
 use Rattle.bus.specs.Sized.{Sized}
 use Rattle.bus.proofs.Places.{peek-at, poke-at, dropped-at, Kept, kept-poke8, kept-trans}
 use Rattle.bus.proofs.Laws.{at-kept}

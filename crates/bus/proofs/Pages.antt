@@ -1,18 +1,17 @@
 -- Within a page of 4,096 bytes every address leads into the same window, one place after the other.
 use Prim.Native.Nat.{ℕ, zero, suc, _+_, _*_, _-_, _/_, _%_, _^_, _<_, _≤_}
-use mathlib.Core.List.{List, [], _∷_, _++_}
 use mathlib.Core.Bool.{Bool, true, false}
 use mathlib.Core.Path.{_≡_, refl, sym, ap, subst, _∙_}
-use native.Mathlib.Nat.{mod-lt, sub-add-cancel}
+use native.Mathlib.Nat.{sub-add-cancel}
 use native.Mathlib.Omega.{arith}
 use borrow.Author.Tests.{lt-ltb, le-ltb, ltb-true, ltb-false}
-use lib.Dec.{ltb, lit<}
-use lib.ListN.{length, getD}
-use lib.Pow.{pow-add, pow-pos, mod-pow-add}
+use lib.Dec.{ltb}
+use lib.ListN.{length}
+use lib.Pow.{mod-pow-add}
 use Rattle.bits.specs.Pick.{pick}
 use Rattle.bus.specs.declared.Place.{Place}
 use Rattle.bus.specs.declared.Place.the-variants.{Dynamic, Static, Page, Nowhere}
-use Rattle.bus.specs.Memory.{Memory, memory, place, read, write, lost, at, peek8, poke8, dropped8}
+use Rattle.bus.specs.Memory.{Memory, place, at}
 use Rattle.bus.specs.Sized.{Power, Sized}
 use Rattle.bus.proofs.Places.{Inside, inside}
 

@@ -13,7 +13,7 @@ use lib.Pow.{pow-pos, pow-add}
 use Rattle.bits.specs.Pick.{pick}
 use Rattle.bus.specs.declared.Place.{Place}
 use Rattle.bus.specs.declared.Place.the-variants.{Dynamic, Static, Page, Nowhere}
-use Rattle.bus.specs.Memory.{Memory, memory, place, read, write, lost, at, peek8, poke8, dropped8}
+use Rattle.bus.specs.Memory.{Memory, place, read, write, lost, at, peek8, poke8, dropped8}
 use Rattle.bus.specs.Sized.{Power, Sized, Left}
 
 module _ (n a : ℕ) where

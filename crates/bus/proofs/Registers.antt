@@ -1,13 +1,12 @@
 -- Words of one window by index, and that a word of the register page is the word of memory at its address, read and written.
-use Prim.Native.Nat.{ℕ, _+_, _-_, _*_, _/_, _%_, _^_, _<_, _≤_}
+use Prim.Native.Nat.{ℕ, _+_, _-_, _/_, _%_, _^_, _<_, _≤_}
 use mathlib.Core.List.{List, []}
-use mathlib.Core.Logic.{_⊎_, inl, inr, ⊎-elim}
-use mathlib.Core.Path.{_≡_, refl, sym, ap, _∙_}
+use mathlib.Core.Logic.{_⊎_, ⊎-elim}
+use mathlib.Core.Path.{_≡_, ap, _∙_}
 use native.Mathlib.Omega.{arith}
 use lib.Dec.{lit<}
 use lib.ListN.{length, getD, set, length-set}
 use lib.Seq.{getD-set-same, getD-set-other}
-use Rattle.bus.specs.declared.Place.{Place}
 use Rattle.bus.specs.declared.Place.the-variants.{Page}
 use Rattle.bus.specs.Memory.{Memory, memory, read, write, lost, at, after, word, peek32, poke8, poke32, dropped32}
 use Rattle.bus.specs.Words.{wordAt, wordPut}

@@ -4,8 +4,7 @@ use mathlib.Core.Bool.{Bool, true, false}
 use mathlib.Core.List.{List, [], _∷_}
 use mathlib.Core.Path.{_≡_, refl, sym, ap, ap₂, subst, _∙_}
 use native.Mathlib.Omega.{arith}
-use Rattle.bits.specs.Pick.{pick}
-use Rattle.bus.specs.Memory.{Memory, poke8, poke32, dropped8, dropped32}
+use Rattle.bus.specs.Memory.{Memory, poke32, dropped32}
 use Rattle.bus.specs.Sized.{Sized, Left}
 use Rattle.bus.specs.Steps.{exec, andThen, exec-then}
 use Rattle.bus.proofs.Places.{Kept, kept-refl, kept-trans, kept-poke8}

@@ -1,14 +1,13 @@
 -- The laws of words that later proofs cite: what a word is after a write of a word.
-use Prim.Native.Nat.{ℕ, zero, suc, _+_, _*_, _-_, _/_, _%_, _^_, _<_, _≤_}
-use mathlib.Core.Path.{_≡_, refl, sym, ap, subst, _∙_}
-use native.Mathlib.Nat.{mod-eq-of-lt}
+use Prim.Native.Nat.{ℕ, zero, suc, _+_, _-_, _/_, _%_, _^_, _<_, _≤_}
+use mathlib.Core.Path.{_≡_, sym, ap, _∙_}
 use native.Mathlib.Omega.{arith}
 use mathlib.Core.List.{List, [], _∷_}
 use lib.Dec.{lit<}
 use lib.ListN.{getD, set}
 use Rattle.bus.specs.declared.Place.{Place}
 use Rattle.bus.specs.declared.Place.the-variants.{Dynamic, Static, Page, Nowhere}
-use Rattle.bus.specs.Memory.{Memory, read, write, lost, at, peek8, poke8, dropped8, after, word, peek32, poke32, dropped32}
+use Rattle.bus.specs.Memory.{Memory, read, write, lost, at, peek8, poke8, after, word, peek32, poke32, dropped32}
 use Rattle.bus.specs.Sized.{Sized}
 use Rattle.bus.proofs.Places.{Kept, kept-refl, kept-trans, kept-poke8, sized-kept}
 use Rattle.bus.proofs.Laws.{at-kept, peek8-same, peek8-other, peek8-apart, apart}

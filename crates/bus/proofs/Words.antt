@@ -1,15 +1,14 @@
 -- Words: four bytes at an address and the three after it.
-use Prim.Native.Nat.{ℕ, _+_, _*_, _/_, _%_, _^_, _<_, _≤_}
-use mathlib.Core.Path.{_≡_, refl, sym, ap, subst, _∙_}
+use Prim.Native.Nat.{ℕ, _+_, _/_, _%_, _^_, _<_, _≤_}
+use mathlib.Core.Path.{_≡_, sym, ap, _∙_}
 use native.Mathlib.Nat.{mod-eq-of-lt, lt-trans}
 use native.Mathlib.Omega.{arith}
 use lib.Dec.{lit<}
 use lib.ListN.{length, getD}
-use Rattle.bus.specs.declared.Place.{Place}
-use Rattle.bus.specs.declared.Place.the-variants.{Dynamic, Static, Page, Nowhere}
-use Rattle.bus.specs.Memory.{Memory, after, at, read, word, peek8, peek32, poke8, poke32, dropped8, dropped32, lost, place}
-use Rattle.bus.specs.Sized.{Sized, Left}
-use Rattle.bus.proofs.Places.{Kept, kept-trans, kept-poke8, sized-kept, place-case, place-dynamic, Leads, leads, room, peek-at}
+use Rattle.bus.specs.declared.Place.the-variants.{Dynamic}
+use Rattle.bus.specs.Memory.{Memory, after, at, read, word, peek8, peek32, poke8, poke32, dropped8, lost, place}
+use Rattle.bus.specs.Sized.{Sized}
+use Rattle.bus.proofs.Places.{Kept, kept-trans, kept-poke8, place-case, place-dynamic, Leads, leads, room, peek-at}
 
 -- poke32 in its steps
 pub poke32-steps : (m : Memory) (a v : ℕ) {m₁ m₂ m₃ m₄ : Memory} {b₁ b₂ b₃ : ℕ}

@@ -1,5 +1,5 @@
 -- Steps that say what they change. A step goes from a state to the list of its changes, oldest first; its outcome is the replay of that list.
-use mathlib.Core.Path.{_≡_, refl, ap, _∙_}
+use mathlib.Core.Path.{_≡_, refl}
 use mathlib.Core.Bool.{Bool}
 use mathlib.Core.List.{List, [], _∷_, _++_}
 use Rattle.bits.specs.Pick.{pick, pick-map}

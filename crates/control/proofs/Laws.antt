@@ -10,7 +10,7 @@ use lib.Dec.{ltb}
 use lib.ListN.{length, getD, take, drop, set, length-append, length-drop}
 use lib.Seq.{length-take-le, paste-suc, getD-drop, drop-paste}
 use Rattle.bits.specs.Word as W
-use Rattle.bus.specs.Memory.{Memory, memory, word, after, poke32, dropped32}
+use Rattle.bus.specs.Memory.{Memory, memory, after, poke32, dropped32}
 use Rattle.bus.specs.Sized.{Sized, Left}
 use Rattle.bus.specs.Steps.{andThen}
 use Rattle.bus.specs.Words.{wordAt, wordPut}
@@ -31,7 +31,6 @@ use mathlib.Core.Logic.{⊎-elim}
 use Rattle.record.specs.declared.Stats.{Stats}
 use Rattle.record.specs.declared.State.{State}
 use Rattle.record.specs.Record.{wrapped, withOn, withSetups, withDropped, withPhase, withStats, withControl, withLengths, withAnswer, enumerations, counted}
-use Rattle.record.specs.Setups.{little}
 use Rattle.record.specs.World.{World, withState, lined}
 use Rattle.record.specs.Change.{apply, drained, phase, count, control, popped, lost, _then_, nothing, when, one}
 use Rattle.record.specs.Did.{Leads, Alone}

@@ -1,16 +1,16 @@
 -- What the proofs on descriptors cite.
-use Prim.Native.Nat.{ℕ, _+_, _-_, _*_, _/_, _%_, _^_, _≤_, _<_}
+use Prim.Native.Nat.{ℕ, _+_, _-_, _/_, _%_, _^_, _≤_}
 use mathlib.Core.Bool.{Bool, true, false}
 use mathlib.Core.List.{List}
-use mathlib.Core.Path.{_≡_, refl, sym, ap, ap₂, subst, _∙_}
+use mathlib.Core.Path.{_≡_, refl, sym, ap, ap₂, _∙_}
 use native.Mathlib.Omega.{arith}
-use lib.Bits.{bitAnd, and-high}
+use lib.Bits.{and-high}
 use Rattle.bits.specs.Pick.{pick-both}
 use Rattle.bits.specs.Word.{clear, any, replace}
-use Rattle.bus.specs.Memory.{Memory, memory, after, peek32, poke32, dropped8, dropped32}
+use Rattle.bus.specs.Memory.{Memory, memory, after, peek32, poke32, dropped32}
 use Rattle.bus.specs.Sized.{Sized, Left}
 use Rattle.bus.specs.Steps.{andThen}
-use Rattle.bus.specs.Stores.{Bus, bus, BusStep, putting, reading, Does}
+use Rattle.bus.specs.Stores.{Bus, bus, putting, reading, Does}
 use Rattle.bus.specs.Words.{wordAt}
 use Rattle.bus.proofs.Storing.{does-put, does-then, does-reading, does-as, does-counted}
 use Rattle.bus.proofs.Words.{dropped8-le}
@@ -19,10 +19,8 @@ use Rattle.usbdev.specs.Registers as usb
 use Rattle.usbdev.specs.Registers.{Registers, registers, PageStore, lifted, done, setting}
 use Rattle.usbdev.specs.Transfer.{tokenAfter}
 use Rattle.usbdev.proofs.Laws.{Inside, does-page}
-use Rattle.dtd.specs.declared.Found.{Found}
 use Rattle.dtd.specs.declared.Found.the-variants.{Unprimed, Ended, Active}
 use Rattle.dtd.specs.declared.Retired.{Retired}
-use Rattle.dtd.specs.declared.Finished.{Finished}
 use Rattle.dtd.specs.Dtd.{Endpoint, bitOf, primed, queueHead, nextOf, nextDtd, tokenOf, nextActive, found, at, descriptor, interrupts, framed, closing, completing, advancing, retiring, followed, listEnds, unpriming, reporting, settling, finishing}
 use Rattle.dtd.specs.Promises.{Advances, Retires, Finishes}
 

@@ -1,18 +1,17 @@
 -- What a run of at most one descriptor is, by what stands before it.
-use Prim.Native.Nat.{ℕ, zero, suc, _+_, _*_, _^_, _≤_, _<_, min}
-use mathlib.Core.Bool.{Bool, true, false, not, _&&_, _||_}
-use mathlib.Core.List.{List, [], _∷_, _++_, append-assoc, append-nil}
+use Prim.Native.Nat.{ℕ, _+_, _≤_, _<_, min}
+use mathlib.Core.Bool.{Bool, true, false, not, _&&_}
+use mathlib.Core.List.{List, [], _++_, append-assoc, append-nil}
 use mathlib.Core.Path.{_≡_, refl, sym, ap, ap₂, subst, _∙_}
 use native.Mathlib.Omega.{arith}
-use lib.ListN.{length, drop}
+use lib.ListN.{length}
 use Rattle.bits.specs.Pick.{pick}
-use Rattle.bits.specs.Word.{any}
 use Rattle.bits.proofs.Tests.{false-true, or-false}
 use Rattle.bus.specs.Memory.{Memory}
-use Rattle.bus.specs.Steps.{exec, andThen, replay, replay-append, exec-then}
+use Rattle.bus.specs.Steps.{andThen, replay-append}
 use borrow.Author.Tests.{ne-eqb}
 use Rattle.bus.specs.Sized.{Sized}
-use Rattle.bus.specs.Stores.{Bus, bus, Store, store, stored, droppedBy, BusStep, _then_, nothing, reading, when, Does}
+use Rattle.bus.specs.Stores.{Bus, bus, Store, store, stored, droppedBy, _then_, when, Does}
 use Rattle.bus.proofs.Storing.{does-then, does-as, does-counted}
 use Rattle.usbdev.specs.Transfer.{totalOf}
 use Rattle.transfer.specs.Transfer.{pointers, pointersFor, bytesIn, sending}
@@ -22,12 +21,11 @@ use Rattle.transfer.proofs.Sending.{sending-dropped}
 use Rattle.usbdev.proofs.Tokens.{total-lt}
 use native.Mathlib.Nat.{min-le-left, min-le-right}
 use Rattle.usbdev.specs.Registers.{lifted}
-use Rattle.dtd.specs.declared.Found.{Found}
 use Rattle.dtd.specs.declared.Found.the-variants.{Unprimed, Ended, Active}
 use Rattle.dtd.specs.declared.Finished.{Finished}
 use Rattle.dtd.specs.declared.Ran.{Ran}
 use Rattle.dtd.specs.Promises.{Finishes, noneRan, Turns, SendsOne, TakesOne, running, Runs}
-use Rattle.dtd.specs.Dtd.{Endpoint, endpoint, descriptor, bitOf, primed, queueHead, nextDtd, terminates, tokenOf, isActive, interrupts, nextActive, moves, bytesOf, dataOut, closing, retiring, turning, followed, following, Run, ended, joined, turns, most, listEnds, unpriming, reporting, settling, settled, runDtds, finishing, found}
+use Rattle.dtd.specs.Dtd.{Endpoint, endpoint, descriptor, bitOf, primed, queueHead, nextDtd, terminates, tokenOf, isActive, interrupts, nextActive, moves, bytesOf, dataOut, turning, following, Run, ended, joined, turns, most, listEnds, unpriming, reporting, settling, settled, runDtds, finishing, found}
 
 -- ---- what each answer of `find` says
 

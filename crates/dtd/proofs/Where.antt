@@ -1,18 +1,16 @@
 -- A run stores nowhere else, and retires no more than its endpoint may.
 use Prim.Native.Nat.{ℕ, zero, suc, _+_, _≤_}
-use mathlib.Core.Bool.{Bool, true, false, not}
+use mathlib.Core.Bool.{Bool, not}
 use mathlib.Core.List.{List, [], _∷_, _++_, map}
-use mathlib.Core.Path.{_≡_, refl, sym, ap, subst}
 use native.Mathlib.Omega.{arith}
-use lib.Dec.{eqb}
 use lib.ListN.{drop}
-use Rattle.bits.specs.Pick.{pick, pick-both}
+use Rattle.bits.specs.Pick.{pick-both}
 use Rattle.bus.specs.Steps.{exec, andThen}
-use Rattle.bus.specs.Stores.{Bus, Store, store, stored, BusStep, putting, reading, when}
+use Rattle.bus.specs.Stores.{Bus, Store, store, putting, when}
 use Rattle.usbdev.specs.Registers as usb
-use Rattle.usbdev.specs.Registers.{Registers, registers, PageStore, onBus, lifted, setting}
+use Rattle.usbdev.specs.Registers.{registers, PageStore, onBus, lifted, setting}
 use Rattle.transfer.specs.Transfer.{pointers, stores, sending}
-use Rattle.dtd.specs.Dtd.{Endpoint, bitOf, primed, queueHead, nextDtd, terminates, tokenOf, isActive, interrupts, moves, dataOut, framed, closing, completing, advancing, retiring, turning, following, Run, ended, joined, turns, most, listEnds, unpriming, reporting, settling, settled, runDtds}
+use Rattle.dtd.specs.Dtd.{Endpoint, bitOf, primed, queueHead, nextDtd, terminates, tokenOf, isActive, interrupts, moves, dataOut, closing, completing, advancing, retiring, turning, following, Run, joined, turns, most, listEnds, unpriming, reporting, settling, settled, runDtds}
 use Rattle.dtd.specs.Where.{May, data-byte, token, frame, current, next, copy, completed, unprimed, raised, line, All}
 
 module _ (qh : ℕ) where

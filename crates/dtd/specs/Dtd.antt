@@ -1,7 +1,7 @@
 -- Queue heads and transfer descriptors (dTDs): what a run over an endpoint's list stores, in order, and what it answers
 -- (document 01, "Queue head and dTD"; usbhost.rs 514-621; MCF5441x Reference Manual, USB OTG: dQH, dTD).
 use Prim.Native.Nat.{ℕ, zero, suc, _+_, _*_, _/_, _^_, min}
-use mathlib.Core.Bool.{Bool, true, false, not, _&&_, _||_}
+use mathlib.Core.Bool.{Bool, false, not, _&&_, _||_}
 use mathlib.Core.List.{List, [], _∷_, _++_}
 use lib.Dec.{eqb}
 use lib.ListN.{length, drop}
@@ -10,9 +10,9 @@ use Rattle.bits.specs.Word.{clear, set, any, replace}
 use Rattle.bus.specs.Memory.{Memory, after, peek32}
 use Rattle.bus.specs.Words.{wordAt}
 use Rattle.bus.specs.Steps.{exec}
-use Rattle.bus.specs.Stores.{Bus, Store, store, stored, BusStep, _then_, nothing, putting, reading, when}
+use Rattle.bus.specs.Stores.{Bus, Store, store, stored, BusStep, _then_, putting, reading, when}
 use Rattle.usbdev.specs.Offsets.{FRINDEX, EPLISTADDR, EPSR, EPCOMPLETE}
-use Rattle.usbdev.specs.Registers.{Registers, PageStep, put, lifted, raising}
+use Rattle.usbdev.specs.Registers.{PageStep, put, lifted, raising}
 use Rattle.usbdev.specs.Transfer.{totalOf, tokenAfter}
 use Rattle.transfer.specs.Transfer.{pointers, bytesIn, sending}
 use Rattle.dtd.specs.declared.Found.{Found}

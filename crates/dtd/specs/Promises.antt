@@ -1,16 +1,14 @@
 -- What the functions on descriptors promise: their steps, and what they answer.
-use Prim.Native.Nat.{ℕ, _≤_, min}
+use Prim.Native.Nat.{ℕ, _≤_}
 use mathlib.Core.Bool.{Bool, true, false}
 use mathlib.Core.List.{List, []}
 use mathlib.Core.Path.{_≡_}
 use Rattle.bus.specs.Memory.{Memory, peek32}
-use lib.ListN.{length}
 use Rattle.bus.specs.Stores.{Bus, bus, BusStep, _then_, Does}
-use Rattle.usbdev.specs.Transfer.{totalOf}
 use Rattle.dtd.specs.declared.Retired.{Retired}
 use Rattle.dtd.specs.declared.Finished.{Finished}
 use Rattle.dtd.specs.declared.Ran.{Ran}
-use Rattle.dtd.specs.Dtd.{Endpoint, endpoint, descriptor, interrupts, moves, dataOut, advancing, retiring, followed, finishing, Run, runDtds}
+use Rattle.dtd.specs.Dtd.{Endpoint, endpoint, descriptor, interrupts, moves, dataOut, advancing, retiring, followed, finishing, runDtds}
 
 -- the pointer is read before the first store
 pub record Advances (qh n tok bit : ℕ) (m m′ : Memory) (r : Retired) : Type 0 where

@@ -17,7 +17,7 @@ use Rattle.record.specs.declared.Settings.{Settings}
 use Rattle.record.specs.declared.State.{State}
 use Rattle.record.specs.Record.{withOn, withCredit, withBudget, Counter}
 use Rattle.record.specs.World.{World, withState, busOf, atPage}
-use Rattle.record.specs.Change.{bus, count, uf, phase, started, gone, suspended, wasRunning, credit, budget, timers, control, cleared, forgot, apply, Step, if, one, here, onPage}
+use Rattle.record.specs.Change.{bus, count, uf, phase, started, gone, suspended, wasRunning, credit, budget, timers, control, cleared, forgot, apply, Step, if, here, onPage}
 use Rattle.record.specs.Did.{Alone, Paged}
 use Rattle.model.specs.Phases.{counts, ticks, dropsRequest, forgets, returns, cable, suspends, enters, departs, leaves, startsFrame}
 use Rattle.model.specs.Microframe.{opens}

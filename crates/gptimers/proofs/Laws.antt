@@ -10,11 +10,11 @@ use Rattle.bits.specs.Pick.{pick, pick-both}
 use Rattle.bits.specs.Word.{any}
 use Rattle.bus.specs.Words.{wordAt}
 use Rattle.bus.proofs.Sizes.{and-true}
-use Rattle.usbdev.specs.Registers.{Registers, registers, PageStep, done, _then_, raising}
+use Rattle.usbdev.specs.Registers.{Registers, registers, done, _then_, raising}
 use Rattle.usbdev.proofs.Laws.{done-then}
 use Rattle.gptimers.specs.declared.Timer.{Timer}
 use Rattle.gptimers.specs.declared.Timers.{Timers}
-use Rattle.gptimers.specs.Timer.{ZERO, none, counting, controlRegister, RUN, RESET, resetting, afterReset, startOf, stopping, expiring, next, expired, counted, countedTimer, ticking, ticked, tickingBoth, tickedBoth, LOWEST, HIGHEST, inRange}
+use Rattle.gptimers.specs.Timer.{ZERO, counting, controlRegister, RUN, RESET, resetting, afterReset, startOf, stopping, expiring, next, expired, counted, countedTimer, ticking, ticked, tickingBoth, tickedBoth, LOWEST, HIGHEST, inRange}
 use Rattle.gptimers.specs.Checked.{refusal}
 
 -- a count that stands is within its bounds

@@ -1,10 +1,10 @@
 -- What a kept count means as a number with a sign: taking from it, adding to it, and the test against zero.
-use Prim.Native.Nat.{ℕ, suc, _+_, _-_, _^_, _≤_, _<_}
+use Prim.Native.Nat.{ℕ, suc, _+_, _-_, _≤_}
 use mathlib.Core.Bool.{Bool, true, false}
-use mathlib.Core.Path.{_≡_, refl, sym, ap, ap₂, _∙_}
+use mathlib.Core.Path.{_≡_, refl, sym, ap, _∙_}
 use native.Mathlib.Omega.{arith}
 use native.Mathlib.Nat.{sub-add-cancel}
-use borrow.Author.Tests.{lt-ltb, le-ltb, ltb-true, ltb-false}
+use borrow.Author.Tests.{le-ltb, ltb-true, ltb-false}
 use lib.Dec.{ltb}
 use lib.IntN.{ℤ, pos, negsuc, negℤ, _+ℤ_, _-ℤ_, +ℤ-assoc, +ℤ-comm, +ℤ-invr, +ℤ-idl, negℤ-+ℤ, +ℤ-negℤ-cancel, pos-+ℤ-pos}
 use lib.Signed.{ltZ}

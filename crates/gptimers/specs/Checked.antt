@@ -1,5 +1,5 @@
 -- Both timers on a page of any length, with any counts: refused with number 1 or 5, or what the definitions say.
-use mathlib.Core.Bool.{Bool, _&&_}
+use mathlib.Core.Bool.{_&&_}
 use mathlib.Core.List.{List}
 use Prim.Native.Nat.{ℕ}
 use lib.Dec.{eqb}

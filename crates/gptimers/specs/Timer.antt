@@ -8,7 +8,7 @@ use lib.IntN.{ℤ, pos, _-ℤ_}
 use Rattle.bits.specs.Pick.{pick}
 use Rattle.bits.specs.Word.{clear, any}
 use Rattle.bus.specs.Words.{wordAt}
-use Rattle.usbdev.specs.Registers.{Registers, PageStore, put, PageStep, done, _then_, raising}
+use Rattle.usbdev.specs.Registers.{Registers, put, PageStep, done, _then_, raising}
 use Rattle.gptimers.specs.declared.Timer.{Timer}
 use Rattle.gptimers.specs.declared.Timers.{Timers}
 

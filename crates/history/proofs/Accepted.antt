@@ -1,13 +1,12 @@
 -- What an accepted microframe's record holds: its counters and its credit are small.
-use Prim.Native.Nat.{ℕ, zero, suc, _+_, _*_, _%_, _≤_, _<_, _^_, min}
-use mathlib.Core.Path.{_≡_, refl, sym, ap, _∙_}
-use mathlib.Core.Bool.{Bool, true, false, _&&_}
+use Prim.Native.Nat.{ℕ, zero, suc, _*_, _%_, _≤_, min}
+use mathlib.Core.Path.{_≡_}
+use mathlib.Core.Bool.{true}
 use native.Mathlib.Omega.{arith}
 use borrow.Author.Tests.{leb-true, eqb-true}
-use lib.Dec.{eqb, leb, ltb}
-use Rattle.bits.specs.Pick.{pick}
+use lib.Dec.{eqb, leb}
 use Rattle.bits.proofs.Tests.{and-first, and-second}
-use Rattle.bounds.specs.Bounds.{MOST, times, askedOk, heldOk, countsOk, countersOk, creditOk, timersOk, audioOk, inBounds}
+use Rattle.bounds.specs.Bounds.{MOST, times, askedOk, heldOk, countsOk, countersOk, creditOk, audioOk, inBounds}
 use Rattle.usbhost.specs.declared.Host.{Host}
 use Rattle.usbhost.specs.Host.{stateOf}
 use Rattle.usbhost.specs.Calls.{bounded}

@@ -1,7 +1,7 @@
 -- Demand 3's history: for every list of calls from a new host, refused ones included.
-use Prim.Native.Nat.{ℕ, _+_, _-_, _*_, _%_, _^_, _≤_}
-use mathlib.Core.Path.{_≡_, refl, ap, sym, subst, _∙_}
-use mathlib.Core.Bool.{Bool, true, false, not, _&&_}
+use Prim.Native.Nat.{ℕ, _+_, _-_, _*_, _%_, _≤_}
+use mathlib.Core.Path.{_≡_, refl}
+use mathlib.Core.Bool.{Bool, true, false, _&&_}
 use mathlib.Core.List.{List, [], _∷_}
 use native.Mathlib.Omega.{arith}
 use lib.Dec.{eqb, leb}
@@ -11,14 +11,12 @@ use Rattle.bits.specs.Pick.{pick, pick-both}
 use Rattle.record.specs.declared.Settings.{Settings}
 use Rattle.record.specs.World.{World}
 use Rattle.record.specs.Change.{left}
-use Rattle.model.specs.Audio.{BLOCK-FRAMES}
 use Rattle.model.specs.Microframe as M
 use Rattle.model.specs.Microframe.{rsSet, goneAt, asleepAt}
-use Rattle.model.specs.Reach.{reachesInput, reachesOutput, comesBack, deviceLeft, atStream, atInput, atOutput, inputReady, outputReady, paced, inputBy, outputBy, streamBy}
+use Rattle.model.specs.Reach.{reachesOutput, comesBack, deviceLeft, atOutput, outputReady, streamBy}
 use Rattle.model.specs.Earned.{Counts, countsOf, earned, sentOne, zeroed, blocksRead, resetCounts, heardCounts, sentCounts}
 use Rattle.model.proofs.History.{counts-microframe}
-use Rattle.kept.proofs.Credit.{SMALL, added, heard-plain, reset-received, blocks-few}
-use Rattle.bounds.specs.Bounds.{MOST}
+use Rattle.kept.proofs.Credit.{SMALL, added, heard-plain}
 use Rattle.usbhost.specs.declared.Host.{Host}
 use Rattle.usbhost.specs.declared.Created.{Created}
 use Rattle.usbhost.specs.Host.{newHost, settled, noSettings, created}
@@ -27,7 +25,7 @@ use Rattle.usbhost.specs.Calls.{midiNumber, midiQueued, midiSent, serialNumber,
 use Rattle.usbhost.specs.Frame.{Lent, worldOf, hostIn, frameNumber, framed}
 use Rattle.history.specs.Calls.{Call, microframe, midiSend, serialSend, frameGive, frameTake, deviceRead, deviceWrite, step, after}
 use Rattle.history.specs.Sums as S
-use Rattle.history.specs.Sums.{Sums, none, receive, send, readAt, inputReached, outputReached, reset, heard, answered, summed, sums, Tally, answeredEver, tallied, tally, Balanced, Tabulated}
+use Rattle.history.specs.Sums.{Sums, none, receive, send, inputReached, outputReached, reset, heard, answered, summed, sums, Balanced}
 use Rattle.history.proofs.Accepted.{Small, accepted-small}
 
 -- the same of the counts alone

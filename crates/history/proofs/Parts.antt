@@ -7,7 +7,6 @@ use Rattle.midi.specs.declared.Packer.{Packer}
 use Rattle.usbdev.specs.declared.Value.{Value}
 use Rattle.record.specs.declared.Settings.{Settings}
 use Rattle.record.specs.declared.State.{State}
-use Rattle.record.specs.World.{World}
 use Rattle.usbhost.specs.declared.Host.{Host}
 use Rattle.usbhost.specs.declared.Sent.{Sent}
 use Rattle.usbhost.specs.declared.Taken.{Taken}

@@ -1,7 +1,7 @@
 -- What the user tabulates: the record's two counters of frames are the frames of the good blocks read and of the blocks sent, through every reset.
-use Prim.Native.Nat.{ℕ, _+_, _-_, _*_, _%_, _^_, _≤_}
-use mathlib.Core.Path.{_≡_, refl, ap, ap₂, sym, subst, _∙_}
-use mathlib.Core.Bool.{Bool, true, false, not, _&&_}
+use Prim.Native.Nat.{ℕ, _+_, _-_, _%_, _^_, _≤_}
+use mathlib.Core.Path.{_≡_, refl, ap, ap₂, sym, _∙_}
+use mathlib.Core.Bool.{Bool, true, false, _&&_}
 use mathlib.Core.List.{List, [], _∷_}
 use native.Mathlib.Omega.{arith}
 use lib.Dec.{eqb, leb}
@@ -9,7 +9,6 @@ use lib.ListN.{length}
 use borrow.Author.Tests.{eqb-true}
 use Rattle.bits.specs.Pick.{pick, pick-both, pick-map}
 use Rattle.record.specs.declared.Settings.{Settings}
-use Rattle.record.specs.Record.{wrapped}
 use Rattle.record.specs.World.{World}
 use Rattle.record.specs.Change.{left}
 use Rattle.model.specs.Audio.{BLOCK-FRAMES}
@@ -28,7 +27,7 @@ use Rattle.usbhost.specs.Frame.{Lent, worldOf, hostIn, frameNumber, framed}
 use Rattle.history.specs.Calls.{Call, microframe, midiSend, serialSend, frameGive, frameTake, deviceRead, deviceWrite, step, after}
 use Rattle.history.specs.Sums as S
 use Rattle.history.specs.Sums.{Sums, none, receive, send, readAt, inputReached, outputReached, reset, heard, summed, Tally, answeredEver, tallied, tally, Balanced, Tabulated}
-use Rattle.history.proofs.Accepted.{Small, accepted-small}
+use Rattle.history.proofs.Accepted.{accepted-small}
 use Rattle.history.proofs.History.{Even, even-heard, same-test, small-counts, by-test, balanced-step}
 
 pick-sent : (t : Bool) (m m′ : Counts) (n : ℕ) → m .sent ≡ n → m′ .sent ≡ n → pick t m m′ .sent ≡ n

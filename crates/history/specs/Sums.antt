@@ -1,6 +1,6 @@
 -- The two sums of demand 3, kept outside the record, and what is claimed of them (document 01, "Host record").
 use Prim.Native.Nat.{ℕ, _+_, _-_, _*_, _%_}
-use mathlib.Core.Bool.{Bool, true, false, _&&_}
+use mathlib.Core.Bool.{Bool, _&&_}
 use mathlib.Core.List.{List, [], _∷_}
 use mathlib.Core.Path.{_≡_}
 use lib.Dec.{eqb, leb}
@@ -10,7 +10,7 @@ use Rattle.model.specs.Audio.{BLOCK-FRAMES, blocksOf}
 use Rattle.model.specs.Reach.{reachesInput, reachesOutput, comesBack, deviceLeft, atInput, atOutput, inputReady, outputReady, bytesAt}
 use Rattle.model.specs.Earned.{goodBlocks}
 use Rattle.usbhost.specs.declared.Host.{Host}
-use Rattle.usbhost.specs.Frame.{Lent, worldOf, frameNumber}
+use Rattle.usbhost.specs.Frame.{worldOf, frameNumber}
 use Rattle.history.specs.Calls.{Call, microframe, midiSend, serialSend, frameGive, frameTake, deviceRead, deviceWrite, step}
 
 -- frames received and sent

@@ -17,7 +17,7 @@ use Rattle.record.specs.declared.Settings.{Settings}
 use Rattle.record.specs.declared.Stats.{Stats}
 use Rattle.record.specs.Record.{wrapped, counted, Counter, microframes, «in_transfers», «out_transfers», «in_frames», «out_frames», «bad_blocks», «midi_dtds», «midi_asleep», «out_underruns», «midi_packets_out», «vendor_in_bytes», restarts, enumerations}
 use Rattle.record.specs.World.{World, busOf}
-use Rattle.record.specs.Change.{Change, count, phase, apply, Step, left, _then_, nothing, if, when, one, here, ranStores, runs, midi, counter}
+use Rattle.record.specs.Change.{Change, count, phase, apply, Step, left, _then_, nothing, if, when, one, here, ranStores, runs, midi}
 use Rattle.model.specs.Phases.{now, counts, ticks, cable, returns, sleeps, suspends, leaves, startsFrame}
 use Rattle.model.specs.Control.{stalled, unstalls, stages, posts, configured, controls}
 use Rattle.model.specs.Streams.{naks, reads, readsAt, midiIn, fitting, serialStep, drainsMidi, midiOut, readsVendor}

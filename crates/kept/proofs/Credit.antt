@@ -1,23 +1,19 @@
 -- The credit: a multiple of seven that rises by at most 623 in a microframe, 89 blocks of seven frames (document 01, number 5), and exactly so.
-use Prim.Native.Nat.{ℕ, zero, suc, _+_, _-_, _*_, _/_, _%_, _^_, _≤_, _<_, min}
-use mathlib.Core.Path.{_≡_, refl, ap, sym, _∙_}
-use mathlib.Core.Bool.{Bool, true, false, not, _&&_}
+use Prim.Native.Nat.{ℕ, zero, suc, _+_, _-_, _*_, _%_, _^_, _≤_, min}
+use mathlib.Core.Path.{_≡_, refl, ap, _∙_}
+use mathlib.Core.Bool.{Bool, true, false, _&&_}
 use mathlib.Core.List.{List, [], _∷_}
 use native.Mathlib.Omega.{arith}
-use lib.Dec.{leb, eqb}
-use lib.ListN.{length, getD, take, drop, length-take, length-drop}
+use lib.Dec.{leb}
+use lib.ListN.{length, take, drop, length-take, length-drop}
 use borrow.Author.Tests.{leb-true}
 use Rattle.bits.specs.Pick.{pick}
-use Rattle.record.specs.Record.{wrapped}
 use Rattle.record.specs.World.{World, busOf}
 use Rattle.record.specs.Change.{left}
-use Rattle.model.specs.Streams.{nonempty}
-use Rattle.model.specs.Audio.{audioIn, BLOCK, BLOCK-FRAMES, blocks, blocksOf, good, streamIn}
-use Rattle.model.specs.Microframe.{rsSet, goneAt, asleepAt, microframe}
+use Rattle.model.specs.Audio.{audioIn, BLOCK-FRAMES, blocks, good, streamIn}
 use Rattle.model.specs.Reach.{streamBy, inputBy, outputBy, backBy, leftBy, paced, inputReady, outputReady, bytesAt}
 use Rattle.model.specs.Earned.{Counts, countsOf, oneEarned, earned, sentOne, zeroed, goodBlocks, blocksRead, resetCounts, heardCounts, sentCounts}
 use Rattle.bits.proofs.Tests.{and-first}
-use Rattle.model.proofs.History.{counts-microframe}
 use Rattle.kept.proofs.Bytes.{run-bytes}
 
 -- ---- at most 89 good blocks in a run

@@ -1,11 +1,10 @@
 -- What every change of a microframe keeps, the microframe keeps: one walk over its steps serves every property.
 use Prim.Native.Nat.{ℕ, zero, suc, _-_, _*_, _/_, _%_, _≤_, min}
-use mathlib.Core.Path.{_≡_, refl, sym, subst}
+use mathlib.Core.Path.{_≡_, sym, subst}
 use mathlib.Core.Bool.{Bool, true, false}
 use mathlib.Core.List.{List, [], _∷_, map}
 use native.Mathlib.Omega.{arith}
 use lib.Dec.{ltb}
-use Rattle.bits.specs.Pick.{pick}
 use Rattle.bus.specs.Steps.{replay, replay-append, exec-then, exec-choose}
 use Rattle.bus.specs.Stores.{Store, BusStep, droppedBy}
 use Rattle.usbdev.specs.Registers.{PageStep, lifted}

@@ -5,13 +5,12 @@ use mathlib.Core.Bool.{Bool, true, false}
 use mathlib.Core.List.{List, [], _∷_}
 use native.Mathlib.Omega.{arith}
 use native.Mathlib.Nat.{mod-lt}
-use lib.Dec.{leb, ltb, eqb}
+use lib.Dec.{eqb}
 use lib.ListN.{length}
-use borrow.Author.Tests.{leb-true, le-leb, ltb-true, lt-ltb, eqb-false}
+use borrow.Author.Tests.{le-leb, lt-ltb, eqb-false}
 use Rattle.bounds.proofs.Laws.{in-ring}
 use Rattle.bits.specs.Pick.{pick}
 use Rattle.bus.specs.Steps.{replay}
-use Rattle.bus.proofs.Sizes.{and-true}
 use Rattle.record.specs.declared.Ring.{Ring}
 use Rattle.record.specs.World.{World}
 use Rattle.record.specs.Change.{Change, bus, ran, lost, count, uf, phase, started, gone, suspended, wasRunning, credit, budget, counter, block, timers, control, queued, popped, pushed, cleared, reply, device, config, forgot, midi, serial, received, frame, taken, FRAMES, WORDS, ringedPlace, takenFrom, apply, left}

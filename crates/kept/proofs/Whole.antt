@@ -1,5 +1,5 @@
 -- A microframe keeps every bound of number 5, for the record and for the areas that it was lent.
-use Prim.Native.Nat.{ℕ, zero, suc, _+_, _*_, _/_, _%_, _^_, _≤_, _<_, min}
+use Prim.Native.Nat.{ℕ, _+_, _*_, _/_, _%_, _^_, _≤_, _<_, min}
 use mathlib.Core.Path.{_≡_, refl, ap, sym, _∙_}
 use mathlib.Core.Bool.{Bool, true, false, not, _&&_, _||_}
 use mathlib.Core.List.{List}
@@ -7,7 +7,6 @@ use native.Mathlib.Omega.{arith}
 use borrow.Author.Tests.{leb-true, le-leb, eqb-true, eq-eqb}
 use lib.Dec.{eqb, leb}
 use lib.ListN.{length}
-use Rattle.bits.specs.Pick.{pick}
 use Rattle.midi.specs.declared.Packer.{Packer}
 use Rattle.config.specs.Config.{Bytes as AllBytes}
 use Rattle.record.specs.declared.State.{State}

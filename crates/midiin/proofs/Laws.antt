@@ -30,7 +30,7 @@ use Rattle.dtd.proofs.Runs.{single, runs-unprimed, runs-ended, runs-active}
 use Rattle.record.specs.declared.State.{State}
 use Rattle.record.specs.Record.{withStats, counted, «midi_dtds»}
 use Rattle.record.specs.World.{World, atPage, withReceiveArea}
-use Rattle.record.specs.Change.{count, received, apply, nothing, one}
+use Rattle.record.specs.Change.{count, received, apply, nothing}
 use Rattle.record.specs.Did.{Leads, afterRun}
 use Rattle.record.proofs.Laws.{in-turn, by-true, by-false, unchanged, once, from-here, on-page, run-then}
 use Rattle.model.specs.Phases.{changing}

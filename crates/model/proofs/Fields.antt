@@ -1,6 +1,6 @@
 -- What a list of changes does to some fields of the World alone, whichever they are: one section serves every choice of fields.
 use Prim.Native.Nat.{ℕ}
-use mathlib.Core.Path.{_≡_, refl, ap, sym, _∙_}
+use mathlib.Core.Path.{_≡_, refl, ap, _∙_}
 use mathlib.Core.Bool.{Bool, true, false}
 use mathlib.Core.List.{List, [], _∷_, _++_, map}
 use Rattle.bits.specs.Pick.{pick, pick-map}

@@ -7,14 +7,13 @@ use mathlib.Core.List.{List, [], _∷_}
 use native.Mathlib.Omega.{arith}
 use lib.Dec.{leb, ltb}
 use Rattle.bits.specs.Pick.{pick, pick-map, pick-eq}
-use Rattle.bits.proofs.Tests.{false-true, not-true}
 use Rattle.bus.specs.Steps.{andThen, exec-then, exec-choose}
 use Rattle.dtd.specs.Dtd.{Run, runDtds}
 use Rattle.dtd.proofs.Runs.{idle-run}
 use Rattle.record.specs.declared.Settings.{Settings}
 use Rattle.record.specs.Record.{counted, wrapped, «in_frames»}
 use Rattle.record.specs.World.{World, busOf}
-use Rattle.record.specs.Change.{Change, count, credit, gone, wasRunning, budget, apply, Step, left, _then_, nothing, if, when, one, here}
+use Rattle.record.specs.Change.{count, credit, gone, wasRunning, budget, apply, Step, left, _then_, nothing, one, here}
 use Rattle.model.specs.Phases.{counts, ticks, cable, unplugging, returns, forgets, dropsRequest, enters, sleeps, suspends, leaves, departs}
 use Rattle.model.specs.Streams.{nonempty, brought, nextTotal}
 use Rattle.model.specs.Audio.{audioIn, BLOCK, BLOCK-FRAMES, named, overBudget, addsBudget, clearsBudget, blocks, blocksOf, good, keepsFrames, keepsGood, keepsBlock, keepsBlocks, keepsRun, inputs, streamIn, streamOut, streams}
@@ -22,7 +21,7 @@ use Rattle.model.specs.Microframe.{rsSet, goneAt, asleepAt, opens, frame
 use Rattle.model.specs.Reach.{streamsIn, toPhase, phaseBy, streamBy, outputBy, withinBudget, inputBy, backBy, leftBy, paced, inputReady, outputReady, bytesAt}
 use Rattle.model.specs.Earned.{Counts, countsOf, earned, sentOne, zeroed, goodBlocks, blocksRead, resetCounts, heardCounts, sentCounts}
 use Rattle.model.proofs.Fields.{fields-replay, fields-then, fields-if, keeps-nothing, keeps-if, keeps-then, keeps-one, keeps-page, Keeps, left-runs, fields-ran}
-use Rattle.model.proofs.Reading.{through, silent-keeps, silent-counts, silent-ticks, silent-sleeps, silent-suspends, silent-enumerates, silent-adds, silent-clears, through-then}
+use Rattle.model.proofs.Reading.{through, silent-keeps, silent-counts, silent-ticks, silent-sleeps, silent-suspends, silent-enumerates, silent-adds, silent-clears}
 use Rattle.model.proofs.Frames.{Frames, framesOf, withCounts, frames, framesReading}
 use Rattle.model.proofs.OneBlock.{getsTo, gets-closed, through-phase, blockRead, through-outputs, budget-stream}
 

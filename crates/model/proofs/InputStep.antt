@@ -9,14 +9,14 @@ use lib.ListN.{take, drop}
 use lib.Seq.{drop-drop}
 use lib.Dec.{leb}
 use Rattle.bits.specs.Pick.{pick, pick-eq, pick-same}
-use Rattle.bits.proofs.Tests.{false-true, and-first, and-second, not-true}
+use Rattle.bits.proofs.Tests.{false-true, and-first, and-second}
 use Rattle.bus.specs.Steps.{andThen, choose, replay, replay-append}
 use Rattle.bus.specs.Stores.{Store, droppedBy, when}
 use Rattle.dtd.specs.Dtd.{Run, runDtds, primed, interrupts, queueHead, dataOut, moves, bytesOf}
 use Rattle.dtd.proofs.Runs.{IsActive, active-stores, active-moved, active-done, active-retired, active-bytes, idle-run}
 use Rattle.record.specs.World.{World, busOf}
 use Rattle.record.specs.Record.{wrapped, «in_transfers», «in_frames», «bad_blocks»}
-use Rattle.record.specs.Change.{Change, bus, ran, lost, count, credit, frame, apply, FRAMES, Step, left, _then_, nothing, one, here, runs, ranStores}
+use Rattle.record.specs.Change.{Change, bus, ran, lost, count, credit, frame, apply, FRAMES, left, _then_, nothing, one, runs, ranStores}
 use Rattle.model.specs.Streams.{nonempty, brought}
 use Rattle.model.specs.Audio.{audioIn, BLOCK-FRAMES, overBudget, addsBudget, clearsBudget, good, wordsOf, blocks, blocksOf, keepsFrames, keepsGood, keepsBlock, keepsBlocks, keepsRun, inputs, streamIn, streamOut, streams}
 use Rattle.model.specs.Microframe.{rsSet, goneAt, asleepAt, microframe}
@@ -24,8 +24,8 @@ use Rattle.model.specs.Reach.{streamBy, withinBudget, inputBy, paced, by
 use Rattle.model.specs.Earned.{Counts, earned}
 use Rattle.model.specs.Marks.{retiredBy, audioInRetired}
 use Rattle.model.specs.Ring.{ringFrames, InOrder, RingInOrder, framesFrom, framesOfBlocks, framesRead, lastOf, inPointer, inToken, inMoved, inBytes, inStores, blockChanges, blocksChanges, oneRun}
-use Rattle.model.proofs.Fields.{fields-replay, fields-then, fields-if, keeps-nothing, ranWorld, fields-ran}
-use Rattle.model.proofs.Reading.{Reading, Lasting, through, Silent, through-then, through-if, through-runs, after-silent, before-silent, silent-keeps, silent-adds, silent-clears, silent-nothing, silent-stores, silent-kept}
+use Rattle.model.proofs.Fields.{fields-replay, ranWorld, fields-ran}
+use Rattle.model.proofs.Reading.{Reading, Lasting, through, Silent, through-if, through-runs, after-silent, before-silent, silent-keeps, silent-adds, silent-clears, silent-nothing, silent-stores, silent-kept}
 use Rattle.model.proofs.Frames.{Frames, framesOf, frames}
 use Rattle.model.proofs.Marks.{retiredReading, retiredLasting, retiredUnheard, retired-sum}
 use Rattle.model.proofs.Received.{Kept, keptOf, keptOn, kept, kept-leaves, keptReading, keptLasting}

@@ -1,6 +1,6 @@
 -- What the marks of runs read: how many descriptors of the audio input, or of the audio output endpoint, were retired so far.
 use Prim.Native.Nat.{ℕ, _+_}
-use mathlib.Core.Path.{_≡_, refl, ap, _∙_}
+use mathlib.Core.Path.{_≡_, refl}
 use mathlib.Core.Bool.{Bool, true, false, not, _&&_}
 use mathlib.Core.List.{List, [], _∷_}
 use native.Mathlib.Omega.{arith}
@@ -9,7 +9,7 @@ use Rattle.bits.specs.Pick.{pick}
 use Rattle.bits.proofs.Tests.{false-true}
 use Rattle.bus.specs.Steps.{replay}
 use Rattle.record.specs.Change.{Change, bus, ran, lost, count, uf, phase, started, gone, suspended, wasRunning, credit, budget, counter, block, timers, control, queued, popped, pushed, cleared, reply, device, config, forgot, midi, serial, received, frame, taken}
-use Rattle.model.specs.Marks.{isAudio, retiredBy, audioRetired}
+use Rattle.model.specs.Marks.{retiredBy, audioRetired}
 use Rattle.model.proofs.Reading.{Reading, Lasting, Unheard, Unmarked, quiet}
 
 abbrev pub retiredOn : Bool → Change → ℕ → ℕ

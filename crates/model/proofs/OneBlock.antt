@@ -6,32 +6,31 @@ use mathlib.Core.Bool.{Bool, true, false, not, _&&_, _||_}
 use mathlib.Core.List.{List, [], _∷_, _++_, map, append-assoc}
 use mathlib.Core.Logic.{_⊎_, inl, inr}
 use lib.Dec.{leb, eqb}
-use lib.ListN.{length}
 use Rattle.bits.specs.Pick.{pick, pick-map, pick-eq, pick-and}
 use Rattle.bits.proofs.Tests.{false-true, and-first, and-second, and-rest, not-true}
 use Rattle.bus.specs.Steps.{andThen, choose, replay, replay-append, exec-then}
 use Rattle.bus.specs.Stores.{Store, droppedBy}
 use Rattle.bus.specs.Stores as S
 use Rattle.usbdev.specs.Registers.{onBus as page-onBus}
-use Rattle.dtd.specs.Dtd.{Run, runDtds, primed, nextActive, nextDtd, tokenOf, queueHead, dataOut, finishing, bitOf, moves}
+use Rattle.dtd.specs.Dtd.{runDtds, primed, nextActive, queueHead, dataOut, moves}
 use Rattle.dtd.proofs.Runs.{IsActive, active-stores, active-moved, active-retired}
 use Rattle.record.specs.declared.Phase.{Phase}
 use Rattle.record.specs.declared.Phase.the-variants.{Idle, Vbus, Reset, Enumerate, Stream}
 use Rattle.record.specs.declared.Settings.{Settings}
-use Rattle.record.specs.Record.{counted, wrapped, enumerations, «out_transfers», «out_frames», «out_underruns»}
+use Rattle.record.specs.Record.{counted, enumerations, «out_transfers», «out_frames», «out_underruns»}
 use Rattle.record.specs.World.{World, busOf}
-use Rattle.record.specs.Change.{Change, bus, ran, lost, count, phase, gone, credit, counter, taken, apply, Step, left, _then_, nothing, if, when, one, here, onPage, runs, ranStores}
+use Rattle.record.specs.Change.{Change, bus, ran, lost, count, phase, gone, credit, counter, taken, apply, Step, left, _then_, nothing, when, one, here, onPage, runs, ranStores}
 use Rattle.model.specs.Phases.{counts, ticks, dropsRequest, forgets, returns, cable, suspends, leaves, startsFrame, changing}
 use Rattle.model.specs.Control.{enumerating, posts, configured, stalled, unstalls, stages, controls}
 use Rattle.model.specs.Streams.{serialStep}
 use Rattle.model.specs.Audio.{audioOut, BLOCK-FRAMES, streamIn, blockOf, sendsBlock, unprimes, streamOut, streams}
 use Rattle.model.specs.Microframe.{rsSet, goneAt, asleepAt, streaming, opens, frameOf, byPhase, atPhase, talks, transfers, others, enumerates, microframe}
 use Rattle.model.specs.Reach.{streamsIn, toPhase, phaseBy, streamBy, outputBy, reachesOutput, atOutput, outputReady}
-use Rattle.model.specs.Earned.{Out, outOf, sentOut}
-use Rattle.model.specs.Marks.{retiredBy, audioRetired, audioOutRetired}
+use Rattle.model.specs.Earned.{outOf, sentOut}
+use Rattle.model.specs.Marks.{retiredBy, audioOutRetired}
 use Rattle.model.specs.Claims.{sendsAt, outPointer, outToken, outMoved, blockStores, oneBlock, unprimed}
 use Rattle.model.proofs.Fields.{Fields, Keeps, fields-replay, fields-then, fields-if, keeps-then, keeps-if, keeps-nothing, keeps-one, keeps-bus, keeps-page, keeps-runs, keeps-here}
-use Rattle.model.proofs.Reading.{quiet, Reading, readingOf, Lasting, Unheard, Unmarked, through, Silent, through-if, through-then, after-silent, before-silent, silent-then, silent-nothing, silent-stores, silent-counts, silent-ticks, silent-sleeps, silent-suspends, silent-unstalls, silent-stages, silent-posts, silent-serves, silent-others, silent-unprimes, silent-idles, silent-powers, silent-resets, silent-enumerates, silent-opens, silent-leaves, silent-hears, silent-keeps}
+use Rattle.model.proofs.Reading.{quiet, Reading, readingOf, Lasting, Unheard, Unmarked, through, through-if, after-silent, before-silent, silent-then, silent-nothing, silent-stores, silent-counts, silent-ticks, silent-sleeps, silent-suspends, silent-unstalls, silent-stages, silent-posts, silent-serves, silent-others, silent-idles, silent-powers, silent-resets, silent-enumerates, silent-opens, silent-leaves, silent-hears, silent-keeps}
 use Rattle.model.proofs.Frames.{Frames, frames, framesReading}
 use Rattle.model.proofs.Way.{Way, way, wayOf}
 use Rattle.model.proofs.Phase.{phases, phasesReading}
@@ -117,7 +116,7 @@ streaming-enumerates c v =
     ap streaming (fields-then phases _ _ v ∙ phase-controls (c .«device_stack») _ ∙ ap after (ways-frame v))
     ∙ streams-by (v .state .phase) (v .state .control .on) (eqb (v .state .lengths .setups) 0)
 
--- the cable is tested before it: nothing that comes first has changed gone
+-- what comes before the test of the cable has not changed gone
 gone-opens : (c : Settings) (v : World) → left (when (λ w. c .«midi_in») ticks) (left counts v) .state .port .gone ≡ v .state .port .gone
 gone-opens c v =
     ap (λ (k : Frames). k .gone)

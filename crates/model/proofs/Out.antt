@@ -1,7 +1,7 @@
 -- What the output step changes of the record, read: the stream counter, the sending ring's place, and the frames counted as sent.
 use Prim.Native.Nat.{ℕ, _+_}
 use mathlib.Core.Path.{_≡_, refl}
-use mathlib.Core.Bool.{Bool, true, false, not}
+use mathlib.Core.Bool.{true}
 use Rattle.bits.proofs.Tests.{false-true}
 use Rattle.record.specs.Record.{wrapped, counted, Counter, microframes, «in_transfers», «out_transfers», «in_frames», «out_frames», «bad_blocks», «midi_dtds», «midi_asleep», «out_underruns», «midi_packets_out», «vendor_in_bytes», restarts, enumerations}
 use Rattle.record.specs.World.{World}

@@ -3,7 +3,7 @@ use Rattle.record.specs.declared.Phase.{Phase}
 use mathlib.Core.Path.{_≡_, refl}
 use Rattle.record.specs.World.{World}
 use Rattle.record.specs.Change.{Change, bus, ran, lost, count, uf, phase, started, gone, suspended, wasRunning, credit, budget, counter, block, timers, control, queued, popped, pushed, cleared, reply, device, config, forgot, midi, serial, received, frame, taken, apply}
-use mathlib.Core.Bool.{Bool, true, false, not}
+use mathlib.Core.Bool.{true}
 use Rattle.bits.proofs.Tests.{false-true}
 use Rattle.model.proofs.Fields.{Fields}
 use Rattle.model.proofs.Reading.{Reading, readingOf, quiet}

@@ -1,7 +1,7 @@
 -- Where a step's changes stand in the list of another step that has it in it.
 use mathlib.Core.Path.{_≡_, refl, ap, sym, _∙_}
 use mathlib.Core.Bool.{Bool, true, false}
-use mathlib.Core.List.{List, [], _∷_, _++_, append-assoc, append-nil}
+use mathlib.Core.List.{List, [], _++_, append-assoc, append-nil}
 use Rattle.bits.specs.Pick.{pick}
 use Rattle.bus.specs.Steps.{replay, andThen, choose, replay-append}
 use Rattle.record.specs.World.{World}

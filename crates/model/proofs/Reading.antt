@@ -3,7 +3,7 @@
 use Prim.Native.Nat.{ℕ, zero, suc}
 use mathlib.Core.Path.{_≡_, refl, ap, _∙_}
 use mathlib.Core.Bool.{Bool, true, false, not}
-use mathlib.Core.List.{List, [], _∷_, _++_, map}
+use mathlib.Core.List.{List, [], _∷_, map}
 use lib.Dec.{eqb}
 use Rattle.bits.specs.Pick.{pick, pick-map, pick-eq, pick-same}
 use Rattle.bus.specs.Steps.{replay, replay-append, andThen, choose}
@@ -15,11 +15,11 @@ use Rattle.record.specs.declared.Phase.{Phase}
 use Rattle.record.specs.declared.Settings.{Settings}
 use Rattle.record.specs.Record.{Counter, microframes, «in_transfers», «out_transfers», «in_frames», «out_frames», «bad_blocks», «midi_dtds», «midi_asleep», «out_underruns», «midi_packets_out», «vendor_in_bytes», restarts, enumerations}
 use Rattle.record.specs.World.{World, busOf}
-use Rattle.record.specs.Change.{Change, bus, ran, lost, count, uf, phase, started, gone, suspended, wasRunning, credit, budget, counter, block, timers, control, queued, popped, pushed, cleared, reply, device, config, forgot, midi, serial, received, frame, taken, apply, Step, left, _then_, nothing, if, when, one, here, onBus, onPage, runs, ranStores}
+use Rattle.record.specs.Change.{Change, bus, ran, lost, count, uf, phase, started, gone, suspended, wasRunning, credit, budget, counter, block, timers, control, queued, popped, pushed, cleared, reply, device, config, forgot, midi, serial, received, frame, taken, Step, left, _then_, nothing, if, one, here, onBus, onPage, runs, ranStores}
 use Rattle.model.specs.Phases.{counts, ticks, cable, returns, forgets, dropsRequest, sleeps, suspends, leaves, departs, enters, idles, powers, resets, startsFrame}
 use Rattle.model.specs.Control.{toStatus, posted, posts, configured, keepsReply, dataStage, asksWhole, chooses, configures, finishes, statusEnds, statusStage, unstalls, stages, controls}
 use Rattle.model.specs.Streams.{naks, reads, midiIn, drainsSerial, serialStep, drainsMidi, midiOut, readsVendor}
-use Rattle.model.specs.Audio.{audioIn, BLOCK-FRAMES, addsBudget, clearsBudget, overBudget, good, keepsFrames, keepsGood, keepsBlock, keepsBlocks, keepsRun, inputs, streamIn, unprimes}
+use Rattle.model.specs.Audio.{audioIn, addsBudget, clearsBudget, keepsFrames, keepsGood, keepsBlock, keepsBlocks, keepsRun, inputs, streamIn, unprimes}
 use Rattle.model.specs.Microframe.{opens, enumerates, others}
 use Rattle.model.proofs.Fields.{Fields, Keeps, fields-replay}
 

@@ -1,7 +1,7 @@
 -- What the received ring reads: its words and its place.
 use Prim.Native.Nat.{ℕ}
 use mathlib.Core.Path.{_≡_, refl}
-use mathlib.Core.Bool.{Bool, true, false, not}
+use mathlib.Core.Bool.{true}
 use mathlib.Core.List.{List}
 use Rattle.bits.proofs.Tests.{false-true}
 use Rattle.record.specs.declared.Ring.{Ring}

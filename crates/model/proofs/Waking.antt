@@ -9,7 +9,7 @@ use Rattle.record.specs.declared.Phase.the-variants.{Idle, Vbus}
 use Rattle.record.specs.declared.Settings.{Settings}
 use Rattle.record.specs.World.{World}
 use Rattle.record.specs.Change.{gone, apply, left, _then_, nothing, when, one, here}
-use Rattle.model.specs.Phases.{counts, ticks, dropsRequest, forgets, returns, cable, suspends, enters, departs, leaves, idles, powers}
+use Rattle.model.specs.Phases.{counts, ticks, dropsRequest, forgets, cable, suspends, enters, departs, leaves, idles, powers}
 use Rattle.model.specs.Microframe.{rsSet, goneAt, asleepAt, opens, byPhase, atPhase, frameOf, microframe}
 use Rattle.model.proofs.Fields.{fields-then, fields-if, keeps-if, keeps-nothing, keeps-one}
 use Rattle.model.proofs.Reading.{silent-keeps, silent-counts, silent-ticks, silent-suspends}

@@ -1,6 +1,6 @@
 -- The audio stream: blocks in, and a block out for each that was earned (document 01, "Streams"; usbhost.rs 855-952).
 use Prim.Native.Nat.{ℕ, zero, suc, _+_, _-_, _*_, _/_, _%_, _^_, min}
-use mathlib.Core.Bool.{Bool, true, false, not, _&&_, _||_}
+use mathlib.Core.Bool.{Bool, true, false, not, _&&_}
 use mathlib.Core.List.{List, [], _∷_, _++_}
 use lib.Dec.{eqb, leb, ltb}
 use lib.ListN.{length, getD, take, drop, replicate}
@@ -12,7 +12,7 @@ use Rattle.transfer.specs.Transfer.{tabulate}
 use Rattle.dtd.specs.Dtd.{Endpoint, endpoint, primed, terminates, nextDtd, nextActive, Run}
 use Rattle.record.specs.Record.{wrapped, «in_transfers», «out_transfers», «in_frames», «out_frames», «bad_blocks», «out_underruns»}
 use Rattle.record.specs.World.{World}
-use Rattle.record.specs.Change.{Change, count, credit, budget, counter, frame, taken, WORDS, Step, _then_, nothing, if, when, one, here, onPage, runs}
+use Rattle.record.specs.Change.{count, credit, budget, counter, frame, taken, WORDS, Step, _then_, nothing, if, when, one, here, onPage, runs}
 use Rattle.model.specs.Phases.{changing}
 use Rattle.model.specs.Streams.{nextTotal, brought, nonempty}
 

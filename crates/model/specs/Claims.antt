@@ -1,14 +1,13 @@
 -- Demand 3 of one microframe (document 01, "Host record"): one block sent, or none; what the output step's changes are in each case.
 use Prim.Native.Nat.{ℕ, _+_, _-_, _%_, _^_, min}
-use mathlib.Core.Bool.{Bool, true, false, _&&_}
+use mathlib.Core.Bool.{Bool, _&&_}
 use mathlib.Core.List.{List, [], _∷_, _++_, map}
-use mathlib.Core.Path.{_≡_}
 use lib.Dec.{leb}
 use lib.ListN.{length}
 use Rattle.bits.specs.Word.{clear}
 use Rattle.bus.specs.Words.{wordAt}
 use Rattle.bus.specs.Stores as S
-use Rattle.bus.specs.Stores.{Store, BusStep, droppedBy}
+use Rattle.bus.specs.Stores.{BusStep, droppedBy}
 use Rattle.usbdev.specs.Offsets.{BASE, EPSR}
 use Rattle.usbdev.specs.Transfer.{totalOf}
 use Rattle.transfer.specs.Transfer.{pointers, sending}

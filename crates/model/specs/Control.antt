@@ -1,5 +1,5 @@
 -- Control transfers on endpoint 0 (document 01, "Control record"; usbhost.rs 623-738; USB 2.0, 9.3: setup packets, 9.4: requests).
-use Prim.Native.Nat.{ℕ, _+_, _-_, _*_, _/_, _%_, _^_}
+use Prim.Native.Nat.{ℕ, _+_, _-_, _/_, _%_, _^_}
 use mathlib.Core.Bool.{Bool, true, false, not, _&&_, _||_}
 use mathlib.Core.List.{List, [], _∷_, _++_, flatMap}
 use lib.Dec.{eqb, leb, ltb}
@@ -23,7 +23,7 @@ use Rattle.record.specs.declared.Control.{Control}
 use Rattle.record.specs.Record.{wrapped, withStage, withGot, enumerations}
 use Rattle.record.specs.Setups.{little}
 use Rattle.record.specs.World.{World}
-use Rattle.record.specs.Change.{Change, lost, count, phase, block, control, queued, popped, pushed, reply, device, config, Step, _then_, nothing, if, when, one, here, onBus, onPage, runs}
+use Rattle.record.specs.Change.{lost, count, phase, block, control, queued, popped, pushed, reply, device, config, Step, _then_, if, when, one, here, onBus, onPage, runs}
 use Rattle.model.specs.Phases.{now, changing, dropsRequest}
 
 -- ---- a setup: eight bytes, kept as the two little-endian words that are posted

@@ -1,7 +1,7 @@
 -- What a microframe does to the credit and to the two counters of frames, by the tests that say which steps it reaches
 -- (document 01, "Host record").
 use Prim.Native.Nat.{ℕ, zero, suc, _+_, _-_, _/_, _%_, _^_, min}
-use mathlib.Core.Bool.{Bool, true, false, not, _&&_}
+use mathlib.Core.Bool.{Bool, _&&_}
 use mathlib.Core.List.{List, [], _∷_}
 use lib.Dec.{leb}
 use lib.ListN.{length}

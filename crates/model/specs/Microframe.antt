@@ -1,6 +1,6 @@
 -- The whole of a microframe (document 01, "Host record": counts, timers, gone, suspend, device left, phase; usbhost.rs 373-512).
 use Prim.Native.Nat.{ℕ}
-use mathlib.Core.Bool.{Bool, true, false, not, _&&_}
+use mathlib.Core.Bool.{Bool, true, false}
 use Rattle.bits.specs.Word.{any}
 use Rattle.bus.specs.Words.{wordAt}
 use Rattle.usbdev.specs.Offsets.{USBCMD}
@@ -8,7 +8,7 @@ use Rattle.record.specs.declared.Phase.{Phase}
 use Rattle.record.specs.declared.Phase.the-variants.{Idle, Vbus, Reset, Enumerate, Stream}
 use Rattle.record.specs.declared.Settings.{Settings}
 use Rattle.record.specs.World.{World}
-use Rattle.record.specs.Change.{Step, _then_, nothing, if, when, here}
+use Rattle.record.specs.Change.{Step, _then_, if, when, here}
 use Rattle.model.specs.Phases.{within, anySpan, counts, ticks, cable, sleeps, suspends, leaves, idles, powers, resets, startsFrame}
 use Rattle.model.specs.Control.{controls}
 use Rattle.model.specs.Streams.{midiIn, serialStep, midiOut, readsVendor}

@@ -2,7 +2,7 @@
 -- usbhost.rs 374-495, whose lines the numbers beside each definition are).
 use Prim.Native.Nat.{ℕ, zero, suc, _+_, _*_}
 use mathlib.Core.Bool.{Bool, true, false, not, _&&_, _||_}
-use mathlib.Core.List.{List, [], _∷_, _++_}
+use mathlib.Core.List.{List, [], _∷_}
 use lib.Dec.{leb, ltb}
 use lib.ListN.{getD}
 use Rattle.bits.specs.Word.{clear, set, any}
@@ -13,11 +13,11 @@ use Rattle.usbdev.specs.Registers.{Registers, registers, PageStep, put, raising
 use Rattle.usbdev.specs.Transfer.{nextFrindex}
 use Rattle.gptimers.specs.Timer.{STEP, tickingBoth, tickedBoth}
 use Rattle.record.specs.declared.Phase.{Phase}
-use Rattle.record.specs.declared.Phase.the-variants.{Idle, Vbus, Reset, Enumerate, Stream}
+use Rattle.record.specs.declared.Phase.the-variants.{Idle, Vbus, Reset, Enumerate}
 use Rattle.record.specs.declared.Span.{Span}
-use Rattle.record.specs.Record.{wrapped, withOn, Counter, microframes, «midi_asleep», restarts}
+use Rattle.record.specs.Record.{wrapped, withOn, microframes, «midi_asleep», restarts}
 use Rattle.record.specs.World.{World}
-use Rattle.record.specs.Change.{Change, count, uf, phase, started, gone, suspended, wasRunning, credit, budget, timers, control, queued, cleared, forgot, Step, _then_, nothing, when, one, here, onPage}
+use Rattle.record.specs.Change.{count, uf, phase, started, gone, suspended, wasRunning, credit, budget, timers, control, queued, cleared, forgot, Step, _then_, nothing, when, one, here, onPage}
 
 -- ---- what the steps read
 

@@ -1,7 +1,7 @@
 -- Which microframes reach the audio input and the audio output step, by entry values alone, and the World as it stands there
 -- (document 01, "Host record": the first definition).
 use Prim.Native.Nat.{ℕ, _+_}
-use mathlib.Core.Bool.{Bool, true, false, not, _&&_, _||_}
+use mathlib.Core.Bool.{Bool, false, not, _&&_, _||_}
 use mathlib.Core.List.{List, []}
 use lib.Dec.{eqb, ltb}
 use Rattle.dtd.specs.Dtd.{runDtds}

@@ -10,9 +10,9 @@ use Rattle.usbdev.specs.Offsets.{EPNAK}
 use Rattle.usbdev.specs.Transfer.{totalOf}
 use Rattle.midi.specs.Packer.{byteCount}
 use Rattle.dtd.specs.Dtd.{Endpoint, endpoint, primed, nextActive, nextDtd, tokenOf, Run}
-use Rattle.record.specs.Record.{«midi_dtds», «midi_asleep», «midi_packets_out», «vendor_in_bytes»}
+use Rattle.record.specs.Record.{«midi_dtds», «midi_packets_out», «vendor_in_bytes»}
 use Rattle.record.specs.World.{World}
-use Rattle.record.specs.Change.{Change, count, midi, serial, received, Step, _then_, nothing, if, when, one, here, onPage, runs}
+use Rattle.record.specs.Change.{count, midi, serial, received, Step, _then_, nothing, when, one, here, onPage, runs}
 use Rattle.model.specs.Phases.{now, changing, sleeps}
 
 -- ---- what the steps test

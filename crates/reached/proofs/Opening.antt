@@ -1,6 +1,6 @@
 -- A microframe up to the choice by phase, of a host that neither goes nor sleeps, and the forms of a step by its tests.
 use Prim.Native.Nat.{ℕ, _+_, _<_}
-use mathlib.Core.Path.{_≡_, refl, ap, sym, _∙_}
+use mathlib.Core.Path.{_≡_, refl, ap, _∙_}
 use mathlib.Core.Bool.{Bool, true, false}
 use native.Mathlib.Omega.{arith}
 use Rattle.bits.specs.Pick.{pick}

@@ -1,7 +1,7 @@
 -- How the promises of steps compose.
 use Prim.Native.Nat.{ℕ, _+_}
 use mathlib.Core.Bool.{Bool, true, false}
-use mathlib.Core.List.{List, [], _∷_, _++_, map}
+use mathlib.Core.List.{List, [], _∷_, map}
 use mathlib.Core.Path.{_≡_, refl, sym, ap, _∙_}
 use native.Mathlib.Omega.{arith}
 use lib.ListN.{getD}
@@ -9,14 +9,13 @@ use Rattle.bits.specs.Pick.{pick}
 use Rattle.bus.specs.Memory.{Memory, memory, word}
 use Rattle.bus.specs.Steps.{replay, replay-append, exec, exec-then, exec-choose}
 use Rattle.bus.specs.Stores as S
-use Rattle.bus.specs.Stores.{Bus, Store, store, stored, droppedBy, BusStep, Does}
-use Rattle.usbdev.specs.Registers.{Registers, registers, PageStep, lifted, done, onBus as page-onBus}
+use Rattle.bus.specs.Stores.{Bus, Store, store, stored, droppedBy, BusStep}
+use Rattle.usbdev.specs.Registers.{Registers, registers, PageStep, done, onBus as page-onBus}
 use Rattle.usbdev.proofs.Laws.{Inside, on-bus}
 use Rattle.dtd.specs.Dtd.{Endpoint, Run, runDtds}
 use Rattle.dtd.specs.Promises.{Runs, running}
 use Rattle.dtd.specs.declared.Ran.{Ran}
 use Rattle.record.specs.declared.State.{State}
-use Rattle.record.specs.Record.{wrapped}
 use Rattle.record.specs.Setups.{little}
 use Rattle.record.specs.World.{World, busOf, withBus, atPage, atBus, lined}
 use Rattle.record.specs.Change.{Change, bus, ran, lost, apply, Step, left, _then_, nothing, if, one, here, onBus, onPage, runs, ranStores}

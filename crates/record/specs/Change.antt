@@ -1,20 +1,19 @@
 -- What a microframe can change, one thing at a time, and a step as the list of its changes, oldest first (document 01, "Host record": the second definition).
 -- Beside each change stand the lines of usbhost.rs that make it.
 use Prim.Native.Nat.{ℕ, _+_, _-_, _*_, _/_, _%_}
-use mathlib.Core.Bool.{Bool, true, false}
+use mathlib.Core.Bool.{Bool}
 use mathlib.Core.List.{List, [], _∷_, _++_, map}
 use lib.ListN.{length, take, drop}
 use lib.Seq.{sets}
 use lib.Dec.{eqb}
 use Rattle.bits.specs.Pick.{pick}
-use Rattle.bus.specs.Steps.{replay, exec, andThen, choose}
+use Rattle.bus.specs.Steps.{exec, andThen, choose}
 use Rattle.bus.specs.Stores.{Store, store, BusStep, droppedBy}
 use Rattle.usbdev.specs.Registers.{PageStep, lifted}
 use Rattle.dtd.specs.Dtd.{Endpoint, Run, runDtds}
 use Rattle.gptimers.specs.declared.Timers.{Timers}
 use Rattle.record.specs.declared.Phase.{Phase}
 use Rattle.record.specs.declared.Ring.{Ring}
-use Rattle.record.specs.declared.Audio.{Audio}
 use Rattle.record.specs.declared.Control.{Control}
 use Rattle.record.specs.Record.{withUf, withT, withSuspended, withGone, withRunning, withCredit, withCounter, withBudget, withBlock, withReceived, withSending, withSetups, withMidi, withSerial, withDevice, withConfig, withCount, withDropped, withPhase, withTimers, Counter, counted, wrapped}
 use Rattle.record.specs.World.{World, withState, withSetupQueue, withMidiQueue, withSerialQueue, withDeviceArea, withReplyArea, withConfigArea, withReceiveArea, withReceivedRing, inPort, inAudio, inControl, inStats, inLengths, inAnswer, busOf, withBus}

@@ -1,6 +1,5 @@
 -- What the code of a step promises: what it leaves, with whatever else the World holds, is what the step's list of changes leaves.
 use Prim.Native.Nat.{ℕ, _+_}
-use mathlib.Core.Bool.{Bool}
 use mathlib.Core.List.{List}
 use mathlib.Core.Path.{_≡_}
 use Rattle.bus.specs.Memory.{Memory}

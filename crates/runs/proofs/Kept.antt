@@ -1,10 +1,10 @@
 -- What an area keeps of bytes that come in parts.
-use Prim.Native.Nat.{ℕ, zero, suc, _+_, _-_, _≤_, _<_, min}
+use Prim.Native.Nat.{ℕ, zero, suc, _+_, _-_, _≤_, min}
 use mathlib.Core.List.{List, [], _∷_, _++_}
-use mathlib.Core.Path.{_≡_, refl, sym, ap, ap₂, subst, _∙_}
-use native.Mathlib.Nat.{add-zero, add-suc, suc-add, suc-min-suc, zero-min, min-zero, min-le-left, min-le-right}
+use mathlib.Core.Path.{_≡_, refl, sym, ap, _∙_}
+use native.Mathlib.Nat.{add-zero, suc-min-suc, zero-min, min-zero, min-le-left, min-le-right}
 use native.Mathlib.Omega.{arith}
-use lib.ListN.{length, set, take, drop, length-take, length-append}
+use lib.ListN.{length, take, drop, length-take, length-append}
 use lib.Seq.{sets, sets-eq, length-sets}
 use Rattle.bits.proofs.Lists.{sets-append}
 use Rattle.bus.specs.Memory.{Memory}

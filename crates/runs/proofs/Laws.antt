@@ -1,26 +1,23 @@
 -- The turns of the loops over descriptors.
-use Prim.Native.Nat.{ℕ, zero, suc, _+_, _-_, _*_, _≤_, _<_, min}
+use Prim.Native.Nat.{ℕ, suc, _+_, _-_, _*_, _≤_, _<_, min}
 use mathlib.Core.Bool.{Bool, true, false, _||_}
-use mathlib.Core.List.{List, [], _∷_, _++_, append-assoc, append-nil}
+use mathlib.Core.List.{List, [], _++_}
 use mathlib.Core.Path.{_≡_, refl, sym, ap, ap₂, subst, _∙_}
-use native.Mathlib.Nat.{min-le-left, min-le-right}
+use native.Mathlib.Nat.{min-le-right}
 use native.Mathlib.Omega.{arith}
 use lib.ListN.{length, take, drop, length-drop}
 use lib.Seq.{drop-nil, drop-drop, take-length}
 use Rattle.bits.proofs.Tests.{or-false}
-use Rattle.bits.specs.Pick.{pick}
-use Rattle.bits.specs.Word.{any, clear}
 use Rattle.bus.specs.Memory.{Memory}
 use Rattle.bus.specs.Sized.{Sized}
 use Rattle.bus.specs.Steps.{exec, andThen, replay-append}
-use Rattle.bus.specs.Stores.{Bus, bus, Store, store, stored, droppedBy, dropped-append, BusStep, _then_, when, Does}
+use Rattle.bus.specs.Stores.{Bus, bus, store, stored, droppedBy, dropped-append, BusStep, _then_, when, Does}
 use Rattle.bus.proofs.Places.{Kept, kept-refl, kept-trans}
 use Rattle.bus.proofs.Storing.{does-kept, does-then, does-as, does-counted}
 use Rattle.usbdev.specs.Transfer.{totalOf}
 use Rattle.usbdev.proofs.Tokens.{total-lt}
 use Rattle.transfer.specs.Transfer.{pointers, pointersFor, bytesIn, received, sending}
 use Rattle.transfer.proofs.Addresses.{sending-for}
-use Rattle.dtd.specs.declared.Found.{Found}
 use Rattle.dtd.specs.declared.Found.the-variants.{Unprimed, Ended, Active}
 use Rattle.dtd.specs.declared.Retired.{Retired}
 use Rattle.dtd.specs.declared.Ran.{Ran}
@@ -29,7 +26,7 @@ use Rattle.dtd.specs.Promises.{Retires, TakesOne, noneRan, running, Runs}
 use Rattle.dtd.proofs.Runs.{says-unprimed, says-ended, says-active, run-unprimed, run-ended, active-bytes, single, runs-none, runs-unprimed, runs-ended, runs-active, counted-few, lost-few}
 use Rattle.runs.specs.declared.Filled.{Filled}
 use Rattle.runs.specs.declared.Turn.{Turn}
-use Rattle.runs.specs.Turns.{kept, keptEnd, firstTurn, stoppedAt, Same, SameArea, toSend, rest, Grown, Small, Turned, TurnsOut, TurnsIn, TakesIn, GivesOut, Looped, LoopsIn, RunsIn, FillsOne, answerOf}
+use Rattle.runs.specs.Turns.{kept, keptEnd, firstTurn, stoppedAt, Same, SameArea, toSend, rest, Small, Turned, TurnsOut, TurnsIn, TakesIn, GivesOut, Looped, LoopsIn, RunsIn, FillsOne, answerOf}
 use Rattle.runs.proofs.Kept.{kept-append, end-append, kept-none, end-none, length-kept, end-inside, received-kept, end-kept}
 
 or-assoc : (x y z : Bool) → x || (y || z) ≡ (x || y) || z

@@ -1,5 +1,5 @@
 -- Runs over whole lists (usbhost.rs 541-609; endpoint 0 loops, 547): what is kept of their bytes, and what one turn of their loops promises.
-use Prim.Native.Nat.{ℕ, zero, suc, _+_, _-_, _≤_, min}
+use Prim.Native.Nat.{ℕ, suc, _+_, _-_, _≤_}
 use mathlib.Core.Bool.{Bool, true, false, _||_}
 use mathlib.Core.List.{List, []}
 use mathlib.Core.Path.{_≡_}

@@ -8,9 +8,7 @@ use borrow.Rule.Slice.PartMut.{putMid, post-is}
 use lib.ListN.{length, getD, take, drop, length-drop}
 use lib.Seq.{ext-getD, getD-take, getD-drop, length-take-le, paste, paste-zero, length-paste, take-all, drop-length, take-paste, drop-paste, drop-drop, take-add}
 use Rattle.bus.proofs.PageWords.{lost-shift}
-use Rattle.bus.specs.declared.Place.{Place}
-use Rattle.bus.specs.declared.Place.the-variants.{Dynamic, Static, Page, Nowhere}
-use Rattle.bus.specs.Memory.{Memory, at, lost, peek8, poke8, dropped8}
+use Rattle.bus.specs.Memory.{Memory, at, peek8, poke8, dropped8}
 use Rattle.bus.specs.Sized.{Sized}
 use Rattle.bus.proofs.Places.{dropped-at}
 use Rattle.bus.proofs.Pages.{shift, at-shift}

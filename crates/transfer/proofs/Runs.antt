@@ -9,7 +9,7 @@ use lib.Seq.{ext-getD, getD-take, getD-drop, length-take-le, paste, paste-zero, 
 use borrow.Rule.Slice.PartMut.{putMid, post-is}
 use Rattle.bus.specs.declared.Place.{Place}
 use Rattle.bus.specs.declared.Place.the-variants.{Dynamic, Static, Page, Nowhere}
-use Rattle.bus.specs.Memory.{Memory, memory, place, read, write, at, peek8}
+use Rattle.bus.specs.Memory.{Memory, memory, read, write, at, peek8}
 use Rattle.bus.specs.Sized.{Sized}
 use Rattle.bus.proofs.Places.{Inside, inside, peek-at, poke-at, Kept, kept-refl, kept-trans, kept-poke8}
 use Rattle.bus.proofs.Laws.{at-kept}

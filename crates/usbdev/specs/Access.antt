@@ -1,6 +1,6 @@
 -- What a device access of one, two or four bytes does (document 01, "Register page" and numbers 1 and 4; usbdev.rs 31-74; MCF5441x Reference Manual, USB OTG).
 use Prim.Native.Nat.{ℕ, _+_, _*_, _/_, _%_, _^_}
-use mathlib.Core.Bool.{Bool, true, false, _&&_, _||_}
+use mathlib.Core.Bool.{Bool, _&&_, _||_}
 use mathlib.Core.List.{List, [], _∷_}
 use lib.Bits.{bitAnd, bitOr}
 use lib.Dec.{eqb, leb}
@@ -8,11 +8,11 @@ use lib.ListN as L
 use lib.ListN.{length, getD}
 use Rattle.bits.specs.Pick.{pick}
 use Rattle.bits.specs.Word.{clear, set}
-use Rattle.bus.specs.Words.{wordAt, wordPut}
+use Rattle.bus.specs.Words.{wordAt}
 use Rattle.usbdev.specs.declared.Value.{Value}
 use Rattle.usbdev.specs.declared.Written.{Written}
 use Rattle.usbdev.specs.Offsets.{USBCMD, USBSTS, EPNAK, OTGSC, EPSETUPSR, EPPRIME, EPFLUSH, EPSR, EPCOMPLETE}
-use Rattle.usbdev.specs.Registers.{Registers, registers, PageStore, put, PageStep, done, _then_, following}
+use Rattle.usbdev.specs.Registers.{Registers, registers, put, PageStep, done, _then_, following}
 
 -- ---- numbers of refusal
 

@@ -1,8 +1,8 @@
 -- The microframe's promise, by its ways from the number of refusal on; what an accepted one knows; and the call by value.
 use Prim.Native.Nat.{ℕ, suc, _≤_}
 use mathlib.Core.Path.{_≡_, refl, sym, ap, _∙_}
-use mathlib.Core.Bool.{Bool, true, false, _&&_}
-use mathlib.Core.List.{List, []}
+use mathlib.Core.Bool.{Bool, true, false}
+use mathlib.Core.List.{List}
 use native.Mathlib.Omega.{arith}
 use lib.Dec.{eqb, leb, ltb}
 use lib.ListN.{length}
@@ -15,7 +15,6 @@ use Rattle.midi.specs.declared.Packer.{Packer}
 use Rattle.record.specs.declared.Settings.{Settings}
 use Rattle.record.specs.declared.State.{State}
 use Rattle.record.specs.Record.{withAnswer}
-use Rattle.record.specs.Change.{left}
 use Rattle.record.specs.Did.{Leads}
 use Rattle.bounds.specs.Bounds.{MOST, areasOk, receivedOk, sendingOk, inBounds, enumeratingOk, countsOk}
 use Rattle.model.specs.Microframe as M
@@ -26,7 +25,7 @@ use Rattle.usbhost.specs.declared.Stored.{Stored}
 use Rattle.usbhost.specs.declared.Framed.{Framed}
 use Rattle.usbhost.specs.Host.{stateOf, hostOf}
 use Rattle.usbhost.specs.Calls.{bounded, fewSpans, sendingLength}
-use Rattle.usbhost.specs.Frame.{Lent, lent, worldOf, hostIn, lentIn, lengthsOk, areaLengths, boundsOk, frameBounds, frameNumber, framed, frameAnswer}
+use Rattle.usbhost.specs.Frame.{Lent, lent, worldOf, lentIn, lengthsOk, areaLengths, boundsOk, frameBounds, frameNumber, framed, frameAnswer}
 use Rattle.usbhost.specs.Promises.{bare, worldBy, FramePromise}
 
 -- ---- an accepted microframe

@@ -19,12 +19,11 @@ use Rattle.usbdev.specs.declared.Written.{Written}
 use Rattle.usbdev.specs.Registers.{registers}
 use Rattle.usbdev.specs.Access.{fits, refusal, reading, writing, written}
 use Rattle.record.specs.declared.Lengths.{Lengths}
-use Rattle.record.specs.declared.Ring.{Ring}
 use Rattle.record.specs.declared.Settings.{Settings}
 use Rattle.record.specs.declared.State.{State}
 use Rattle.record.specs.Record.{withLengths, withMidi, withSerial, withAudio, withReceived, withSending, withPort, withLine}
 use Rattle.record.specs.Change.{takenFrom}
-use Rattle.bounds.specs.Bounds.{inBounds, askedOk, heldOk, countedOk, audioOk, queuesOk, packerOk, ringOk, receivedOk, sendingOk}
+use Rattle.bounds.specs.Bounds.{inBounds, askedOk, heldOk, countedOk, audioOk, queuesOk, packerOk, receivedOk, sendingOk}
 use Rattle.usbhost.specs.declared.Host.{Host}
 use Rattle.usbhost.specs.Host.{hostOf, stateOf}
 use Rattle.usbhost.specs.Calls.{unless, fewSpans, bounded, midiNumber, midiQueued, midiSent, serialNumber, serialQueued, serialSent, sendingLength, giveNumber, framePut, frameGiven, given, givenRing, takeNumber, frameTaken, oldest, holdsFrame, takenFrame, accessNumber, deviceRead, withFlag, deviceWritten, writtenPage}

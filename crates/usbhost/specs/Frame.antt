@@ -1,7 +1,7 @@
 -- The call `microframe`: its numbers of refusal, and what an accepted one leaves of the record, the areas and memory
 -- (document 01, "Host record" and "Numbers of refusal").
 use Prim.Native.Nat.{ℕ, _*_}
-use mathlib.Core.Bool.{Bool, true, false, _&&_}
+use mathlib.Core.Bool.{Bool, _&&_}
 use mathlib.Core.List.{List}
 use lib.Dec.{eqb, leb, ltb}
 use lib.ListN.{length}
