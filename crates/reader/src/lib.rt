@@ -31,53 +31,6 @@ fn room(out: &[u8; 65536], at: usize) -> usize
     0
 }
 
-// The microframes that a run still asks for.
-fn finish(
-    run: Run,
-    setups: &mut [u8; 2056],
-    midi: &mut [u8; 4096],
-    serial: &mut [u8; 4096],
-    device: &mut [u8; 64],
-    dynamic: &mut [u8],
-    sram: &mut [u8],
-    page: &mut [u8],
-    reply: &mut [u8],
-    config: &mut [u8],
-    receive: &mut [u8],
-    received: &mut [u32],
-    sending: &[u32],
-    out: &mut [u8; 65536],
-    from: usize,
-) -> Next
-    requires { ⌜ from ≤ 65536 ⌝ }
-    ensures { λ r. ⌜ r .at ≤ 65536 ⌝ }
-{
-    let mut next = Next { run, at: from };
-    let mut turns = u64::MAX;
-    while turns > 0 && next.run.left > 0 {
-        let at = room(&*out, next.at);
-        next = lines::go_on(
-            next.run,
-            setups,
-            midi,
-            serial,
-            device,
-            dynamic,
-            sram,
-            page,
-            reply,
-            config,
-            receive,
-            received,
-            sending,
-            out,
-            at,
-        );
-        turns -= 1;
-    }
-    next
-}
-
 // How many runs are done, on standard error: at every 64th.
 fn progress(number: u64) {
     if (0 < number) & (number % 64 == 0) {
@@ -91,74 +44,6 @@ struct Work {
     run: Run,
     at: usize,
     sums: Row,
-}
-
-// A line of a log: its answer, and the microframes that it asks for.
-fn log_line(
-    before: Work,
-    line: &[u8],
-    setups: &mut [u8; 2056],
-    midi: &mut [u8; 4096],
-    serial: &mut [u8; 4096],
-    device: &mut [u8; 64],
-    dynamic: &mut [u8],
-    sram: &mut [u8],
-    page: &mut [u8],
-    reply: &mut [u8],
-    config: &mut [u8],
-    receive: &mut [u8],
-    received: &mut [u32],
-    sending: &mut [u32],
-    bytes: &mut [u8; 8192],
-    out: &mut [u8; 65536],
-) -> Work
-    requires { ⌜ before .at ≤ 65536 ⌝ }
-    ensures { λ r. ⌜ r .at ≤ 65536 ⌝ }
-{
-    let sums = before.sums;
-    let at = room(&*out, before.at);
-    let next = lines::answer(
-        before.run,
-        line,
-        setups,
-        midi,
-        serial,
-        device,
-        dynamic,
-        sram,
-        page,
-        reply,
-        config,
-        receive,
-        received,
-        sending,
-        bytes,
-        out,
-        at,
-    );
-    let after = finish(
-        next.run,
-        setups,
-        midi,
-        serial,
-        device,
-        dynamic,
-        sram,
-        page,
-        reply,
-        config,
-        receive,
-        received,
-        &*sending,
-        out,
-        next.at,
-    );
-    let run = after.run;
-    Work {
-        run,
-        at: after.at,
-        sums,
-    }
 }
 
 // The row of a run that a new one follows.
@@ -175,32 +60,105 @@ fn row_before(before: Work, number: u64, out: &mut [u8; 65536], at: usize) -> ta
     table::end_run(run, sums, out, at)
 }
 
-// A line of a table: a new run ends the one before it with a row; answers are not written.
-fn table_line(
+// Behind a line's answer: a log goes on behind it. In a table answers are not written, and a new run ends the one before it with a row.
+fn settled(before: Work, tabular: bool, next: Next, out: &mut [u8; 65536], at: usize) -> Work
+    requires { ⌜ (at ≤ 40000) × (next .at ≤ 65536) ⌝ }
+    ensures { λ r. ⌜ r .at ≤ 65536 ⌝ }
+{
+    let mut run = next.run;
+    if tabular {
+        run.mode = 0;
+        let summed = row_before(before, run.number, out, at);
+        let sums = summed.sums;
+        return Work {
+            run,
+            at: summed.at,
+            sums,
+        };
+    }
+    let sums = before.sums;
+    Work {
+        run,
+        at: next.at,
+        sums,
+    }
+}
+
+// Behind an observation, which a table does not show.
+fn looked(before: Work, tabular: bool, at: usize, end: usize) -> Work
+    requires { ⌜ (at ≤ 65536) × (end ≤ 65536) ⌝ }
+    ensures { λ r. ⌜ r .at ≤ 65536 ⌝ }
+{
+    let mut after = before;
+    after.at = if tabular { at } else { end };
+    after
+}
+
+// The line from `from` to `end`, which may be empty, and then the microframes that the run still asks for.
+fn take_line(
     before: Work,
-    line: &[u8],
+    tabular: bool,
+    text: &[u8],
+    from: usize,
+    end: usize,
     setups: &mut [u8; 2056],
     midi: &mut [u8; 4096],
     serial: &mut [u8; 4096],
     device: &mut [u8; 64],
-    dynamic: &mut [u8],
-    sram: &mut [u8],
-    page: &mut [u8],
-    reply: &mut [u8],
-    config: &mut [u8],
-    receive: &mut [u8],
-    received: &mut [u32],
-    sending: &mut [u32],
+    dynamic: &mut [u8; 1048576],
+    sram: &mut [u8; 65536],
+    page: &mut [u8; 4096],
+    reply: &mut [u8; 65535],
+    config: &mut [u8; 65535],
+    receive: &mut [u8; 196608],
+    received: &mut [u32; 576000],
+    sending: &mut [u32; 576000],
     bytes: &mut [u8; 8192],
     out: &mut [u8; 65536],
 ) -> Work
     requires { ⌜ before .at ≤ 65536 ⌝ }
+    requires { ⌜ (from ≤ end) × (end ≤ length (now text)) ⌝ }
     ensures { λ r. ⌜ r .at ≤ 65536 ⌝ }
 {
+    let line = &text[from..end];
     let at = room(&*out, before.at);
+    let run = before.run;
+    if lines::is_look(run.live, run.stopped, line) {
+        let last = lines::observe(
+            run,
+            &*setups,
+            &*midi,
+            &*serial,
+            &*device,
+            &*dynamic,
+            &*sram,
+            &*page,
+            &*reply,
+            &*config,
+            &*received,
+            &*sending,
+            out,
+            at,
+        );
+        return looked(before, tabular, at, last);
+    }
     let next = lines::answer(
-        before.run,
+        run,
         line,
+        &*setups,
+        midi,
+        serial,
+        dynamic,
+        sram,
+        page,
+        &*received,
+        sending,
+        bytes,
+        out,
+        at,
+    );
+    lines::clear_all(
+        next.run.live & (next.run.number != run.number),
         setups,
         midi,
         serial,
@@ -213,17 +171,10 @@ fn table_line(
         receive,
         received,
         sending,
-        bytes,
-        out,
-        at,
     );
-    let mut run = next.run;
-    run.mode = 0;
-    let summed = row_before(before, run.number, out, at);
-    let sums = summed.sums;
-    let end = summed.at;
-    let after = finish(
-        run,
+    let work = settled(before, tabular, next, out, at);
+    let after = lines::go_on(
+        work.run,
         setups,
         midi,
         serial,
@@ -237,77 +188,15 @@ fn table_line(
         received,
         &*sending,
         out,
-        end,
+        work.at,
     );
-    let last = after.run;
+    let later = after.run;
+    let sums = work.sums;
     Work {
-        run: last,
-        at: end,
+        run: later,
+        at: after.at,
         sums,
     }
-}
-
-// A line of either.
-fn take_line(
-    before: Work,
-    tabular: bool,
-    line: &[u8],
-    setups: &mut [u8; 2056],
-    midi: &mut [u8; 4096],
-    serial: &mut [u8; 4096],
-    device: &mut [u8; 64],
-    dynamic: &mut [u8],
-    sram: &mut [u8],
-    page: &mut [u8],
-    reply: &mut [u8],
-    config: &mut [u8],
-    receive: &mut [u8],
-    received: &mut [u32],
-    sending: &mut [u32],
-    bytes: &mut [u8; 8192],
-    out: &mut [u8; 65536],
-) -> Work
-    requires { ⌜ before .at ≤ 65536 ⌝ }
-    ensures { λ r. ⌜ r .at ≤ 65536 ⌝ }
-{
-    if tabular {
-        return table_line(
-            before,
-            line,
-            setups,
-            midi,
-            serial,
-            device,
-            dynamic,
-            sram,
-            page,
-            reply,
-            config,
-            receive,
-            received,
-            sending,
-            bytes,
-            out,
-        );
-    }
-    log_line(
-        before,
-        line,
-        setups,
-        midi,
-        serial,
-        device,
-        dynamic,
-        sram,
-        page,
-        reply,
-        config,
-        receive,
-        received,
-        sending,
-        bytes,
-        out,
-    )
 }
 
 // The place of the next line end before `count`, or `count`.
@@ -325,62 +214,71 @@ fn line_end(text: &[u8], from: usize, count: usize) -> usize
     i
 }
 
-// What follows the whole lines among the first bytes of a text, and how many bytes those lines have.
-struct Taken {
-    work: Work,
-    used: usize,
+// The good `w` line that stands whole from `from` on, taken: where the next one begins, or `from` where there is none.
+fn take_store(
+    text: &[u8],
+    from: usize,
+    count: usize,
+    dynamic: &mut [u8],
+    sram: &mut [u8; 65536],
+    page: &mut [u8; 4096],
+) -> usize
+    requires { ⌜ (from ≤ count) × (count ≤ length (now text)) ⌝ }
+    ensures { λ r. ⌜ (from ≤ r) × (r ≤ count) ⌝ }
+{
+    let end = line_end(text, from, count);
+    if end < count {
+        let line = &text[from..end];
+        if script::parse::letter(line) == b'w' {
+            if script::windows::store_line(line, dynamic, sram, page) {
+                return end + 1;
+            }
+        }
+    }
+    from
 }
 
-fn take_lines(
-    before: Work,
-    tabular: bool,
+// As many of them as follow each other in a run with some dynamic memory.
+fn take_stores(
     text: &[u8],
+    from: usize,
     count: usize,
-    setups: &mut [u8; 2056],
-    midi: &mut [u8; 4096],
-    serial: &mut [u8; 4096],
-    device: &mut [u8; 64],
+    memory: usize,
     dynamic: &mut [u8],
-    sram: &mut [u8],
-    page: &mut [u8],
-    reply: &mut [u8],
-    config: &mut [u8],
-    receive: &mut [u8],
-    received: &mut [u32],
-    sending: &mut [u32],
-    bytes: &mut [u8; 8192],
-    out: &mut [u8; 65536],
-) -> Taken
-    requires { ⌜ (before .at ≤ 65536) × (count ≤ length (now text)) ⌝ }
-    ensures { λ r. ⌜ (r .work .at ≤ 65536) × (r .used ≤ count) ⌝ }
+    sram: &mut [u8; 65536],
+    page: &mut [u8; 4096],
+) -> usize
+    requires { ⌜ (from ≤ count) × (count ≤ length (now text)) ⌝ }
+    ensures { λ r. ⌜ (from ≤ r) × (r ≤ count) ⌝ }
 {
-    let mut work = before;
-    let mut used = 0;
-    let mut end = line_end(text, 0, count);
-    while end < count {
-        work = take_line(
-            work,
-            tabular,
-            &text[used..end],
-            setups,
-            midi,
-            serial,
-            device,
-            dynamic,
-            sram,
-            page,
-            reply,
-            config,
-            receive,
-            received,
-            sending,
-            bytes,
-            out,
-        );
-        used = end + 1;
-        end = line_end(text, used, count);
+    let size = scripted::log::at_most(memory, dynamic.len());
+    let mut used = from;
+    let mut next = take_store(text, from, count, &mut dynamic[..size], sram, page);
+    while used < next {
+        used = next;
+        next = take_store(text, used, count, &mut dynamic[..size], sram, page);
     }
-    Taken { work, used }
+    used
+}
+
+// The same; a run that ended, or none, takes none of them.
+fn pass_stores(
+    live: bool,
+    text: &[u8],
+    from: usize,
+    count: usize,
+    memory: usize,
+    dynamic: &mut [u8; 1048576],
+    sram: &mut [u8; 65536],
+    page: &mut [u8; 4096],
+) -> usize
+    requires { ⌜ (from ≤ count) × (count ≤ length (now text)) ⌝ }
+    ensures { λ r. ⌜ (from ≤ r) × (r ≤ count) ⌝ }
+{
+    if live {
+        return take_stores(text, from, count, memory, dynamic, sram, page);
+    }
+    from
 }
 
 // Moves what stands from `used` to `end` to the front, and says how much that is.
@@ -397,100 +295,13 @@ fn shift(text: &mut [u8; 65536], used: usize, end: usize) -> usize
     i
 }
 
-// A script between two reads: how many bytes of a line that goes on are held, and whether there may be more.
-struct Reading {
-    work: Work,
+// Where reading stands: the line from `from` to `end`, what is not taken yet from `next` to `held`, and whether there may be more.
+struct Place {
+    from: usize,
+    end: usize,
+    next: usize,
     held: usize,
     more: bool,
-}
-
-// The last line, which no line end follows.
-fn take_rest(
-    before: Reading,
-    tabular: bool,
-    text: &[u8],
-    setups: &mut [u8; 2056],
-    midi: &mut [u8; 4096],
-    serial: &mut [u8; 4096],
-    device: &mut [u8; 64],
-    dynamic: &mut [u8],
-    sram: &mut [u8],
-    page: &mut [u8],
-    reply: &mut [u8],
-    config: &mut [u8],
-    receive: &mut [u8],
-    received: &mut [u32],
-    sending: &mut [u32],
-    bytes: &mut [u8; 8192],
-    out: &mut [u8; 65536],
-) -> Reading
-    requires { ⌜ (before .work .at ≤ 65536) × (before .held ≤ length (now text)) ⌝ }
-    requires { ⌜ before .held ≤ 65536 ⌝ }
-    ensures { λ r. ⌜ (r .work .at ≤ 65536) × (r .held ≤ 65536) ⌝ }
-{
-    let held = before.held;
-    let work = before.work;
-    if held == 0 {
-        return Reading {
-            work,
-            held,
-            more: false,
-        };
-    }
-    let after = take_line(
-        work,
-        tabular,
-        &text[..held],
-        setups,
-        midi,
-        serial,
-        device,
-        dynamic,
-        sram,
-        page,
-        reply,
-        config,
-        receive,
-        received,
-        sending,
-        bytes,
-        out,
-    );
-    Reading {
-        work: after,
-        held: 0,
-        more: false,
-    }
-}
-
-// A line that the buffer does not hold is bad, and all that follows is passed over.
-fn too_long(before: Reading, out: &mut [u8; 65536]) -> Reading
-    requires { ⌜ (before .work .at ≤ 65536) × (before .held ≤ 65536) ⌝ }
-    ensures { λ r. ⌜ (r .work .at ≤ 65536) × (r .held ≤ 65536) ⌝ }
-{
-    let work = before.work;
-    let run = work.run;
-    if run.stopped {
-        return Reading {
-            work,
-            held: 0,
-            more: true,
-        };
-    }
-    let sums = work.sums;
-    let at = room(&*out, work.at);
-    let next = calls::bad(run, out, at);
-    let after = next.run;
-    let bad = Work {
-        run: after,
-        at: next.at,
-        sums,
-    };
-    Reading {
-        work: bad,
-        held: 0,
-        more: true,
-    }
 }
 
 // Reads once, behind what a text holds, and says where it then ends.
@@ -503,82 +314,76 @@ fn read_behind(text: &mut [u8], held: usize) -> usize
     held + io::count(got, &text[held..])
 }
 
-// Reads once, and takes the lines that are whole.
-fn take_piece(
-    before: Reading,
-    tabular: bool,
-    text: &mut [u8; 65536],
-    setups: &mut [u8; 2056],
-    midi: &mut [u8; 4096],
-    serial: &mut [u8; 4096],
-    device: &mut [u8; 64],
-    dynamic: &mut [u8],
-    sram: &mut [u8],
-    page: &mut [u8],
-    reply: &mut [u8],
-    config: &mut [u8],
-    receive: &mut [u8],
-    received: &mut [u32],
-    sending: &mut [u32],
-    bytes: &mut [u8; 8192],
-    out: &mut [u8; 65536],
-) -> Reading
-    requires { ⌜ (before .work .at ≤ 65536) × (before .held ≤ 65536) ⌝ }
-    ensures { λ r. ⌜ (r .work .at ≤ 65536) × (r .held ≤ 65536) ⌝ }
+// Reads once, behind a line that goes on; the last line is one that no line end follows. A line that fills the buffer goes on too far: it is bad.
+fn refill(text: &mut [u8; 65536], used: usize, held: usize) -> Place
+    requires { ⌜ (used ≤ held) × (held ≤ 65536) ⌝ }
+    ensures { λ r. ⌜ ((r .from ≤ r .end) × (r .end ≤ 65536)) × ((r .next ≤ r .held) × (r .held ≤ 65536)) ⌝ }
 {
-    let held = before.held;
-    if held == 65536 {
-        return too_long(before, out);
+    let left = shift(text, used, held);
+    if left == 65536 {
+        return Place {
+            from: 0,
+            end: left,
+            next: left,
+            held: left,
+            more: true,
+        };
     }
-    let end = read_behind(text, held);
-    if end == held {
-        return take_rest(
-            before,
-            tabular,
-            text,
-            setups,
-            midi,
-            serial,
-            device,
-            dynamic,
-            sram,
-            page,
-            reply,
-            config,
-            receive,
-            received,
-            sending,
-            bytes,
-            out,
-        );
+    let end = read_behind(text, left);
+    if end == left {
+        return Place {
+            from: 0,
+            end,
+            next: end,
+            held: end,
+            more: 0 < end,
+        };
     }
-    let taken = take_lines(
-        before.work,
-        tabular,
-        text,
-        end,
-        setups,
-        midi,
-        serial,
-        device,
-        dynamic,
-        sram,
-        page,
-        reply,
-        config,
-        receive,
-        received,
-        sending,
-        bytes,
-        out,
-    );
-    let left = shift(text, taken.used, end);
-    let work = taken.work;
-    Reading {
-        work,
-        held: left,
+    Place {
+        from: 0,
+        end: 0,
+        next: 0,
+        held: end,
         more: true,
     }
+}
+
+// The next line that is whole; the stores before it are taken. It is an empty one where the text is read on, or microframes are left.
+fn next_line(
+    before: Place,
+    left: u64,
+    live: bool,
+    memory: usize,
+    text: &mut [u8; 65536],
+    dynamic: &mut [u8; 1048576],
+    sram: &mut [u8; 65536],
+    page: &mut [u8; 4096],
+) -> Place
+    requires { ⌜ (before .next ≤ before .held) × (before .held ≤ 65536) ⌝ }
+    ensures { λ r. ⌜ ((r .from ≤ r .end) × (r .end ≤ 65536)) × ((r .next ≤ r .held) × (r .held ≤ 65536)) ⌝ }
+{
+    let held = before.held;
+    if left > 0 {
+        return Place {
+            from: 0,
+            end: 0,
+            next: before.next,
+            held,
+            more: true,
+        };
+    }
+    let next = pass_stores(live, &*text, before.next, held, memory, dynamic, sram, page);
+    let end = line_end(&*text, next, held);
+    if end < held {
+        return Place {
+            from: next,
+            end,
+            next: end + 1,
+            held,
+            more: true,
+        };
+    }
+    refill(text, next, held)
 }
 
 // The end of a table: the last run's row, the sums, and what stopped it.
@@ -597,9 +402,9 @@ fn end_table(work: Work, out: &mut [u8; 65536]) -> usize
     end
 }
 
-// Nothing is read yet, and nothing counted; a table begins with its heading, and its runs go on where a byte was dropped.
-fn start(tabular: bool, out: &mut [u8; 65536]) -> Reading
-    ensures { λ r. ⌜ (r .work .at ≤ 65536) × (r .held ≤ 65536) ⌝ }
+// Nothing is counted yet; a table begins with its heading, and its runs go on where a byte was dropped.
+fn start(tabular: bool, out: &mut [u8; 65536]) -> Work
+    ensures { λ r. ⌜ r .at ≤ 65536 ⌝ }
 {
     let run = calls::fresh(0, false, tabular, 0, 0, usbhost::no_settings());
     let sums = table::row_of(run);
@@ -607,12 +412,7 @@ fn start(tabular: bool, out: &mut [u8; 65536]) -> Reading
     if tabular {
         at = table::heading(out, 0);
     }
-    let work = Work { run, at, sums };
-    Reading {
-        work,
-        held: 0,
-        more: true,
-    }
+    Work { run, at, sums }
 }
 
 // Writes what is not written yet, and before that ends a table.
@@ -628,52 +428,6 @@ fn write_rest(tabular: bool, work: Work, out: &mut [u8; 65536])
 }
 
 // The whole script: its log, or the table of its runs.
-pub fn run_script(
-    tabular: bool,
-    text: &mut [u8; 65536],
-    setups: &mut [u8; 2056],
-    midi: &mut [u8; 4096],
-    serial: &mut [u8; 4096],
-    device: &mut [u8; 64],
-    dynamic: &mut [u8],
-    sram: &mut [u8],
-    page: &mut [u8],
-    reply: &mut [u8],
-    config: &mut [u8],
-    receive: &mut [u8],
-    received: &mut [u32],
-    sending: &mut [u32],
-    bytes: &mut [u8; 8192],
-    out: &mut [u8; 65536],
-) {
-    let mut reading = start(tabular, out);
-    let mut turns = u64::MAX;
-    while turns > 0 && reading.more {
-        reading = take_piece(
-            reading,
-            tabular,
-            text,
-            setups,
-            midi,
-            serial,
-            device,
-            dynamic,
-            sram,
-            page,
-            reply,
-            config,
-            receive,
-            received,
-            sending,
-            bytes,
-            out,
-        );
-        turns -= 1;
-    }
-    write_rest(tabular, reading.work, out);
-}
-
-// The whole script, in areas as large as a program's.
 pub fn run_areas(
     tabular: bool,
     text: &mut [u8; 65536],
@@ -692,22 +446,48 @@ pub fn run_areas(
     bytes: &mut [u8; 8192],
     out: &mut [u8; 65536],
 ) {
-    run_script(
-        tabular,
-        text,
-        setups,
-        midi,
-        serial,
-        device,
-        dynamic,
-        sram,
-        page,
-        reply,
-        config,
-        receive,
-        received,
-        sending,
-        bytes,
-        out,
-    );
+    let mut work = start(tabular, out);
+    let mut place = Place {
+        from: 0,
+        end: 0,
+        next: 0,
+        held: 0,
+        more: true,
+    };
+    let mut turns = u64::MAX;
+    while turns > 0 && place.more {
+        place = next_line(
+            place,
+            work.run.left,
+            work.run.live & !work.run.stopped,
+            work.run.length,
+            text,
+            dynamic,
+            sram,
+            page,
+        );
+        work = take_line(
+            work,
+            tabular,
+            &*text,
+            place.from,
+            place.end,
+            setups,
+            midi,
+            serial,
+            device,
+            dynamic,
+            sram,
+            page,
+            reply,
+            config,
+            receive,
+            received,
+            sending,
+            bytes,
+            out,
+        );
+        turns -= 1;
+    }
+    write_rest(tabular, work, out);
 }

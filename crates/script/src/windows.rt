@@ -129,7 +129,18 @@ fn show(
     end
 }
 
-// `w ADDR BYTES`: no answer, unless the line is bad.
+// `w ADDR BYTES`: whether the line is a good one; a bad one stores nothing.
+pub fn store_line(line: &[u8], dynamic: &mut [u8], sram: &mut [u8], page: &mut [u8]) -> bool {
+    let a = parse::read_word(line, 1);
+    let got = parse::find_bytes(line, a.next);
+    if a.good & got.good {
+        store(dynamic, sram, page, a.value, line, got.start, got.count);
+        return true;
+    }
+    false
+}
+
+// The same: no answer, unless the line is bad.
 pub fn write_line(
     line: &[u8],
     dynamic: &mut [u8],
@@ -141,10 +152,7 @@ pub fn write_line(
     requires { ⌜ at ≤ 40000 ⌝ }
     ensures { λ r. ⌜ r ≤ 65536 ⌝ }
 {
-    let a = parse::read_word(line, 1);
-    let got = parse::find_bytes(line, a.next);
-    if a.good & got.good {
-        store(dynamic, sram, page, a.value, line, got.start, got.count);
+    if store_line(line, dynamic, sram, page) {
         return at;
     }
     text::bad_line(out, at)

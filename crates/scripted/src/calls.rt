@@ -159,7 +159,7 @@ fn device_write(
     run: Run,
     line: &[u8],
     setups: &[u8; 2056],
-    page: &mut [u8],
+    page: &mut [u8; 4096],
     out: &mut [u8; 65536],
     at: usize,
 ) -> Next
@@ -197,33 +197,47 @@ fn reached(run: Run, out: &[u8; 65536], at: usize, end: usize) -> Next
     Next { run: next, at: end }
 }
 
-// `w`, `f` and `p`: lines through the windows; dynamic memory is as long as the run's.
+// `w`, `f` and `p`: lines through the windows, or a bad one.
 fn reach(
+    line: &[u8],
+    dynamic: &mut [u8],
+    sram: &mut [u8; 65536],
+    page: &mut [u8; 4096],
+    out: &mut [u8; 65536],
+    at: usize,
+) -> usize
+    requires { ⌜ at ≤ 40000 ⌝ }
+    ensures { λ r. ⌜ r ≤ 65536 ⌝ }
+{
+    let letter = parse::letter(line);
+    if letter == b'w' {
+        return windows::write_line(line, dynamic, sram, page, out, at);
+    }
+    if letter == b'f' {
+        return windows::fill_line(line, dynamic, sram, page, out, at);
+    }
+    if letter == b'p' {
+        return windows::look_line(line, &*dynamic, &*sram, &*page, out, at);
+    }
+    text::bad_line(out, at)
+}
+
+// The same of a run; dynamic memory is as long as the run's.
+fn reach_run(
     run: Run,
     line: &[u8],
     dynamic: &mut [u8],
-    sram: &mut [u8],
-    page: &mut [u8],
+    sram: &mut [u8; 65536],
+    page: &mut [u8; 4096],
     out: &mut [u8; 65536],
     at: usize,
 ) -> Next
     requires { ⌜ at ≤ 40000 ⌝ }
     ensures { λ r. ⌜ r .at ≤ 65536 ⌝ }
 {
-    let letter = parse::letter(line);
-    if letter == b'w' {
-        let end = windows::write_line(line, dynamic, sram, page, out, at);
-        return reached(run, out, at, end);
-    }
-    if letter == b'f' {
-        let end = windows::fill_line(line, dynamic, sram, page, out, at);
-        return reached(run, out, at, end);
-    }
-    if letter == b'p' {
-        let end = windows::look_line(line, dynamic, sram, page, out, at);
-        return reached(run, out, at, end);
-    }
-    bad(run, out, at)
+    let length = log::at_most(run.length, dynamic.len());
+    let end = reach(line, &mut dynamic[..length], sram, page, out, at);
+    reached(run, &*out, at, end)
 }
 
 // A line on memory, registers or the log, or a bad one.
@@ -231,9 +245,9 @@ pub fn access(
     run: Run,
     line: &[u8],
     setups: &[u8; 2056],
-    dynamic: &mut [u8],
-    sram: &mut [u8],
-    page: &mut [u8],
+    dynamic: &mut [u8; 1048576],
+    sram: &mut [u8; 65536],
+    page: &mut [u8; 4096],
     out: &mut [u8; 65536],
     at: usize,
 ) -> Next
@@ -245,13 +259,12 @@ pub fn access(
         return set_mode(run, line, out, at);
     }
     if letter == b'r' {
-        return device_read(run, line, setups, page, out, at);
+        return device_read(run, line, setups, &*page, out, at);
     }
     if letter == b'd' {
         return device_write(run, line, setups, page, out, at);
     }
-    let length = log::at_most(run.length, dynamic.len());
-    reach(run, line, &mut dynamic[..length], sram, page, out, at)
+    reach_run(run, line, dynamic, sram, page, out, at)
 }
 
 // The first `count` bytes of a buffer for the MIDI queue.
@@ -551,7 +564,7 @@ pub fn queue(
     midi: &mut [u8; 4096],
     serial: &mut [u8; 4096],
     received: &[u32],
-    sending: &mut [u32],
+    sending: &mut [u32; 576000],
     bytes: &mut [u8; 8192],
     out: &mut [u8; 65536],
     at: usize,

@@ -8,66 +8,45 @@ use crate::log;
 use crate::start;
 use crate::turns;
 use crate::turns::Turned;
+use record::State;
 use script::parse;
 use script::text;
-use script::windows;
 
-fn clear_words(words: &mut [u32]) {
-    let mut i = 0;
-    while i < words.len() {
-        words[i] = 0;
-        i += 1;
-    }
-}
-
-// Every area as it is at a run's start.
-fn clear_all(
+// Every area as it is at a run's start, where one starts.
+pub fn clear_all(
+    starts: bool,
     setups: &mut [u8; 2056],
     midi: &mut [u8; 4096],
     serial: &mut [u8; 4096],
     device: &mut [u8; 64],
-    dynamic: &mut [u8],
-    sram: &mut [u8],
-    page: &mut [u8],
-    reply: &mut [u8],
-    config: &mut [u8],
-    receive: &mut [u8],
-    received: &mut [u32],
-    sending: &mut [u32],
+    dynamic: &mut [u8; 1048576],
+    sram: &mut [u8; 65536],
+    page: &mut [u8; 4096],
+    reply: &mut [u8; 65535],
+    config: &mut [u8; 65535],
+    receive: &mut [u8; 196608],
+    received: &mut [u32; 576000],
+    sending: &mut [u32; 576000],
 ) {
-    windows::clear(setups);
-    windows::clear(midi);
-    windows::clear(serial);
-    windows::clear(device);
-    windows::clear(dynamic);
-    windows::clear(sram);
-    windows::clear(page);
-    windows::clear(reply);
-    windows::clear(config);
-    windows::clear(receive);
-    clear_words(received);
-    clear_words(sending);
+    if !starts {
+        return;
+    }
+    *setups = [0u8; 2056];
+    *midi = [0u8; 4096];
+    *serial = [0u8; 4096];
+    *device = [0u8; 64];
+    *dynamic = [0u8; 1048576];
+    *sram = [0u8; 65536];
+    *page = [0u8; 4096];
+    *reply = [0u8; 65535];
+    *config = [0u8; 65535];
+    *receive = [0u8; 196608];
+    *received = [0u32; 576000];
+    *sending = [0u32; 576000];
 }
 
-// `n ..`: a new run, whose areas are zeros; one with a longer dynamic memory than there is is passed over.
-fn new_run(
-    run: Run,
-    line: &[u8],
-    setups: &mut [u8; 2056],
-    midi: &mut [u8; 4096],
-    serial: &mut [u8; 4096],
-    device: &mut [u8; 64],
-    dynamic: &mut [u8],
-    sram: &mut [u8],
-    page: &mut [u8],
-    reply: &mut [u8],
-    config: &mut [u8],
-    receive: &mut [u8],
-    received: &mut [u32],
-    sending: &mut [u32],
-    out: &mut [u8; 65536],
-    at: usize,
-) -> Next
+// `n ..`: a new run, whose areas are to be cleared; one with a longer dynamic memory than 1 MiB is passed over.
+fn new_run(run: Run, line: &[u8], out: &mut [u8; 65536], at: usize) -> Next
     requires { ⌜ at ≤ 40000 ⌝ }
     ensures { λ r. ⌜ r .at ≤ 65536 ⌝ }
 {
@@ -78,25 +57,11 @@ fn new_run(
     if !started.good {
         return calls::bad(run, out, at);
     }
-    if dynamic.len() < length {
+    if 1048576 < length {
         let end = text::append(out, at, b"skipped\n");
         let next = calls::fresh(number, false, run.through, 0, 0, settings);
         return Next { run: next, at: end };
     }
-    clear_all(
-        setups,
-        midi,
-        serial,
-        device,
-        dynamic,
-        sram,
-        page,
-        reply,
-        config,
-        receive,
-        received,
-        sending,
-    );
     let end = text::single(out, at, b'n', number);
     let next = calls::fresh(number, true, run.through, length, started.space, settings);
     Next { run: next, at: end }
@@ -118,8 +83,16 @@ fn ask(run: Run, line: &[u8], out: &mut [u8; 65536], at: usize) -> Next
     calls::bad(run, out, at)
 }
 
+// Whether a line is `o` in a live run.
+pub fn is_look(live: bool, stopped: bool, line: &[u8]) -> bool {
+    if line.len() != 1 {
+        return false;
+    }
+    (line[0] == b'o') & (live & !stopped)
+}
+
 // `o`: everything that can be seen of a run.
-fn observe(
+pub fn observe(
     run: Run,
     setups: &[u8],
     midi: &[u8],
@@ -159,80 +132,6 @@ fn observe(
     text::put(out, end, b'\n')
 }
 
-// The answer to a line of a live run.
-fn call(
-    run: Run,
-    line: &[u8],
-    setups: &mut [u8; 2056],
-    midi: &mut [u8; 4096],
-    serial: &mut [u8; 4096],
-    device: &mut [u8; 64],
-    dynamic: &mut [u8],
-    sram: &mut [u8],
-    page: &mut [u8],
-    reply: &mut [u8],
-    config: &mut [u8],
-    receive: &mut [u8],
-    received: &mut [u32],
-    sending: &mut [u32],
-    bytes: &mut [u8; 8192],
-    out: &mut [u8; 65536],
-    at: usize,
-) -> Next
-    requires { ⌜ at ≤ 40000 ⌝ }
-    ensures { λ r. ⌜ r .at ≤ 65536 ⌝ }
-{
-    let letter = parse::letter(line);
-    if (letter == b'u') | (letter == b'U') {
-        return ask(run, line, out, at);
-    }
-    if (letter == b'o') & (line.len() == 1) {
-        let end = observe(
-            run,
-            &*setups,
-            &*midi,
-            &*serial,
-            &*device,
-            &*dynamic,
-            &*sram,
-            &*page,
-            &*reply,
-            &*config,
-            &*received,
-            &*sending,
-            out,
-            at,
-        );
-        return Next { run, at: end };
-    }
-    if calls::is_queue(letter) {
-        return calls::queue(
-            run,
-            line,
-            &*setups,
-            midi,
-            serial,
-            &*received,
-            sending,
-            bytes,
-            out,
-            at,
-        );
-    }
-    calls::access(run, line, &*setups, dynamic, sram, page, out, at)
-}
-
-// A line of a run that ended or of none: nothing, where it begins with one letter.
-fn pass_over(run: Run, letter: u8, out: &mut [u8; 65536], at: usize) -> Next
-    requires { ⌜ at ≤ 40000 ⌝ }
-    ensures { λ r. ⌜ r .at ≤ 65536 ⌝ }
-{
-    if (letter == 0) | (letter == b' ') {
-        return calls::bad(run, out, at);
-    }
-    Next { run, at }
-}
-
 // Whether a line asks for nothing: it is empty, a comment, or behind a bad one.
 fn is_quiet(stopped: bool, line: &[u8]) -> bool {
     if stopped {
@@ -241,29 +140,24 @@ fn is_quiet(stopped: bool, line: &[u8]) -> bool {
     if line.len() == 0 {
         return true;
     }
-    line[0] == b'#'
+    (line[0] == b'#') & (line.len() < 65536)
 }
 
-// The answer to a line.
-pub fn answer(
-    run: Run,
-    line: &[u8],
-    setups: &mut [u8; 2056],
-    midi: &mut [u8; 4096],
-    serial: &mut [u8; 4096],
-    device: &mut [u8; 64],
-    dynamic: &mut [u8],
-    sram: &mut [u8],
-    page: &mut [u8],
-    reply: &mut [u8],
-    config: &mut [u8],
-    receive: &mut [u8],
-    received: &mut [u32],
-    sending: &mut [u32],
-    bytes: &mut [u8; 8192],
-    out: &mut [u8; 65536],
-    at: usize,
-) -> Next
+// Whether a line touches no area: a new run, microframes, one that asks for nothing, or one of a run that ended or of none. A line of 65,536 bytes
+// is the start of one that the buffer does not hold.
+fn is_plain(live: bool, stopped: bool, line: &[u8]) -> bool {
+    if is_quiet(stopped, line) | (65536 <= line.len()) {
+        return true;
+    }
+    let letter = parse::letter(line);
+    match letter {
+        b'n' | b'u' | b'U' => true,
+        _ => !live,
+    }
+}
+
+// The answer to such a line.
+fn plain(run: Run, line: &[u8], out: &mut [u8; 65536], at: usize) -> Next
     requires { ⌜ at ≤ 40000 ⌝ }
     ensures { λ r. ⌜ r .at ≤ 65536 ⌝ }
 {
@@ -271,40 +165,47 @@ pub fn answer(
         return Next { run, at };
     }
     let letter = parse::letter(line);
+    if (letter == 0) | ((letter == b' ') | (65536 <= line.len())) {
+        return calls::bad(run, out, at);
+    }
     if letter == b'n' {
-        return new_run(
-            run,
-            line,
-            setups,
-            midi,
-            serial,
-            device,
-            dynamic,
-            sram,
-            page,
-            reply,
-            config,
-            receive,
-            received,
-            sending,
-            out,
-            at,
-        );
+        return new_run(run, line, out, at);
     }
     if run.live {
-        return call(
+        return ask(run, line, out, at);
+    }
+    Next { run, at }
+}
+
+// The answer to a line, but `o`.
+pub fn answer(
+    run: Run,
+    line: &[u8],
+    setups: &[u8; 2056],
+    midi: &mut [u8; 4096],
+    serial: &mut [u8; 4096],
+    dynamic: &mut [u8; 1048576],
+    sram: &mut [u8; 65536],
+    page: &mut [u8; 4096],
+    received: &[u32; 576000],
+    sending: &mut [u32; 576000],
+    bytes: &mut [u8; 8192],
+    out: &mut [u8; 65536],
+    at: usize,
+) -> Next
+    requires { ⌜ at ≤ 40000 ⌝ }
+    ensures { λ r. ⌜ r .at ≤ 65536 ⌝ }
+{
+    if is_plain(run.live, run.stopped, line) {
+        return plain(run, line, out, at);
+    }
+    if calls::is_queue(parse::letter(line)) {
+        return calls::queue(
             run,
             line,
             setups,
             midi,
             serial,
-            device,
-            dynamic,
-            sram,
-            page,
-            reply,
-            config,
-            receive,
             received,
             sending,
             bytes,
@@ -312,17 +213,16 @@ pub fn answer(
             at,
         );
     }
-    pass_over(run, letter, out, at)
+    calls::access(run, line, setups, dynamic, sram, page, out, at)
 }
 
 // The run behind its microframes.
-fn turned_run(run: Run, turned: Turned) -> Run {
-    let state = turned.state;
+fn turned_run(run: Run, state: State, turned: Turned, left: u64) -> Run {
     let all = turned.all;
     let mut next = run;
     next.state = state;
     next.all = all;
-    next.left = turned.left;
+    next.left = left;
     next.time = turned.time;
     next.refused = turned.refused;
     next.dropped = turned.dropped;
@@ -333,6 +233,18 @@ fn turned_run(run: Run, turned: Turned) -> Run {
     next
 }
 
+// Where a run's microframes start.
+fn turned_none(run: Run) -> Turned {
+    let all = run.all;
+    Turned {
+        all,
+        time: run.time,
+        refused: run.refused,
+        dropped: run.dropped,
+        live: run.live,
+    }
+}
+
 // The microframes that a run still asks for, or as many as the output's buffer has room for.
 pub fn go_on(
     run: Run,
@@ -341,44 +253,36 @@ pub fn go_on(
     serial: &mut [u8; 4096],
     device: &mut [u8; 64],
     dynamic: &mut [u8],
-    sram: &mut [u8],
-    page: &mut [u8],
-    reply: &mut [u8],
-    config: &mut [u8],
-    receive: &mut [u8],
-    received: &mut [u32],
+    sram: &mut [u8; 65536],
+    page: &mut [u8; 4096],
+    reply: &mut [u8; 65535],
+    config: &mut [u8; 65535],
+    receive: &mut [u8; 196608],
+    received: &mut [u32; 576000],
     sending: &[u32],
     out: &mut [u8; 65536],
-    at: usize,
+    from: usize,
 ) -> Next
-    requires { ⌜ at ≤ 40000 ⌝ }
+    requires { ⌜ from ≤ 65536 ⌝ }
     ensures { λ r. ⌜ r .at ≤ 65536 ⌝ }
 {
-    let state = run.state;
-    let all = run.all;
-    let before = Turned {
-        state,
-        all,
-        left: run.left,
-        time: run.time,
-        refused: run.refused,
-        dropped: run.dropped,
-        live: true,
-    };
-    let length = log::at_most(run.length, dynamic.len());
+    let memory = log::at_most(run.length, dynamic.len());
     let space = calls::ring_words(run.space, sending.len());
-    if run.mode == 0 {
-        let turned = turns::quiet(
-            before,
-            run.settings,
+    let settings = run.settings;
+    let mut state = run.state;
+    let mut turned = turned_none(run);
+    let mut left = run.left;
+    let mut at = from;
+    while left > 0 && at <= 40000 && turned.live {
+        let done = usbhost::run_microframe(
+            state,
+            settings,
             run.packer,
-            run.through,
-            run.step,
             setups,
             midi,
             serial,
             device,
-            &mut dynamic[..length],
+            &mut dynamic[..memory],
             sram,
             page,
             reply,
@@ -386,39 +290,39 @@ pub fn go_on(
             receive,
             received,
             &sending[..space],
+            turned.time,
         );
-        let next = turned_run(run, turned);
-        if next.live {
-            return Next { run: next, at };
+        state = done.state;
+        turned = turns::turned_once(
+            turned,
+            settings.cdc,
+            run.through,
+            run.step,
+            done.refusal,
+            state.answer,
+            &*receive,
+        );
+        left -= 1;
+        if (run.mode != 0) | !turned.live {
+            at = turns::show_turn(
+                turned.live,
+                state,
+                run.mode,
+                settings.cdc,
+                run.packer,
+                &dynamic[..memory],
+                &*sram,
+                &*page,
+                &*device,
+                &*config,
+                &*receive,
+                out,
+                at,
+            );
         }
-        let end = text::append(out, at, b"outside\n");
-        return Next { run: next, at: end };
     }
-    let shown = turns::loud(
-        before,
-        run.settings,
-        run.packer,
-        run.mode,
-        run.through,
-        run.step,
-        setups,
-        midi,
-        serial,
-        device,
-        &mut dynamic[..length],
-        sram,
-        page,
-        reply,
-        config,
-        receive,
-        received,
-        &sending[..space],
-        out,
-        at,
-    );
-    let turned = shown.turned;
     Next {
-        run: turned_run(run, turned),
-        at: shown.at,
+        run: turned_run(run, state, turned, left),
+        at,
     }
 }

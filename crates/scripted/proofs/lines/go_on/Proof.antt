@@ -1,164 +1,105 @@
--- `scripted::lines::go_on` meets its contract.
-use mathlib.Core.Path.{sym}
+-- The loop keeps the end inside the buffer and the length of dynamic memory; the microframes left are the measure.
+use mathlib.Core.Path.{_≡_, refl, sym}
+use Prim.Native.Nat.{_≤_}
+use lib.ListN.{length}
 use lib.Seq.{length-take-le}
 use borrow.Author.Needs.{needs}
+use borrow.Author.Tests.{leb-true}
 use native.Mathlib.Omega.{arith}
 use Rattle.scripted.proofs.lines.go_on.Statement.{statement}
 use Rattle.scripted.proofs.lines.go_on.Tie as tie
 
-at-most-requires : tie.Need-at-most-requires
+abbrev Inv-loop : tie.InvT-loop
+Inv-loop run setups₀ midi₀ serial₀ device₀ dynamic₀ sram₀ page₀ reply₀ config₀ receive₀ received₀ sending out₀ from memory space settings state₀ turned₀ left₀ at₀ setups midi serial device dynamic sram page reply config receive received out state turned left at =
+    (at ≤ 65536) × (length dynamic ≡ length dynamic₀)
+
+abbrev μ-loop : tie.MeasureT-loop
+μ-loop run setups₀ midi₀ serial₀ device₀ dynamic₀ sram₀ page₀ reply₀ config₀ receive₀ received₀ sending out₀ from memory space settings state₀ turned₀ left₀ at₀ setups midi serial device dynamic sram page reply config receive received out state turned left at =
+    left
+
+at-most-requires : tie.Need-at-most-requires Inv-loop μ-loop
 at-most-requires c κs = search needs
 
-ring-words-requires : tie.Need-ring-words-requires
+ring-words-requires : tie.Need-ring-words-requires Inv-loop μ-loop
 ring-words-requires c κs = search needs
 
-slice-relend-prefix-quiet : tie.Need-slice-relend-prefix-quiet
-slice-relend-prefix-quiet c = search needs
+turned-none-requires : tie.Need-turned-none-requires Inv-loop μ-loop
+turned-none-requires c κs = search needs
 
-slice-aggregate-quiet : tie.Need-slice-aggregate-quiet
-slice-aggregate-quiet c = sym (length-take-le _ _ (c .before .before .before .before .before .before .before .before .at-most .ensures))
+loop-holds : tie.Need-loop-holds Inv-loop μ-loop
+loop-holds c = search needs
 
-slice-aggregate-quiet-2 : tie.Need-slice-aggregate-quiet-2
-slice-aggregate-quiet-2 c = sym (length-take-le _ _ (c .before .before .before .before .before .before .before .before .before .before .before .before .before .before .ring-words .ensures))
+slice-relend-prefix-run-microframe : tie.Need-slice-relend-prefix-run-microframe Inv-loop μ-loop
+slice-relend-prefix-run-microframe c = search needs
 
-quiet-requires : tie.Need-quiet-requires
-quiet-requires c κs = search needs
+slice-aggregate-run-microframe : tie.Need-slice-aggregate-run-microframe Inv-loop μ-loop
+slice-aggregate-run-microframe c = sym (length-take-le _ _ (omega (arith, c .before .before .before .before .before .before .before .before .before .before .before .before .before .at-most .ensures, c .before .before .before .before .before .before .before .before .loop .inv .1)))
 
-turned-run-requires : tie.Need-turned-run-requires
+slice-aggregate-run-microframe-2 : tie.Need-slice-aggregate-run-microframe-2 Inv-loop μ-loop
+slice-aggregate-run-microframe-2 c = sym (length-take-le _ _ (c .before .before .before .before .before .before .before .before .before .before .before .before .before .before .before .before .before .before .before .ring-words .ensures))
+
+run-microframe-requires : tie.Need-run-microframe-requires Inv-loop μ-loop
+run-microframe-requires c κs = search needs
+
+turned-once-requires : tie.Need-turned-once-requires Inv-loop μ-loop
+turned-once-requires c κs = search needs
+
+sub-left : tie.Need-sub-left Inv-loop μ-loop
+sub-left c = omega (arith, c .before .before .before .before .before .before .before .before .before .before .before .before .before .before .before .before .before .before .before .before .before .loop-test .taken)
+
+slice-reshare-prefix-show-turn : tie.Need-slice-reshare-prefix-show-turn Inv-loop μ-loop
+slice-reshare-prefix-show-turn c = omega (arith, c .before .before .before .before .before .before .before .before .dynamic .given, c .before .before .before .before .before .before .before .before .before .before .before .before .before .before .before .before .before .before .before .before .before .before .before .before .before .before .before .before .before .before .at-most .ensures, c .before .before .before .before .before .before .before .before .before .before .before .before .before .before .before .before .before .before .before .before .before .before .before .before .before .loop .inv .1)
+
+slice-aggregate-show-turn : tie.Need-slice-aggregate-show-turn Inv-loop μ-loop
+slice-aggregate-show-turn c = sym (length-take-le _ _ (omega (arith, c .before .before .before .before .before .before .before .before .before .dynamic .given, c .before .before .before .before .before .before .before .before .before .before .before .before .before .before .before .before .before .before .before .before .before .before .before .before .before .before .before .before .before .before .before .at-most .ensures, c .before .before .before .before .before .before .before .before .before .before .before .before .before .before .before .before .before .before .before .before .before .before .before .before .before .before .loop .inv .1)))
+
+show-turn-requires : tie.Need-show-turn-requires Inv-loop μ-loop
+show-turn-requires c κs = leb-true (c .before .before .before .before .before .before .before .before .before .before .before .before .before .before .before .before .before .before .before .before .before .before .before .before .before .before .before .before .before .before .before .before .before .before .before .before .before .loop .at) 40000 (c .before .before .before .before .before .before .before .before .before .before .before .before .before .before .before .before .before .before .before .before .before .before .before .before .before .before .before .before .before .before .before .before .before .before .before .if1 .taken)
+
+loop-less : tie.Need-loop-less Inv-loop μ-loop
+loop-less c = omega (arith, c .before .before .before .before .before .before .before .before .before .before .before .before .before .before .before .before .before .before .before .before .before .before .before .before .before .before .before .before .before .before .before .before .before .before .before .before .before .loop-test .taken)
+
+loop-again : tie.Need-loop-again Inv-loop μ-loop
+loop-again c = (omega (arith, c .show-turn .ensures), omega (arith, c .before .before .before .before .before .before .before .before .before .before .before .before .before .before .before .before .before .before .before .before .before .dynamic .given, c .before .before .before .before .before .before .before .before .before .before .before .before .before .before .before .before .before .before .before .before .before .before .before .before .before .before .before .before .before .before .before .before .before .before .before .before .before .before .loop .inv .1))
+
+loop-less-2 : tie.Need-loop-less-2 Inv-loop μ-loop
+loop-less-2 c = omega (arith, c .before .before .before .before .before .before .before .before .before .before .before .before .before .before .before .before .before .before .before .before .before .before .before .before .loop-test .taken)
+
+loop-again-2 : tie.Need-loop-again-2 Inv-loop μ-loop
+loop-again-2 c = (c .before .before .before .before .before .before .before .before .before .before .before .before .before .before .before .before .before .before .before .before .before .before .before .before .before .loop .inv .0, omega (arith, c .before .before .before .before .before .before .before .before .dynamic .given, c .before .before .before .before .before .before .before .before .before .before .before .before .before .before .before .before .before .before .before .before .before .before .before .before .before .loop .inv .1))
+
+turned-run-requires : tie.Need-turned-run-requires Inv-loop μ-loop
 turned-run-requires c κs = search needs
 
-same-length : tie.Need-same-length
+same-length : tie.Need-same-length Inv-loop μ-loop
 same-length c = search needs
 
-same-length-2 : tie.Need-same-length-2
-same-length-2 c = omega (arith, c .before .before .before .before .before .before .before .before .before .before .before .before .before .sram .given)
-
-same-length-3 : tie.Need-same-length-3
-same-length-3 c = omega (arith, c .before .before .before .before .before .before .before .before .before .before .before .page .given)
-
-same-length-4 : tie.Need-same-length-4
-same-length-4 c = omega (arith, c .before .before .before .before .before .before .before .before .before .reply .given)
-
-same-length-5 : tie.Need-same-length-5
-same-length-5 c = omega (arith, c .before .before .before .before .before .before .before .config .given)
-
-same-length-6 : tie.Need-same-length-6
-same-length-6 c = omega (arith, c .before .before .before .before .before .receive .given)
-
-same-length-7 : tie.Need-same-length-7
-same-length-7 c = omega (arith, c .before .before .before .received .given)
-
-returns : tie.Need-returns
-returns c = omega (arith, c .before .before .before .before .before .before .before .before .before .before .before .before .before .before .before .before .before .before .before .before .before .before .before .before .before .before .before .before .before .before .before .before .before .before .before .before .before .before .before .before .before .before .before .pre)
-
-slice-aggregate-append : tie.Need-slice-aggregate-append
-slice-aggregate-append c = search needs
-
-append-requires : tie.Need-append-requires
-append-requires c κs = omega (arith, c .before .before .before .before .before .before .before .before .before .before .before .before .before .before .before .before .before .before .before .before .before .before .before .before .before .before .before .before .before .before .before .before .before .before .before .before .before .before .before .before .before .before .before .before .before .pre, slice-aggregate-append c)
-
-same-length-8 : tie.Need-same-length-8
-same-length-8 c = search needs
-
-same-length-9 : tie.Need-same-length-9
-same-length-9 c = omega (arith, c .before .before .before .before .before .before .before .before .before .before .before .before .before .before .before .before .sram .given)
-
-same-length-10 : tie.Need-same-length-10
-same-length-10 c = omega (arith, c .before .before .before .before .before .before .before .before .before .before .before .before .before .before .page .given)
-
-same-length-11 : tie.Need-same-length-11
-same-length-11 c = omega (arith, c .before .before .before .before .before .before .before .before .before .before .before .before .reply .given)
-
-same-length-12 : tie.Need-same-length-12
-same-length-12 c = omega (arith, c .before .before .before .before .before .before .before .before .before .before .config .given)
-
-same-length-13 : tie.Need-same-length-13
-same-length-13 c = omega (arith, c .before .before .before .before .before .before .before .before .receive .given)
-
-same-length-14 : tie.Need-same-length-14
-same-length-14 c = omega (arith, c .before .before .before .before .before .before .received .given)
-
-returns-2 : tie.Need-returns-2
-returns-2 c = omega (arith, c .append .ensures, append-requires (c .before) (c .append .lifetimes))
-
-slice-relend-prefix-loud : tie.Need-slice-relend-prefix-loud
-slice-relend-prefix-loud c = search needs
-
-slice-aggregate-loud : tie.Need-slice-aggregate-loud
-slice-aggregate-loud c = sym (length-take-le _ _ (c .before .before .before .before .before .before .before .before .at-most .ensures))
-
-slice-aggregate-loud-2 : tie.Need-slice-aggregate-loud-2
-slice-aggregate-loud-2 c = sym (length-take-le _ _ (c .before .before .before .before .before .before .before .before .before .before .before .before .before .before .ring-words .ensures))
-
-loud-requires : tie.Need-loud-requires
-loud-requires c κs = omega (arith, c .before .before .before .before .before .before .before .before .before .before .before .before .before .before .before .before .before .before .before .before .before .before .before .before .before .before .before .pre)
-
-turned-run-requires-2 : tie.Need-turned-run-requires-2
-turned-run-requires-2 c κs = search needs
-
-same-length-15 : tie.Need-same-length-15
-same-length-15 c = search needs
-
-same-length-16 : tie.Need-same-length-16
-same-length-16 c = omega (arith, c .before .before .before .before .before .before .before .before .before .before .before .before .before .sram2 .given)
-
-same-length-17 : tie.Need-same-length-17
-same-length-17 c = omega (arith, c .before .before .before .before .before .before .before .before .before .before .before .page2 .given)
-
-same-length-18 : tie.Need-same-length-18
-same-length-18 c = omega (arith, c .before .before .before .before .before .before .before .before .before .reply2 .given)
-
-same-length-19 : tie.Need-same-length-19
-same-length-19 c = omega (arith, c .before .before .before .before .before .before .before .config2 .given)
-
-same-length-20 : tie.Need-same-length-20
-same-length-20 c = omega (arith, c .before .before .before .before .before .receive2 .given)
-
-same-length-21 : tie.Need-same-length-21
-same-length-21 c = omega (arith, c .before .before .before .received2 .given)
-
-returns-3 : tie.Need-returns-3
-returns-3 c = omega (arith, c .before .before .before .before .before .before .before .before .before .before .before .before .before .before .before .before .loud .ensures)
+returns : tie.Need-returns Inv-loop μ-loop
+returns c = search needs
 
 pub go-on-spec : {M : Type 1} → statement M
 go-on-spec =
     tie.close
     (tie.spec
+    Inv-loop
+    μ-loop
     at-most-requires
     ring-words-requires
-    slice-relend-prefix-quiet
-    slice-aggregate-quiet
-    slice-aggregate-quiet-2
-    quiet-requires
+    turned-none-requires
+    loop-holds
+    slice-relend-prefix-run-microframe
+    slice-aggregate-run-microframe
+    slice-aggregate-run-microframe-2
+    run-microframe-requires
+    turned-once-requires
+    sub-left
+    slice-reshare-prefix-show-turn
+    slice-aggregate-show-turn
+    show-turn-requires
+    loop-less
+    loop-again
+    loop-less-2
+    loop-again-2
     turned-run-requires
     same-length
-    same-length-2
-    same-length-3
-    same-length-4
-    same-length-5
-    same-length-6
-    same-length-7
-    returns
-    slice-aggregate-append
-    append-requires
-    same-length-8
-    same-length-9
-    same-length-10
-    same-length-11
-    same-length-12
-    same-length-13
-    same-length-14
-    returns-2
-    slice-relend-prefix-loud
-    slice-aggregate-loud
-    slice-aggregate-loud-2
-    loud-requires
-    turned-run-requires-2
-    same-length-15
-    same-length-16
-    same-length-17
-    same-length-18
-    same-length-19
-    same-length-20
-    same-length-21
-    returns-3)
+    returns)
