@@ -57,32 +57,25 @@ pub fn midi_sent(
     adds: usize,
     next: Packer,
 ) -> Seen {
-    let state = r.state;
-    let packer = r.packer;
     let mut queue = [MARK; 4096];
-    let sent = usbhost::send_midi(state, r.spans, packer, bytes, setups, &mut queue);
-    let length = wrapping_add_usize(state.lengths.midi, adds);
-    let mut expected = state;
+    let sent = usbhost::send_midi(r.state, r.spans, r.packer, bytes, setups, &mut queue);
+    let length = wrapping_add_usize(r.state.lengths.midi, adds);
+    let mut expected = r.state;
     expected.lengths.midi = length;
-    let after = sent.state;
-    let left = sent.packer;
-    let right = same_packer(left, next) & queued_midi(&queue, length, adds);
-    judged(sent.refusal, number, after, expected, right)
+    let right = same_packer(sent.packer, next) & queued_midi(&queue, length, adds);
+    judged(sent.refusal, number, sent.state, expected, right)
 }
 
 // A serial send that queues `adds` bytes, the first of them A5.
 pub fn serial_sent(r: Trial, setups: &[u8; 2056], bytes: &[u8], number: u8, adds: usize) -> Seen {
-    let state = r.state;
-    let packer = r.packer;
     let mut queue = [MARK; 4096];
-    let sent = usbhost::send_serial(state, r.spans, packer, bytes, setups, &mut queue);
-    let held = state.lengths.serial;
+    let sent = usbhost::send_serial(r.state, r.spans, r.packer, bytes, setups, &mut queue);
+    let held = r.state.lengths.serial;
     let length = wrapping_add_usize(held, adds);
-    let mut expected = state;
+    let mut expected = r.state;
     expected.lengths.serial = length;
-    let after = sent.state;
     let queued = queued_serial(&queue, held, adds);
-    judged(sent.refusal, number, after, expected, queued)
+    judged(sent.refusal, number, sent.state, expected, queued)
 }
 
 // The state once a frame is given, where it is accepted.
@@ -108,19 +101,11 @@ pub fn given(
     number: u8,
     at: usize,
 ) -> Seen {
-    let state = r.state;
-    let packer = r.packer;
-    let done = usbhost::give_frame(state, r.spans, packer, frame, setups, sending);
+    let done = usbhost::give_frame(r.state, r.spans, r.packer, frame, setups, sending);
     let right = stands_alone(&*sending, at, frame, number);
     put_frame(sending, at, [WORD_MARK; 12]);
-    let after = done.state;
-    judged(
-        done.refusal,
-        number,
-        after,
-        with_frame(state, number),
-        right,
-    )
+    let expected = with_frame(r.state, number);
+    judged(done.refusal, number, done.state, expected, right)
 }
 
 // The state once a frame is taken, where one is.
@@ -144,20 +129,12 @@ fn frame_if(gives: bool) -> [u32; 12] {
 
 // A frame taken; `gives` says whether one must come.
 fn taken(r: Trial, setups: &[u8; 2056], received: &[u32], number: u8, gives: bool) -> Seen {
-    let state = r.state;
-    let packer = r.packer;
-    let done = usbhost::take_frame(state, r.spans, packer, setups, received);
-    let after = done.state;
-    let came = done.frame;
+    let done = usbhost::take_frame(r.state, r.spans, r.packer, setups, received);
     let empty = done.empty == ((number == 0) & !gives);
+    let came = done.frame;
     let right = empty & same_frame(came, frame_if(gives));
-    judged(
-        done.refusal,
-        number,
-        after,
-        without_frame(state, gives),
-        right,
-    )
+    let expected = without_frame(r.state, gives);
+    judged(done.refusal, number, done.state, expected, right)
 }
 
 // A frame taken from the first words of a ring.
@@ -189,8 +166,6 @@ fn marks(size: u32, number: u8) -> u32 {
 
 // A device read on the first bytes of a page.
 fn read_first(r: Trial, setups: &[u8; 2056], page: &[u8], a: Access) -> Value {
-    let state = r.state;
-    let packer = r.packer;
     let n = a.page;
     if page.len() < n {
         return Value {
@@ -198,7 +173,15 @@ fn read_first(r: Trial, setups: &[u8; 2056], page: &[u8], a: Access) -> Value {
             value: 0,
         };
     }
-    usbhost::read_device(state, r.spans, packer, setups, &page[..n], a.off, a.size)
+    usbhost::read_device(
+        r.state,
+        r.spans,
+        r.packer,
+        setups,
+        &page[..n],
+        a.off,
+        a.size,
+    )
 }
 
 // A device read on the first bytes of a page of marks.
@@ -215,15 +198,14 @@ fn read(r: Trial, setups: &[u8; 2056], a: Access) -> Seen {
 // A device write of 01020304 on the first bytes of a page.
 fn write_first(r: Trial, setups: &[u8; 2056], page: &mut [u8], a: Access) -> Stored {
     let state = r.state;
-    let packer = r.packer;
     let n = a.page;
     if page.len() < n {
         return Stored { refusal: 99, state };
     }
     usbhost::write_device(
-        state,
+        r.state,
         r.spans,
-        packer,
+        r.packer,
         setups,
         &mut page[..n],
         a.off,
@@ -236,11 +218,9 @@ fn write_first(r: Trial, setups: &[u8; 2056], page: &mut [u8], a: Access) -> Sto
 fn written(r: Trial, setups: &[u8; 2056], a: Access) -> Seen {
     let mut page = [MARK; 4097];
     let done = write_first(r, setups, &mut page, a);
-    let state = r.state;
-    let after = done.state;
     let size = where_accepted(a.number, a.size as usize);
     let right = stored(&page, a.off as usize, size);
-    judged(done.refusal, a.number, after, state, right)
+    judged(done.refusal, a.number, done.state, r.state, right)
 }
 
 // A device read and a device write at one place.
@@ -259,10 +239,9 @@ fn with_space(number: u8, held: usize, most: usize) -> u8 {
 
 // The calls that are lent no ring: F8, a serial byte, and a word read and written.
 pub fn four(r: Trial, setups: &[u8; 2056], number: u8) -> Seen {
-    let packer = r.packer;
     let midi = with_space(number, r.state.lengths.midi, 4092);
     let serial = with_space(number, r.state.lengths.serial, 4095);
-    let sent = midi_sent(r, setups, b"\xF8", midi, where_accepted(midi, 4), packer);
+    let sent = midi_sent(r, setups, b"\xF8", midi, where_accepted(midi, 4), r.packer);
     let byte = serial_sent(r, setups, b"\xA5", serial, where_accepted(serial, 1));
     let place = Access {
         page: 4096,

@@ -1,6 +1,7 @@
 // Runs each call on a host but the microframe at every limit of document 01's numbers of refusal, and one past it.
 mod access;
 mod calls;
+mod field;
 mod lists;
 mod numbers;
 mod rings;

@@ -131,14 +131,16 @@ fn give_first(r: Trial, ring: &mut [u32], words: usize, number: u8, at: usize) -
     given(r, &setups, &whole, &mut ring[..words], number, at)
 }
 
-fn give_tried(c: Case, ring: &mut [u32; 576_012]) -> Seen {
+fn give_tried(i: usize, ring: &mut [u32; 576_012]) -> Seen {
+    let c = sending_ring(i);
     let r = faulty(sending(c.start, c.held), c.faults);
     give_first(r, ring, c.words, c.number, c.at)
 }
 
 // Where the call is accepted a frame must come if the ring holds any.
-fn take_tried(c: Case, ring: &[u32; 576_012]) -> Seen {
+fn take_tried(i: usize, ring: &[u32; 576_012]) -> Seen {
     let setups = [0u8; 2056];
+    let c = received_ring(i);
     let r = faulty(receiving(c.start, c.held), c.faults);
     let gives = (c.number == 0) & (c.held != 0);
     taken_first(r, &setups, ring, c.words, c.number, gives)
@@ -166,18 +168,24 @@ fn frame_tried(i: usize) -> Seen {
     }
 }
 
+// A record with a bad sending ring, or a bad received ring.
+fn bad_ring(i: usize) -> Trial {
+    if i < 46 {
+        return sending(7, 8);
+    }
+    receiving(48_000, 48_001)
+}
+
 // A ring outside its bounds refuses no call that is not lent it.
 fn not_lent(i: usize, ring: &mut [u32; 576_012]) -> Seen {
     let setups = [0u8; 2056];
-    let sends = sending(7, 8);
-    let receives = receiving(48_000, 48_001);
+    let r = bad_ring(i);
     match i {
-        43 => four(sends, &setups, 0),
-        44 => taken_first(sends, &setups, &*ring, 576_000, 0, false),
-        45 => give_first(sends, ring, 84, 5, 0),
-        46 => four(receives, &setups, 0),
-        47 => give_first(receives, ring, 84, 0, 0),
-        _ => taken_first(receives, &setups, &*ring, 576_000, 5, false),
+        43 | 46 => four(r, &setups, 0),
+        44 => taken_first(r, &setups, &*ring, 576_000, 0, false),
+        45 => give_first(r, ring, 84, 5, 0),
+        47 => give_first(r, ring, 84, 0, 0),
+        _ => taken_first(r, &setups, &*ring, 576_000, 5, false),
     }
 }
 
@@ -185,8 +193,8 @@ pub fn tried(i: usize, ring: &mut [u32; 576_012]) -> Seen {
     match i {
         12..=16 => frame_tried(i),
         43..=48 => not_lent(i, ring),
-        17..=22 | 49..=56 | 62..=65 => take_tried(received_ring(i), &*ring),
-        _ => give_tried(sending_ring(i), ring),
+        17..=22 | 49..=56 | 62..=65 => take_tried(i, &*ring),
+        _ => give_tried(i, ring),
     }
 }
 

@@ -12,6 +12,7 @@ use crate::tally::print;
 use crate::tally::print_number;
 use crate::trial::Trial;
 use crate::trial::asking;
+use crate::trial::asking_if;
 use crate::trial::in_phase;
 use crate::trial::little_word;
 use crate::trial::usual;
@@ -24,10 +25,9 @@ const ADDRESS: [u8; 8] = [0, 5, 7, 0, 0, 0, 0, 0];
 
 const CONFIGURATION: [u8; 8] = [0x80, 6, 0, 2, 0, 0, 9, 0];
 
-// A queue of setups that are all alike but for those at two places, how many of them wait, the request that runs or none, and the number that
+// A queue of addresses but for what stands at two places, how many of them wait, the request that runs or none, and the number that
 // all this meets in enumeration.
 struct Case {
-    alike: [u8; 8],
     other: [u8; 8],
     first: usize,
     second: usize,
@@ -71,13 +71,12 @@ fn with_setup(queue: [u8; 2056], i: usize, setup: [u8; 8]) -> [u8; 2056] {
     next
 }
 
-// Addresses of which so many wait, another setup among them.
-fn queued(waits: usize, other: [u8; 8], place: usize, number: u8) -> Case {
+// Addresses of which so many wait.
+fn addresses(waits: usize, number: u8) -> Case {
     Case {
-        alike: ADDRESS,
-        other,
-        first: place,
-        second: place,
+        other: ADDRESS,
+        first: 0,
+        second: 0,
         waits,
         runs: false,
         request: ADDRESS,
@@ -85,32 +84,49 @@ fn queued(waits: usize, other: [u8; 8], place: usize, number: u8) -> Case {
     }
 }
 
-// Addresses of which so many wait, a configuration request at a place among them.
+// A configuration request at a place among them.
 fn asked(waits: usize, place: usize, number: u8) -> Case {
-    queued(waits, CONFIGURATION, place, number)
+    let mut next = addresses(waits, number);
+    next.other = CONFIGURATION;
+    next.first = place;
+    next.second = place;
+    next
 }
 
-// The same with two configuration requests.
+// The same at the first two places.
 fn asked_twice(waits: usize, number: u8) -> Case {
     let mut next = asked(waits, 0, number);
     next.second = 1;
     next
 }
 
-// A running request with setups that wait, the first of which is given.
-fn behind(request: [u8; 8], waits: usize, other: [u8; 8], number: u8) -> Case {
-    let mut next = queued(waits, other, 0, number);
-    next.runs = true;
-    next.request = request;
+// A setup of zeros behind 256.
+fn zeros(waits: usize, number: u8) -> Case {
+    let mut next = asked(waits, 256, number);
+    next.other = [0; 8];
     next
 }
 
-// How many wait; configuration requests, which must be the last of them; and requests that run.
-fn queue(i: usize) -> Case {
+// The same cases beside a request that runs: for a configuration, or an address.
+fn beside_configuration(c: Case) -> Case {
+    let mut next = c;
+    next.runs = true;
+    next.request = CONFIGURATION;
+    next
+}
+
+fn beside_address(c: Case) -> Case {
+    let mut next = c;
+    next.runs = true;
+    next
+}
+
+// How many wait; configuration requests, which must be the last of them; and what waits beside a request that runs.
+fn waiting_case(i: usize) -> Case {
     match i {
-        0 => queued(257, ADDRESS, 0, 0),
-        1 => queued(258, ADDRESS, 0, 5),
-        2 => queued(0xFFFF_FFFF_FFFF_FFFF, ADDRESS, 0, 5),
+        0 => addresses(257, 0),
+        1 => addresses(258, 5),
+        2 => addresses(0xFFFF_FFFF_FFFF_FFFF, 5),
         58 => asked(1, 0, 0),
         59 => asked(2, 0, 5),
         60 => asked(2, 1, 0),
@@ -119,15 +135,24 @@ fn queue(i: usize) -> Case {
         63 => asked(1, 1, 0),
         64 => asked(257, 256, 0),
         65 => asked(257, 255, 5),
-        66 => queued(257, [0; 8], 256, 5),
-        67 => queued(256, [0; 8], 256, 0),
-        68 => behind(CONFIGURATION, 0, ADDRESS, 0),
-        69 => behind(CONFIGURATION, 1, ADDRESS, 5),
-        70 => behind(CONFIGURATION, 257, ADDRESS, 5),
-        71 => behind(CONFIGURATION, 1, CONFIGURATION, 5),
-        72 => behind(ADDRESS, 1, ADDRESS, 0),
-        73 => behind(ADDRESS, 257, ADDRESS, 0),
-        _ => behind(ADDRESS, 1, CONFIGURATION, 0),
+        66 => zeros(257, 5),
+        67 => zeros(256, 0),
+        68 => addresses(0, 0),
+        69 => addresses(1, 5),
+        70 => addresses(257, 5),
+        71 => asked(1, 0, 5),
+        72 => addresses(1, 0),
+        73 => addresses(257, 0),
+        _ => asked(1, 0, 0),
+    }
+}
+
+fn queue(i: usize) -> Case {
+    let c = waiting_case(i);
+    match i {
+        68..=71 => beside_configuration(c),
+        72..=74 => beside_address(c),
+        _ => c,
     }
 }
 
@@ -142,66 +167,75 @@ fn phase(i: usize) -> Phase {
 }
 
 // Nothing, a setup that waits and a request that runs, in each of the five phases; the last two belong to enumeration alone.
-fn phase_tried(i: usize, ring: &[u32; 576_012]) -> Seen {
-    let setups = full_of(ADDRESS);
-    let r = match i / 5 {
-        0 => usual(3),
-        1 => waiting(usual(3), 1),
-        _ => asking(usual(3), ADDRESS),
-    };
+fn phase_case(i: usize) -> Case {
     let number = if (i < 5) | (i % 5 == 3) { 0 } else { 5 };
-    six(in_phase(r, phase(i % 5)), &setups, ring, number)
+    match i / 5 {
+        0 => addresses(0, number),
+        1 => addresses(1, number),
+        _ => beside_address(addresses(0, number)),
+    }
 }
 
 fn trial(c: Case) -> Trial {
     let request = c.request;
-    let r = waiting(usual(3), c.waits);
-    if c.runs { asking(r, request) } else { r }
+    asking_if(c.runs, waiting(usual(3), c.waits), request)
+}
+
+fn phase_tried(i: usize, ring: &[u32; 576_012]) -> Seen {
+    let setups = full_of(ADDRESS);
+    let c = phase_case(i);
+    six(in_phase(trial(c), phase(i % 5)), &setups, ring, c.number)
 }
 
 // All six calls on the record and its queue.
-fn queue_tried(c: Case, ring: &[u32; 576_012]) -> Seen {
-    let alike = c.alike;
+fn queue_tried(i: usize, ring: &[u32; 576_012]) -> Seen {
+    let c = queue(i);
     let other = c.other;
-    let once = with_setup(full_of(alike), c.first, other);
+    let once = with_setup(full_of(ADDRESS), c.first, other);
     let setups = with_setup(once, c.second, other);
     six(trial(c), &setups, ring, c.number)
 }
 
-fn right(setup: [u8; 8]) -> Alone {
-    Alone { setup, number: 0 }
+fn right(b0: u8, b1: u8, b2: u8, b3: u8, b4: u8, b5: u8, b6: u8, b7: u8) -> Alone {
+    Alone {
+        setup: [b0, b1, b2, b3, b4, b5, b6, b7],
+        number: 0,
+    }
 }
 
-fn wrong(setup: [u8; 8]) -> Alone {
-    Alone { setup, number: 5 }
+fn wrong(b0: u8, b1: u8, b2: u8, b3: u8, b4: u8, b5: u8, b6: u8, b7: u8) -> Alone {
+    Alone {
+        setup: [b0, b1, b2, b3, b4, b5, b6, b7],
+        number: 5,
+    }
 }
 
 // Descriptors, addresses and set configurations.
 fn form(i: usize) -> Alone {
     match i {
-        18 => right([0x80, 6, 0, 1, 0, 0, 64, 0]),
-        19 => wrong([0x80, 6, 0, 1, 0, 0, 63, 0]),
-        20 => wrong([0x80, 6, 0, 1, 0, 0, 65, 0]),
-        21 => right([0x80, 6, 0, 1, 0, 0, 18, 0]),
-        22 => wrong([0x80, 6, 0, 1, 0, 0, 17, 0]),
-        23 => wrong([0x80, 6, 0, 1, 0, 0, 19, 0]),
-        24 => wrong([0x80, 6, 0, 1, 0, 0, 64, 1]),
-        25 => wrong([0x80, 6, 0, 0, 0, 0, 64, 0]),
-        26 => right([0x80, 6, 0, 2, 0, 0, 64, 0]),
-        27 => wrong([0x80, 6, 0, 3, 0, 0, 64, 0]),
-        28 => wrong([0x80, 6, 1, 1, 0, 0, 64, 0]),
-        29 => wrong([0x80, 6, 0, 1, 9, 0, 64, 0]),
-        30 => wrong([0x80, 6, 0, 1, 0, 4, 64, 0]),
-        31 => right([0, 5, 7, 0, 0, 0, 0, 0]),
-        32 => wrong([0, 5, 6, 0, 0, 0, 0, 0]),
-        33 => wrong([0, 5, 8, 0, 0, 0, 0, 0]),
-        34 => wrong([0, 5, 7, 1, 0, 0, 0, 0]),
-        35 => wrong([0, 5, 7, 0, 0, 0, 1, 0]),
-        36 => right([0, 9, 1, 0, 0, 0, 0, 0]),
-        37 => wrong([0, 9, 0, 0, 0, 0, 0, 0]),
-        38 => wrong([0, 9, 2, 0, 0, 0, 0, 0]),
-        39 => wrong([0, 9, 1, 1, 0, 0, 0, 0]),
-        40 => wrong([0, 9, 1, 0, 1, 0, 0, 0]),
+        18 => right(0x80, 6, 0, 1, 0, 0, 64, 0),
+        19 => wrong(0x80, 6, 0, 1, 0, 0, 63, 0),
+        20 => wrong(0x80, 6, 0, 1, 0, 0, 65, 0),
+        21 => right(0x80, 6, 0, 1, 0, 0, 18, 0),
+        22 => wrong(0x80, 6, 0, 1, 0, 0, 17, 0),
+        23 => wrong(0x80, 6, 0, 1, 0, 0, 19, 0),
+        24 => wrong(0x80, 6, 0, 1, 0, 0, 64, 1),
+        25 => wrong(0x80, 6, 0, 0, 0, 0, 64, 0),
+        26 => right(0x80, 6, 0, 2, 0, 0, 64, 0),
+        27 => wrong(0x80, 6, 0, 3, 0, 0, 64, 0),
+        28 => wrong(0x80, 6, 1, 1, 0, 0, 64, 0),
+        29 => wrong(0x80, 6, 0, 1, 9, 0, 64, 0),
+        30 => wrong(0x80, 6, 0, 1, 0, 4, 64, 0),
+        31 => right(0, 5, 7, 0, 0, 0, 0, 0),
+        32 => wrong(0, 5, 6, 0, 0, 0, 0, 0),
+        33 => wrong(0, 5, 8, 0, 0, 0, 0, 0),
+        34 => wrong(0, 5, 7, 1, 0, 0, 0, 0),
+        35 => wrong(0, 5, 7, 0, 0, 0, 1, 0),
+        36 => right(0, 9, 1, 0, 0, 0, 0, 0),
+        37 => wrong(0, 9, 0, 0, 0, 0, 0, 0),
+        38 => wrong(0, 9, 2, 0, 0, 0, 0, 0),
+        39 => wrong(0, 9, 1, 1, 0, 0, 0, 0),
+        40 => wrong(0, 9, 1, 0, 1, 0, 0, 0),
         _ => later_form(i),
     }
 }
@@ -209,33 +243,33 @@ fn form(i: usize) -> Alone {
 // Configurations, interfaces and a setup of zeros.
 fn later_form(i: usize) -> Alone {
     match i {
-        41 => right([0x80, 6, 0, 2, 0, 0, 0, 0]),
-        42 => right([0x80, 6, 0, 2, 0, 0, 9, 0]),
-        43 => right([0x80, 6, 0, 2, 0, 0, 255, 0]),
-        44 => right([0x80, 6, 0, 2, 0, 0, 255, 255]),
-        45 => wrong([0x80, 6, 1, 2, 0, 0, 9, 0]),
-        46 => wrong([0x80, 6, 0, 2, 1, 0, 9, 0]),
-        47 => wrong([0x80, 6, 0, 2, 0, 1, 9, 0]),
-        48 => right([1, 11, 1, 0, 0, 0, 0, 0]),
-        49 => right([1, 11, 255, 0, 0, 0, 0, 0]),
-        50 => wrong([1, 11, 0, 0, 0, 0, 0, 0]),
-        51 => wrong([1, 11, 0, 1, 0, 0, 0, 0]),
-        52 => wrong([1, 11, 1, 1, 0, 0, 0, 0]),
-        53 => right([1, 11, 1, 0, 255, 0, 0, 0]),
-        54 => wrong([1, 11, 1, 0, 0, 1, 0, 0]),
-        55 => wrong([1, 11, 1, 0, 0, 0, 1, 0]),
-        56 => wrong([1, 11, 1, 0, 0, 0, 0, 1]),
-        _ => wrong([0, 0, 0, 0, 0, 0, 0, 0]),
+        41 => right(0x80, 6, 0, 2, 0, 0, 0, 0),
+        42 => right(0x80, 6, 0, 2, 0, 0, 9, 0),
+        43 => right(0x80, 6, 0, 2, 0, 0, 255, 0),
+        44 => right(0x80, 6, 0, 2, 0, 0, 255, 255),
+        45 => wrong(0x80, 6, 1, 2, 0, 0, 9, 0),
+        46 => wrong(0x80, 6, 0, 2, 1, 0, 9, 0),
+        47 => wrong(0x80, 6, 0, 2, 0, 1, 9, 0),
+        48 => right(1, 11, 1, 0, 0, 0, 0, 0),
+        49 => right(1, 11, 255, 0, 0, 0, 0, 0),
+        50 => wrong(1, 11, 0, 0, 0, 0, 0, 0),
+        51 => wrong(1, 11, 0, 1, 0, 0, 0, 0),
+        52 => wrong(1, 11, 1, 1, 0, 0, 0, 0),
+        53 => right(1, 11, 1, 0, 255, 0, 0, 0),
+        54 => wrong(1, 11, 1, 0, 0, 1, 0, 0),
+        55 => wrong(1, 11, 1, 0, 0, 0, 1, 0),
+        56 => wrong(1, 11, 1, 0, 0, 0, 0, 1),
+        _ => wrong(0, 0, 0, 0, 0, 0, 0, 0),
     }
 }
 
 // All six calls where the setup waits alone, and where it runs alone.
-fn form_tried(f: Alone, ring: &[u32; 576_012]) -> Seen {
-    let r = usual(3);
+fn form_tried(i: usize, ring: &[u32; 576_012]) -> Seen {
+    let f = form(i);
     let setup = f.setup;
     let setups = with_setup([0u8; 2056], 0, setup);
-    let waits = six(waiting(r, 1), &setups, ring, f.number);
-    let runs = six(asking(r, setup), &setups, ring, f.number);
+    let waits = six(waiting(usual(3), 1), &setups, ring, f.number);
+    let runs = six(asking(usual(3), setup), &setups, ring, f.number);
     both(waits, runs)
 }
 
@@ -392,8 +426,9 @@ fn packer(i: usize) -> Holding {
 }
 
 // All six calls on a record with the packer.
-fn packer_tried(h: Holding, ring: &[u32; 576_012]) -> Seen {
+fn packer_tried(i: usize, ring: &[u32; 576_012]) -> Seen {
     let setups = [0u8; 2056];
+    let h = packer(i);
     let packer = Packer {
         status: h.status,
         first: 0x3C,
@@ -409,9 +444,9 @@ fn packer_tried(h: Holding, ring: &[u32; 576_012]) -> Seen {
 pub fn tried(i: usize, ring: &[u32; 576_012]) -> Seen {
     match i {
         3..=17 => phase_tried(i - 3, ring),
-        18..=57 => form_tried(form(i), ring),
-        75..=129 => packer_tried(packer(i - 75), ring),
-        _ => queue_tried(queue(i), ring),
+        18..=57 => form_tried(i, ring),
+        75..=129 => packer_tried(i - 75, ring),
+        _ => queue_tried(i, ring),
     }
 }
 

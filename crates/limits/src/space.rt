@@ -2,12 +2,12 @@
 use crate::calls::midi_sent;
 use crate::calls::serial_sent;
 use crate::calls::where_accepted;
+use crate::field;
 use crate::lists::List;
 use crate::lists::cases;
 use crate::tally::Seen;
 use crate::tally::Tally;
 use crate::tally::one;
-use crate::trial::Field;
 use crate::trial::Trial;
 use crate::trial::faulty;
 use crate::trial::usual;
@@ -148,7 +148,7 @@ fn midi_tried(m: MidiSend) -> Seen {
     message[1] = begins[1];
     message[2] = begins[2];
     message[3] = begins[3];
-    let r = with(usual(3), Field::Midi, m.queued);
+    let r = with(usual(3), field::MIDI, m.queued);
     midi_first(faulty(r, m.faults), &message, m)
 }
 
@@ -165,7 +165,7 @@ fn serial_first(r: Trial, message: &[u8], s: SerialSend) -> Seen {
 
 fn serial_tried(s: SerialSend) -> Seen {
     let message = [0xA5u8; 4097];
-    let r = with(usual(3), Field::Serial, s.queued);
+    let r = with(usual(3), field::SERIAL, s.queued);
     serial_first(faulty(r, s.faults), &message, s)
 }
 

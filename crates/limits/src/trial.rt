@@ -1,4 +1,5 @@
 // A record to try the calls on, and each number in it that a limit bounds.
+use crate::field;
 use gptimers::Timer;
 use gptimers::Timers;
 use midi::Packer;
@@ -12,42 +13,6 @@ pub struct Trial {
     pub state: State,
     pub spans: usize,
     pub packer: Packer,
-}
-
-// A number in the record; `Counts` is both counts of microframes, `Block` sets the channels that match too, and the timers are set or not.
-pub enum Field {
-    Spans,
-    Midi,
-    Serial,
-    Device,
-    Config,
-    Counts,
-    HostCount,
-    StatsCount,
-    PhaseStart,
-    Credit,
-    Counter,
-    Budget,
-    Block,
-    Channels,
-    RequestStart,
-    Reply,
-    Zero,
-    One,
-    UnsetZero,
-    UnsetOne,
-    InTransfers,
-    OutTransfers,
-    InFrames,
-    OutFrames,
-    BadBlocks,
-    MidiDtds,
-    MidiAsleep,
-    OutUnderruns,
-    MidiPacketsOut,
-    VendorInBytes,
-    Restarts,
-    Enumerations,
 }
 
 // A record after `n` microframes that nothing else has happened to.
@@ -92,6 +57,11 @@ pub fn asking(r: Trial, setup: [u8; 8]) -> Trial {
     next.state.control.first = first;
     next.state.control.second = second;
     next
+}
+
+// The same where it runs.
+pub fn asking_if(runs: bool, r: Trial, setup: [u8; 8]) -> Trial {
+    if runs { asking(r, setup) } else { r }
 }
 
 // The record in enumeration, with setups that wait.
@@ -141,47 +111,47 @@ fn channels(block: u32) -> u32 {
     (block - 32) / 28
 }
 
-fn with_counter(s: Stats, f: Field, v: u64) -> Stats {
+fn with_counter(s: Stats, f: u8, v: u64) -> Stats {
     let mut next = s;
     match f {
-        Field::StatsCount => next.microframes = v,
-        Field::InTransfers => next.in_transfers = v,
-        Field::OutTransfers => next.out_transfers = v,
-        Field::InFrames => next.in_frames = v,
-        Field::OutFrames => next.out_frames = v,
-        Field::BadBlocks => next.bad_blocks = v,
-        Field::MidiDtds => next.midi_dtds = v,
-        Field::MidiAsleep => next.midi_asleep = v,
-        Field::OutUnderruns => next.out_underruns = v,
-        Field::MidiPacketsOut => next.midi_packets_out = v,
-        Field::VendorInBytes => next.vendor_in_bytes = v,
-        Field::Restarts => next.restarts = v,
-        Field::Enumerations => next.enumerations = v,
+        field::STATS_COUNT => next.microframes = v,
+        field::IN_TRANSFERS => next.in_transfers = v,
+        field::OUT_TRANSFERS => next.out_transfers = v,
+        field::IN_FRAMES => next.in_frames = v,
+        field::OUT_FRAMES => next.out_frames = v,
+        field::BAD_BLOCKS => next.bad_blocks = v,
+        field::MIDI_DTDS => next.midi_dtds = v,
+        field::MIDI_ASLEEP => next.midi_asleep = v,
+        field::OUT_UNDERRUNS => next.out_underruns = v,
+        field::MIDI_PACKETS_OUT => next.midi_packets_out = v,
+        field::VENDOR_IN_BYTES => next.vendor_in_bytes = v,
+        field::RESTARTS => next.restarts = v,
+        field::ENUMERATIONS => next.enumerations = v,
         _ => {}
     }
     next
 }
 
-fn with_audio(a: Audio, f: Field, v: u64) -> Audio {
+fn with_audio(a: Audio, f: u8, v: u64) -> Audio {
     let mut next = a;
     let word = low(v);
     let half = (v % 0x1_0000) as u16;
     let matching = channels(word);
     match f {
-        Field::Credit => next.credit = v,
-        Field::Counter => next.counter = half,
-        Field::Budget => next.budget = v,
-        Field::Block => {
+        field::CREDIT => next.credit = v,
+        field::STREAM_COUNTER => next.counter = half,
+        field::BUDGET => next.budget = v,
+        field::BLOCK => {
             next.block = word;
             next.channels = matching;
         }
-        Field::Channels => next.channels = word,
+        field::CHANNELS => next.channels = word,
         _ => {}
     }
     next
 }
 
-fn with_timer(ts: Timers, f: Field, v: u64) -> Timers {
+fn with_timer(ts: Timers, f: u8, v: u64) -> Timers {
     let mut next = ts;
     let set = Timer {
         set: true,
@@ -192,28 +162,28 @@ fn with_timer(ts: Timers, f: Field, v: u64) -> Timers {
         count: v,
     };
     match f {
-        Field::Zero => next.zero = set,
-        Field::One => next.one = set,
-        Field::UnsetZero => next.zero = unset,
-        Field::UnsetOne => next.one = unset,
+        field::TIMER_ZERO => next.zero = set,
+        field::TIMER_ONE => next.one = set,
+        field::UNSET_ZERO => next.zero = unset,
+        field::UNSET_ONE => next.one = unset,
         _ => {}
     }
     next
 }
 
 // The state with one number changed, but for those above.
-fn with_number(s: State, f: Field, v: u64) -> State {
+fn with_number(s: State, f: u8, v: u64) -> State {
     let mut next = s;
     match f {
-        Field::Midi => next.lengths.midi = v as usize,
-        Field::Serial => next.lengths.serial = v as usize,
-        Field::Device => next.lengths.device = v as usize,
-        Field::Config => next.lengths.config = v as usize,
-        Field::Reply => next.control.got = v as usize,
-        Field::RequestStart => next.control.t0 = v,
-        Field::PhaseStart => next.port.t = v,
-        Field::HostCount => next.port.uf = v,
-        Field::Counts => {
+        field::MIDI => next.lengths.midi = v as usize,
+        field::SERIAL => next.lengths.serial = v as usize,
+        field::DEVICE => next.lengths.device = v as usize,
+        field::CONFIG => next.lengths.config = v as usize,
+        field::REPLY => next.control.got = v as usize,
+        field::REQUEST_START => next.control.t0 = v,
+        field::PHASE_START => next.port.t = v,
+        field::HOST_COUNT => next.port.uf = v,
+        field::COUNTS => {
             next.port.uf = v;
             next.stats.microframes = v;
         }
@@ -223,7 +193,7 @@ fn with_number(s: State, f: Field, v: u64) -> State {
 }
 
 // The record with one number changed.
-pub fn with(r: Trial, f: Field, v: u64) -> Trial {
+pub fn with(r: Trial, f: u8, v: u64) -> Trial {
     let state = r.state;
     let audio = with_audio(state.audio, f, v);
     let timers = with_timer(state.timers, f, v);
@@ -234,7 +204,7 @@ pub fn with(r: Trial, f: Field, v: u64) -> Trial {
     changed.stats = stats;
     let mut next = with_state(r, with_number(changed, f, v));
     match f {
-        Field::Spans => next.spans = v as usize,
+        field::SPANS => next.spans = v as usize,
         _ => {}
     }
     next

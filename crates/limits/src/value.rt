@@ -60,8 +60,7 @@ fn midi(h: Host, bytes: &[u8], number: u8, adds: usize) -> Seen {
     let length = wrapping_add_usize(expected.lengths.midi, adds);
     expected.lengths.midi = length;
     let sent = h.midi_send(bytes);
-    let host = sent.host;
-    judged(sent.refusal, number, host.state(), expected, true)
+    judged(sent.refusal, number, sent.host.state(), expected, true)
 }
 
 // A serial send that queues `adds` bytes.
@@ -70,8 +69,7 @@ fn serial(h: Host, bytes: &[u8], number: u8, adds: usize) -> Seen {
     let length = wrapping_add_usize(expected.lengths.serial, adds);
     expected.lengths.serial = length;
     let sent = h.serial_send(bytes);
-    let host = sent.host;
-    judged(sent.refusal, number, host.state(), expected, true)
+    judged(sent.refusal, number, sent.host.state(), expected, true)
 }
 
 // A host whose MIDI queue is full.
@@ -124,9 +122,8 @@ fn give(h: Host, ring: &mut [u32; 84], before: usize) -> Seen {
     let words = if before < 7 { 12 * before + 12 } else { 84 };
     let expected = with_frame(h.state(), number);
     let sent = h.frame_give(&whole, ring);
-    let host = sent.host;
     let right = changed_words(&*ring) == words;
-    judged(sent.refusal, number, host.state(), expected, right)
+    judged(sent.refusal, number, sent.host.state(), expected, right)
 }
 
 fn give_tried(before: usize) -> Seen {
@@ -139,20 +136,18 @@ fn give_tried(before: usize) -> Seen {
 fn take(received: &[u32], number: u8) -> Seen {
     let h = host(16);
     let done = h.frame_take(received);
-    let after = done.host;
     let came = done.frame;
     let right = (done.empty == (number == 0)) & same_frame(came, [0u32; 12]);
-    judged(done.refusal, number, after.state(), h.state(), right)
+    judged(done.refusal, number, done.host.state(), h.state(), right)
 }
 
 // A device read of a new host.
 fn read(page: &[u8], off: u32, number: u8) -> Seen {
     let h = host(16);
     let done = h.device_read(page, off, 4);
-    let after = done.host;
     let value = if number == 0 { 0xEEEE_EEEE } else { 0 };
     let right = done.value == value;
-    judged(done.refusal, number, after.state(), h.state(), right)
+    judged(done.refusal, number, done.host.state(), h.state(), right)
 }
 
 // A device write on the first bytes of a page.
@@ -171,10 +166,9 @@ fn write(length: usize, off: u32, number: u8) -> Seen {
     let h = host(16);
     let mut page = [MARK; 4097];
     let done = write_first(h, &mut page, length, off);
-    let after = done.host;
     let size = where_accepted(number, 4);
     let right = stored(&page, off as usize, size);
-    judged(done.refusal, number, after.state(), h.state(), right)
+    judged(done.refusal, number, done.host.state(), h.state(), right)
 }
 
 // A frame taken from the first words of a ring.
