@@ -294,26 +294,6 @@ fn midi_queue(
     stored(next, sent.state, sent.refusal, out, at)
 }
 
-// `m BYTES`: a MIDI send.
-fn midi_send(
-    run: Run,
-    line: &[u8],
-    setups: &[u8; 2056],
-    midi: &mut [u8; 4096],
-    bytes: &mut [u8; 8192],
-    out: &mut [u8; 65536],
-    at: usize,
-) -> Next
-    requires { ⌜ at ≤ 40000 ⌝ }
-    ensures { λ r. ⌜ r .at ≤ 65536 ⌝ }
-{
-    let got = parse::read_bytes(line, 1, bytes);
-    if got.good {
-        return midi_queue(run, &*bytes, got.count, setups, midi, out, at);
-    }
-    bad(run, out, at)
-}
-
 // The first `count` bytes of a buffer for the serial queue.
 fn serial_queue(
     run: Run,
@@ -338,11 +318,12 @@ fn serial_queue(
     stored(run, sent.state, sent.refusal, out, at)
 }
 
-// `s BYTES`: a serial send.
-fn serial_send(
+// `m BYTES` and `s BYTES`: a MIDI or a serial send.
+fn send(
     run: Run,
     line: &[u8],
     setups: &[u8; 2056],
+    midi: &mut [u8; 4096],
     serial: &mut [u8; 4096],
     bytes: &mut [u8; 8192],
     out: &mut [u8; 65536],
@@ -352,10 +333,13 @@ fn serial_send(
     ensures { λ r. ⌜ r .at ≤ 65536 ⌝ }
 {
     let got = parse::read_bytes(line, 1, bytes);
-    if got.good {
-        return serial_queue(run, &*bytes, got.count, setups, serial, out, at);
+    if !got.good {
+        return bad(run, out, at);
     }
-    bad(run, out, at)
+    if parse::letter(line) == b'm' {
+        return midi_queue(run, &*bytes, got.count, setups, midi, out, at);
+    }
+    serial_queue(run, &*bytes, got.count, setups, serial, out, at)
 }
 
 // Twelve words at the end of a line, and whether they stand there.
@@ -573,11 +557,8 @@ pub fn queue(
     ensures { λ r. ⌜ r .at ≤ 65536 ⌝ }
 {
     let letter = parse::letter(line);
-    if letter == b'm' {
-        return midi_send(run, line, setups, midi, bytes, out, at);
-    }
-    if letter == b's' {
-        return serial_send(run, line, setups, serial, bytes, out, at);
+    if (letter == b'm') | (letter == b's') {
+        return send(run, line, setups, midi, serial, bytes, out, at);
     }
     if letter == b'g' {
         return frame_give(run, line, setups, sending, out, at);

@@ -6,6 +6,7 @@ use crate::calls::Next;
 use crate::calls::Run;
 use crate::log;
 use crate::start;
+use crate::start::Start;
 use crate::turns;
 use crate::turns::Turned;
 use record::State;
@@ -45,26 +46,42 @@ pub fn clear_all(
     *sending = [0u32; 576000];
 }
 
-// `n ..`: a new run, whose areas are to be cleared; one with a longer dynamic memory than 1 MiB is passed over.
+// The answer to a line that starts a run, or passes over it.
+fn show_start(live: bool, number: u64, out: &mut [u8; 65536], at: usize) -> usize
+    requires { ⌜ at ≤ 40000 ⌝ }
+    ensures { λ r. ⌜ r ≤ 65536 ⌝ }
+{
+    if live {
+        return text::single(out, at, b'n', number);
+    }
+    text::append(out, at, b"skipped\n")
+}
+
+// The run of a good line; one with a longer dynamic memory than 1 MiB is passed over.
+fn started_run(number: u64, through: bool, started: Start) -> Run {
+    let settings = started.settings;
+    let length = started.length;
+    if 1048576 < length {
+        return calls::fresh(number, false, through, 0, 0, settings);
+    }
+    calls::fresh(number, true, through, length, started.space, settings)
+}
+
+// `n ..`: a new run, whose areas are to be cleared.
 fn new_run(run: Run, line: &[u8], out: &mut [u8; 65536], at: usize) -> Next
     requires { ⌜ at ≤ 40000 ⌝ }
     ensures { λ r. ⌜ r .at ≤ 65536 ⌝ }
 {
-    let number = std::num::wrapping_add_u64(run.number, 1);
     let started = start::read_start(line);
-    let settings = started.settings;
-    let length = started.length;
     if !started.good {
         return calls::bad(run, out, at);
     }
-    if 1048576 < length {
-        let end = text::append(out, at, b"skipped\n");
-        let next = calls::fresh(number, false, run.through, 0, 0, settings);
-        return Next { run: next, at: end };
+    let number = std::num::wrapping_add_u64(run.number, 1);
+    let end = show_start(started.length <= 1048576, number, out, at);
+    Next {
+        run: started_run(number, run.through, started),
+        at: end,
     }
-    let end = text::single(out, at, b'n', number);
-    let next = calls::fresh(number, true, run.through, length, started.space, settings);
-    Next { run: next, at: end }
 }
 
 // `u` and `U`: microframes are asked for.
