@@ -120,7 +120,7 @@ pub fn same_packer(a: Packer, b: Packer) -> bool {
 }
 
 // Whether two parts of rings hold the same words.
-pub fn same_words(a: &[u32], b: &[u32]) -> bool {
+fn same_words(a: &[u32], b: &[u32]) -> bool {
     if a.len() != b.len() {
         return false;
     }

@@ -340,47 +340,42 @@ fn sweep(t: Tally, text: &[u8], setup: [u8; 8], running: bool, expected: [u64; 8
 
 // The forms that the source makes, waiting or running.
 fn sweeps(t: Tally, running: bool) -> Tally {
+    let either = [1, 1, 1, 2, 1, 1, 2, 1];
+    let long = [0x80, 6, 0, 1, 0, 0, 64, 0];
+    let short = [0x80, 6, 0, 1, 0, 0, 18, 0];
+    let of_bytes = [1, 1, 1, 1, 1, 1, 256, 256];
+    let set = [0, 9, 1, 0, 0, 0, 0, 0];
+    let interface = [1, 11, 2, 0, 3, 0, 0, 0];
+    let alternates = [1, 1, 255, 1, 256, 1, 1, 1];
     let t = sweep(
         t,
         b"  device descriptor of 64 bytes:",
-        [0x80, 6, 0, 1, 0, 0, 64, 0],
+        long,
         running,
-        [1, 1, 1, 2, 1, 1, 2, 1],
+        either,
     );
-    let t = sweep(
-        t,
-        b"  address 7:",
-        ADDRESS,
-        running,
-        [1, 1, 1, 1, 1, 1, 1, 1],
-    );
+    let t = sweep(t, b"  address 7:", ADDRESS, running, [1; 8]);
     let t = sweep(
         t,
         b"  device descriptor of 18 bytes:",
-        [0x80, 6, 0, 1, 0, 0, 18, 0],
+        short,
         running,
-        [1, 1, 1, 2, 1, 1, 2, 1],
+        either,
     );
     let t = sweep(
         t,
         b"  configuration of 9 bytes:",
         CONFIGURATION,
         running,
-        [1, 1, 1, 1, 1, 1, 256, 256],
+        of_bytes,
     );
-    let t = sweep(
-        t,
-        b"  set configuration 1:",
-        [0, 9, 1, 0, 0, 0, 0, 0],
-        running,
-        [1, 1, 1, 1, 1, 1, 1, 1],
-    );
+    let t = sweep(t, b"  set configuration 1:", set, running, [1; 8]);
     sweep(
         t,
         b"  interface 3 with alternate 2:",
-        [1, 11, 2, 0, 3, 0, 0, 0],
+        interface,
         running,
-        [1, 1, 255, 1, 256, 1, 1, 1],
+        alternates,
     )
 }
 

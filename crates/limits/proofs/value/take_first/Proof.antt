@@ -1,4 +1,4 @@
--- `limits::value::take_first` is safe and ends. A part of the message is as long as it is cut.
+-- `limits::value::take_first` is safe and ends. A part of the ring is as long as it is cut.
 use mathlib.Core.Path.{sym}
 use native.Mathlib.Omega.{arith}
 use lib.Seq.{length-take-le}
