@@ -27,7 +27,8 @@ use Rattle.record.proofs.Laws.{in-turn, by-true, by-false, unchanged, once, fro
 use Rattle.model.specs.Control.{wLength, toHost, toStatus, keepsReply, dataStage, statusOut, statusEnds, statusStage}
 use Rattle.finished.specs.Promises.{Ready}
 use Rattle.control.specs.declared.Acknowledged.{Acknowledged}
-use Rattle.control.specs.Promises.{atReply, Stages, dataIn, dataOut, endsBy, Acknowledges}
+use Rattle.control.specs.Promises.{atReply, Stages, Acknowledges}
+use Rattle.model.specs.Control.{dataIn, dataOut, endsBy}
 
 -- ---- the data stage
 

@@ -30,7 +30,8 @@ use Rattle.model.specs.Control.{posted, posts, configured, inStatus, timedOut, 
 use Rattle.finished.specs.Promises.{Brings}
 use Rattle.control.specs.declared.Next.the-variants.{Setup, Empty}
 use Rattle.control.specs.declared.Acknowledged.{Acknowledged}
-use Rattle.control.specs.Promises.{nextOf, Posts, Stages, Acknowledges, dataThenStatus, requests, atControl, Controls}
+use Rattle.control.specs.Promises.{nextOf, Posts, Stages, Acknowledges, atControl, Controls}
+use Rattle.model.specs.Control.{dataThenStatus, requests}
 use Rattle.control.proofs.Laws.{request-dropped}
 
 -- ---- the status stage and the end of the request

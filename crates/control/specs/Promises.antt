@@ -1,7 +1,7 @@
 -- What the functions of a request promise: the World with what they take in its place.
 use Prim.Native.Nat.{ℕ, _≤_}
-use mathlib.Core.Bool.{Bool, true, false}
-use mathlib.Core.List.{List, []}
+use mathlib.Core.Bool.{Bool, true}
+use mathlib.Core.List.{List}
 use mathlib.Core.Path.{_≡_}
 use lib.Dec.{eqb}
 use Rattle.bits.specs.Pick.{pick}
@@ -12,11 +12,9 @@ use Rattle.record.specs.Setups.{little}
 use Rattle.record.specs.declared.State.{State}
 use Rattle.record.specs.World.{World, atBus}
 use Rattle.record.specs.Change as H
-use Rattle.dtd.specs.Dtd.{endpoint}
-use Rattle.record.specs.Change.{Step, if, when, runs}
+use Rattle.record.specs.Change.{Step}
 use Rattle.record.specs.Did.{Leads}
-use Rattle.model.specs.Phases.{dropsRequest}
-use Rattle.model.specs.Control.{timedOut, toStatus, keepsReply, finishes, statusStage, dataStage, inStatus, stalled, unstalls, stages}
+use Rattle.model.specs.Control.{endsBy, statusStage}
 use Rattle.finished.specs.Promises.{Ready}
 use Rattle.control.specs.declared.Next.{Next}
 use Rattle.control.specs.declared.Next.the-variants.{Setup, Empty}
@@ -48,30 +46,11 @@ pub record Stages (f : Step) (s : State) (m : Memory) (p : List ℕ) (s′ : Sta
   pub sized : Sized m′
   pub ready : Ready s′
 
--- 661-667, 668-674: the data stage from the device, and towards it
-abbrev pub dataIn : Step
-dataIn = runs (endpoint 0 true) [] keepsReply
-
-abbrev pub dataOut : Step
-dataOut = runs (endpoint 0 false) [] (λ r. when (λ w. r .done) toStatus)
-
--- 692-700: what follows the run of a status stage, by its completion
-abbrev pub endsBy : Bool → Bool → Step
-endsBy stack done = if (λ w. done) (finishes stack) (when timedOut dropsRequest)
-
 pub record Acknowledges (s : State) (m : Memory) (a : Acknowledged) (m′ : Memory) : Type 0 where
   pub leads : (stack : Bool) (w : World) {b : World} → Leads (endsBy stack (a .done)) (atBus w (a .state) m′) b → Leads (statusStage stack) (atBus w s m) b
   pub sized : Sized m′
   pub ready : Ready (a .state)
   pub few : a .state .control .got ≤ 65535
-
--- 658-700: a data stage, and what follows it
-abbrev pub dataThenStatus : Bool → Step
-dataThenStatus stack = H._then_ dataStage (if (λ w. inStatus (w .state .control .stage)) (statusStage stack) (when timedOut dropsRequest))
-
--- 649-700: a request that runs
-abbrev pub requests : Bool → Step
-requests stack = if stalled unstalls (stages stack)
 
 -- what is tested of the record before a microframe (document 01, refusal 5)
 pub record Bounded (s : State) : Type 0 where

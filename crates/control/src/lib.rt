@@ -193,7 +193,7 @@ fn data_in(
 ) -> State
     requires { ⌜ Sized (shown dynamic sram page) ⌝ }
     requires { ⌜ Ready s × (65535 ≤ length (now reply)) ⌝ }
-    ensures { λ r. ⌜ P.Stages P.dataIn s (shown (dynamic .entry) (sram .entry) (page .entry)) (now (reply .entry)) r (shown (dynamic .exit) (sram .exit) (page .exit)) (now (reply .exit)) ⌝ }
+    ensures { λ r. ⌜ P.Stages C.dataIn s (shown (dynamic .entry) (sram .entry) (page .entry)) (now (reply .entry)) r (shown (dynamic .exit) (sram .exit) (page .exit)) (now (reply .exit)) ⌝ }
 {
     let limit = asked(s);
     let at = s.control.got;
@@ -211,7 +211,7 @@ fn data_in(
 fn data_out(s: State, dynamic: &mut [u8], sram: &mut [u8], page: &mut [u8]) -> State
     requires { ⌜ Sized (shown dynamic sram page) ⌝ }
     requires { ⌜ Ready s ⌝ }
-    ensures { λ r. ⌜ ((p : List ℕ) → P.Stages P.dataOut s (shown (dynamic .entry) (sram .entry) (page .entry)) p r (shown (dynamic .exit) (sram .exit) (page .exit)) p) ⌝ }
+    ensures { λ r. ⌜ ((p : List ℕ) → P.Stages C.dataOut s (shown (dynamic .entry) (sram .entry) (page .entry)) p r (shown (dynamic .exit) (sram .exit) (page .exit)) p) ⌝ }
 {
     let ran = runs::run0_out(dynamic, sram, page, b"", s.port.line);
     let next = record::after_run(s, ran);
@@ -313,7 +313,7 @@ fn served(
 ) -> State
     requires { ⌜ Sized (shown dynamic sram page) ⌝ }
     requires { ⌜ Ready s × ((65535 ≤ length (now reply)) × (65535 ≤ length (now config))) ⌝ }
-    ensures { λ r. ⌜ P.Controls (P.dataThenStatus «device_stack») s (shown (dynamic .entry) (sram .entry) (page .entry)) (now (setups .entry)) (now (device .entry)) (now (reply .entry)) (now (config .entry)) r (shown (dynamic .exit) (sram .exit) (page .exit)) (now (setups .exit)) (now (device .exit)) (now (reply .exit)) (now (config .exit)) ⌝ }
+    ensures { λ r. ⌜ P.Controls (C.dataThenStatus «device_stack») s (shown (dynamic .entry) (sram .entry) (page .entry)) (now (setups .entry)) (now (device .entry)) (now (reply .entry)) (now (config .entry)) r (shown (dynamic .exit) (sram .exit) (page .exit)) (now (setups .exit)) (now (device .exit)) (now (reply .exit)) (now (config .exit)) ⌝ }
 {
     let next = data_stage(s, dynamic, sram, page, reply);
     let running = next.control;
@@ -392,7 +392,7 @@ fn request(
 ) -> State
     requires { ⌜ Sized (shown dynamic sram page) ⌝ }
     requires { ⌜ Ready s × ((65535 ≤ length (now reply)) × (65535 ≤ length (now config))) ⌝ }
-    ensures { λ r. ⌜ P.Controls (P.requests «device_stack») s (shown (dynamic .entry) (sram .entry) (page .entry)) (now (setups .entry)) (now (device .entry)) (now (reply .entry)) (now (config .entry)) r (shown (dynamic .exit) (sram .exit) (page .exit)) (now (setups .exit)) (now (device .exit)) (now (reply .exit)) (now (config .exit)) ⌝ }
+    ensures { λ r. ⌜ P.Controls (C.requests «device_stack») s (shown (dynamic .entry) (sram .entry) (page .entry)) (now (setups .entry)) (now (device .entry)) (now (reply .entry)) (now (config .entry)) r (shown (dynamic .exit) (sram .exit) (page .exit)) (now (setups .exit)) (now (device .exit)) (now (reply .exit)) (now (config .exit)) ⌝ }
 {
     let epcr0 = word_at(&*page, EPCR0);
     if bits::any(epcr0, STALLED) {

@@ -25,7 +25,8 @@ use Rattle.record.specs.Did.{Leads}
 use Rattle.record.proofs.Laws.{in-turn, by-true, by-false, unchanged, once, from-here, leads-as}
 use Rattle.model.specs.Phases.{dropsRequest}
 use Rattle.model.specs.Control.{requestType, request, descriptorType, asksFor, replied, setsInterface, interfaceSetups, asksWhole, setsConfiguration, chooses, fixedSetups, configures, finishes}
-use Rattle.finished.specs.Promises.{atRequest, Brings, keepsDevice, keepsConfig, choosesByReply, queuesFixed, takesConfiguration, pairsFrom}
+use Rattle.finished.specs.Promises.{atRequest, Brings, pairsFrom}
+use Rattle.model.specs.Control.{keepsDevice, keepsConfig, choosesByReply, queuesFixed, takesConfiguration}
 
 -- ---- copies
 

@@ -1,16 +1,14 @@
 -- What the functions of a finished request promise, and what the record's bounds grant them (document 01, "Control record" and refusal 5).
 use Prim.Native.Nat.{ℕ, zero, suc, _≤_}
-use mathlib.Core.Bool.{Bool, true}
+use mathlib.Core.Bool.{true}
 use mathlib.Core.List.{List, [], _∷_}
 use mathlib.Core.Path.{_≡_}
-use lib.Dec.{eqb}
 use lib.ListN.{getD}
-use Rattle.config.specs.Config.{parsed}
 use Rattle.record.specs.declared.State.{State}
 use Rattle.record.specs.World.{World}
-use Rattle.record.specs.Change.{device, config, queued, Step, if, one, here}
+use Rattle.record.specs.Change.{device, config, Step}
 use Rattle.record.specs.Did.{Leads}
-use Rattle.model.specs.Control.{asksFor, wLength, replied, asksWhole, chooses, fixedSetups, configures}
+use Rattle.model.specs.Control.{asksFor, wLength}
 
 -- what is tested of a running request before a microframe: no setup waits behind one for the configuration, the device descriptor fits
 -- its 64 bytes, and the reply is no longer than asked
@@ -26,22 +24,6 @@ atRequest r s q d p c = record { settings = r .settings; packer = r .packer; sta
 -- a step on these, which leaves the reply
 pub record Brings (f : Step) (s : State) (q d p c : List ℕ) (s′ : State) (q′ d′ c′ : List ℕ) : Type 0 where
   pub leads : (w : World) → Leads f (atRequest w s q d p c) (atRequest w s′ q′ d′ p c′)
-
--- the parts of `finishes` that functions of their own make (usbhost.rs 707, 715, 717-726, 729-735, 710-736)
-abbrev pub keepsDevice : Step
-keepsDevice = one (λ w. device (replied w))
-
-abbrev pub keepsConfig : Step
-keepsConfig = one (λ w. config (replied w))
-
-abbrev pub choosesByReply : Step
-choosesByReply = here (λ v. chooses (parsed (replied v)))
-
-abbrev pub queuesFixed : Step
-queuesFixed = one (λ w. queued fixedSetups)
-
-abbrev pub takesConfiguration : Bool → Step
-takesConfiguration stack = if (λ w. eqb (w .state .control .got) 9) asksWhole (configures stack)
 
 -- k pairs of a table in two arrays, from index i on
 unfoldable pub pairsFrom : List ℕ → List ℕ → ℕ → ℕ → List (ℕ × ℕ)

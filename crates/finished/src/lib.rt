@@ -106,7 +106,7 @@ fn push_pairs(setups: &mut [u8; 2056], interfaces: &[u8; 256], alternates: &[u8;
 // What the configuration asks for: the block, set configuration, and set interface for each pair; no setup waits.
 fn choose(s: State, setups: &mut [u8; 2056], reply: &[u8]) -> State
     requires { ⌜ (s .lengths .setups ≡ 0) × (s .control .got ≤ length (now reply)) ⌝ }
-    ensures { λ r. ⌜ ((d c : List ℕ) → P.Brings P.choosesByReply s (now (setups .entry)) d (now (reply .entry)) c r (now (setups .exit)) d c) ⌝ }
+    ensures { λ r. ⌜ ((d c : List ℕ) → P.Brings C.choosesByReply s (now (setups .entry)) d (now (reply .entry)) c r (now (setups .exit)) d c) ⌝ }
 {
     let got = s.control.got;
     let info = config::parse_config(&reply[..got]);
@@ -130,7 +130,7 @@ fn choose(s: State, setups: &mut [u8; 2056], reply: &[u8]) -> State
 // The fixed three: set configuration 1, and interfaces 1 and 2 at alternate 3; no setup waits.
 fn fixed_setups(s: State, setups: &mut [u8; 2056]) -> State
     requires { ⌜ s .lengths .setups ≡ 0 ⌝ }
-    ensures { λ r. ⌜ ((d p c : List ℕ) → P.Brings P.queuesFixed s (now (setups .entry)) d p c r (now (setups .exit)) d c) ⌝ }
+    ensures { λ r. ⌜ ((d p c : List ℕ) → P.Brings C.queuesFixed s (now (setups .entry)) d p c r (now (setups .exit)) d c) ⌝ }
 {
     record::put_setup(setups, 0, SET_CONFIGURATION, 0);
     record::put_setup(setups, 1, SET_INTERFACE + 0x3_0000, 1);
@@ -150,7 +150,7 @@ fn configuration(
 ) -> State
     requires { ⌜ (s .lengths .setups ≡ 0) × (s .control .got ≤ 65535) ⌝ }
     requires { ⌜ (65535 ≤ length (now reply)) × (65535 ≤ length (now config)) ⌝ }
-    ensures { λ r. ⌜ ((d : List ℕ) → P.Brings (P.takesConfiguration «device_stack») s (now (setups .entry)) d (now (reply .entry)) (now (config .entry)) r (now (setups .exit)) d (now (config .exit))) ⌝ }
+    ensures { λ r. ⌜ ((d : List ℕ) → P.Brings (C.takesConfiguration «device_stack») s (now (setups .entry)) d (now (reply .entry)) (now (config .entry)) r (now (setups .exit)) d (now (config .exit))) ⌝ }
 {
     if s.control.got == 9 {
         return ask_whole(s, setups, reply);

@@ -27,7 +27,8 @@ use Rattle.model.specs.Audio.{streams}
 use Rattle.model.specs.Microframe.{streaming, others, transfers, opens}
 use Rattle.streams.specs.Promises.{Fewer, Receives, Writes, ServesBoth}
 use Rattle.audio.specs.Promises.{CanSend, atStream, Streams}
-use Rattle.framing.specs.Promises.{Rings, midiSteps, stackSteps, bridgeSteps, atFlow, Stacks, Bridges, Transfers}
+use Rattle.framing.specs.Promises.{Rings, atFlow, Stacks, Bridges, Transfers}
+use Rattle.model.specs.Microframe.{midiSteps, stackSteps, bridgeSteps}
 use Rattle.framing.proofs.Held.{Held, heldOf, keeps-streams}
 
 -- a World with a sending ring, and nothing else of note

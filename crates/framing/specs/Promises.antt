@@ -1,20 +1,14 @@
 -- What the streams of a microframe ask of the host record, and what each of its functions promises.
 use Prim.Native.Nat.{ℕ, _+_, _*_, _/_, _≤_}
-use mathlib.Core.Bool.{Bool}
 use mathlib.Core.List.{List}
 use mathlib.Core.Path.{_≡_}
 use Rattle.bus.specs.Memory.{Memory}
 use Rattle.bus.specs.Sized.{Sized}
 use Rattle.record.specs.declared.Audio.{Audio}
-use Rattle.record.specs.declared.Settings.{Settings}
 use Rattle.record.specs.declared.State.{State}
 use Rattle.record.specs.World.{World}
-use Rattle.record.specs.Change.{Step, _then_, when}
+use Rattle.record.specs.Change.{Step}
 use Rattle.record.specs.Did.{Leads}
-use Rattle.model.specs.Phases.{within}
-use Rattle.model.specs.Streams.{midiIn, midiOut, readsVendor}
-use Rattle.model.specs.Audio.{streams}
-use Rattle.model.specs.Microframe.{others}
 use Rattle.blocks.specs.Promises.{InRing}
 use Rattle.audio.specs.Promises.{InSending}
 
@@ -35,16 +29,6 @@ pub record Flows (s : State) (words : ℕ) : Type 0 where
   pub none : s .answer .received ≡ 0
 
 -- ---- the parts of the streams' step
-
--- usbhost.rs 501-503: MIDI input; 504-508: what the device stack adds; 500-508: the streams of an Overbridge device
-abbrev pub midiSteps : Settings → ℕ → Step
-midiSteps c t = when (λ w. c .«midi_in») (midiIn (within (c .sleep) t) (c .«midi_every»))
-
-abbrev pub stackSteps : Bool → Step
-stackSteps stack = when (λ w. stack) (midiOut then readsVendor)
-
-abbrev pub bridgeSteps : Settings → ℕ → Step
-bridgeSteps c t = streams then others c t
 
 -- ---- a World with what a function takes in its place
 

@@ -28,7 +28,7 @@ fn midi_in(
 ) -> State
     requires { ⌜ Sized (shown dynamic sram page) ⌝ }
     requires { ⌜ s .answer .received + 196584 ≤ length (now receive) ⌝ }
-    ensures { λ r. ⌜ Receives (P.midiSteps c time) s (shown (dynamic .entry) (sram .entry) (page .entry)) (now (receive .entry)) r (shown (dynamic .exit) (sram .exit) (page .exit)) (now (receive .exit)) ⌝ }
+    ensures { λ r. ⌜ Receives (M.midiSteps c time) s (shown (dynamic .entry) (sram .entry) (page .entry)) (now (receive .entry)) r (shown (dynamic .exit) (sram .exit) (page .exit)) (now (receive .exit)) ⌝ }
 {
     if !c.midi_in {
         return s;
@@ -51,7 +51,7 @@ fn stack_step(
 ) -> State
     requires { ⌜ Sized (shown dynamic sram page) ⌝ }
     requires { ⌜ s .lengths .midi ≤ 4096 ⌝ }
-    ensures { λ r. ⌜ P.Stacks (P.stackSteps «device_stack») s (shown (dynamic .entry) (sram .entry) (page .entry)) (now (midi .entry)) r (shown (dynamic .exit) (sram .exit) (page .exit)) (now (midi .exit)) ⌝ }
+    ensures { λ r. ⌜ P.Stacks (M.stackSteps «device_stack») s (shown (dynamic .entry) (sram .entry) (page .entry)) (now (midi .entry)) r (shown (dynamic .exit) (sram .exit) (page .exit)) (now (midi .exit)) ⌝ }
 {
     if !device_stack {
         return s;
@@ -76,7 +76,7 @@ fn overbridge(
     requires { ⌜ Sized (shown dynamic sram page) ⌝ }
     requires { ⌜ (196608 ≤ length (now receive)) × (length (now received) ≡ 576000) ⌝ }
     requires { ⌜ P.Flows s (length (now sending)) ⌝ }
-    ensures { λ r. ⌜ P.Bridges (P.bridgeSteps c time) s (shown (dynamic .entry) (sram .entry) (page .entry)) (now (midi .entry)) (now (receive .entry)) (now (received .entry)) (now (sending .entry)) r (shown (dynamic .exit) (sram .exit) (page .exit)) (now (midi .exit)) (now (receive .exit)) (now (received .exit)) ⌝ }
+    ensures { λ r. ⌜ P.Bridges (M.bridgeSteps c time) s (shown (dynamic .entry) (sram .entry) (page .entry)) (now (midi .entry)) (now (receive .entry)) (now (received .entry)) (now (sending .entry)) r (shown (dynamic .exit) (sram .exit) (page .exit)) (now (midi .exit)) (now (receive .exit)) (now (received .exit)) ⌝ }
 {
     let streamed = audio::stream(s, dynamic, sram, page, received, sending);
     let heard = midi_in(streamed, c, dynamic, sram, page, receive, time);

@@ -103,11 +103,16 @@ keepsReply r =
     then one (λ w. control (withGot (v .state .control) (v .state .control .got + length (take (wLength (v .state .control) - v .state .control .got) (r .bytes)))))
     then when (λ w. r .done || leb (wLength (w .state .control)) (w .state .control .got)) toStatus)
 
--- 659-673: the base has no bytes for the device, whose data stage would end by its completion
+-- 661-667: the data stage from the device; 668-674: towards it, for which the base has no bytes: it would end by its completion
+abbrev pub dataIn : Step
+dataIn = runs (endpoint 0 true) [] keepsReply
+
+abbrev pub dataOut : Step
+dataOut = runs (endpoint 0 false) [] (λ r. when (λ w. r .done) toStatus)
+
+-- 659-673
 unfoldable pub dataStage : Step
-dataStage =
-    if (λ w. eqb (wLength (w .state .control)) 0) toStatus
-    (if (λ w. toHost (w .state .control)) (runs (endpoint 0 true) [] keepsReply) (runs (endpoint 0 false) [] (λ r. when (λ w. r .done) toStatus)))
+dataStage = if (λ w. eqb (wLength (w .state .control)) 0) toStatus (if (λ w. toHost (w .state .control)) dataIn dataOut)
 
 -- ---- what a finished request brings (703-738)
 
@@ -144,17 +149,35 @@ chooses c =
 abbrev pub fixedSetups : List ℕ
 fixedSetups = setsConfiguration ++ setsInterface 1 3 ++ setsInterface 2 3
 
+-- 715: a whole configuration is stored
+abbrev pub keepsConfig : Step
+keepsConfig = one (λ w. config (replied w))
+
+-- 717-727: its choice, with the device stack; 729-735: without it
+abbrev pub choosesByReply : Step
+choosesByReply = here (λ v. chooses (parsed (replied v)))
+
+abbrev pub queuesFixed : Step
+queuesFixed = one (λ w. queued fixedSetups)
+
 -- 715-735: a whole configuration is stored, and its requests are queued
 unfoldable pub configures : Bool → Step
-configures stack =
-    one (λ w. config (replied w)) then pick stack (here (λ v. chooses (parsed (replied v)))) (one (λ w. queued fixedSetups))
+configures stack = keepsConfig then pick stack choosesByReply queuesFixed
+
+-- 707: the device descriptor is stored
+abbrev pub keepsDevice : Step
+keepsDevice = one (λ w. device (replied w))
+
+-- 710-736: a configuration's header, or the whole of it
+abbrev pub takesConfiguration : Bool → Step
+takesConfiguration stack = if (λ w. eqb (w .state .control .got) 9) asksWhole (configures stack)
 
 -- 703-738: `finished`; stack is the device_stack setting
 unfoldable pub finishes : Bool → Step
 finishes stack =
     dropsRequest
-    then when (λ w. asksFor 1 (w .state .control)) (one (λ w. device (replied w)))
-    then when (λ w. asksFor 2 (w .state .control)) (if (λ w. eqb (w .state .control .got) 9) asksWhole (configures stack))
+    then when (λ w. asksFor 1 (w .state .control)) keepsDevice
+    then when (λ w. asksFor 2 (w .state .control)) (takesConfiguration stack)
 
 -- ---- the status stage (687-700): the other way, with no data
 
@@ -162,9 +185,12 @@ finishes stack =
 abbrev pub statusOut : Control → Bool
 statusOut c = toHost c && not (eqb (wLength c) 0)
 
--- 692-700: what follows its run: the request is finished, or waits, or is dropped
+-- 692-700: what follows its run, by its completion: the request is finished, or waits, or is dropped
+abbrev pub endsBy : Bool → Bool → Step
+endsBy stack done = if (λ w. done) (finishes stack) (when timedOut dropsRequest)
+
 unfoldable pub statusEnds : Bool → Run → Step
-statusEnds stack r = if (λ w. r .done) (finishes stack) (when timedOut dropsRequest)
+statusEnds stack r = endsBy stack (r .done)
 
 -- 687-700
 unfoldable pub statusStage : Bool → Step
@@ -181,14 +207,18 @@ stalled w = any (wordAt (w .memory .page) EPCR0) 0x10001
 unfoldable pub unstalls : Step
 unstalls = dropsRequest then onPage (changing EPCR0 (λ v. clear v 0x10001))
 
+-- 658-700: a data stage, and what follows it
+abbrev pub dataThenStatus : Bool → Step
+dataThenStatus stack = dataStage then if (λ w. inStatus (w .state .control .stage)) (statusStage stack) (when timedOut dropsRequest)
+
 -- 657-700: the stages of a running request
 unfoldable pub stages : Bool → Step
-stages stack =
-    if (λ w. inStatus (w .state .control .stage)) (statusStage stack)
-    (dataStage then if (λ w. inStatus (w .state .control .stage)) (statusStage stack) (when timedOut dropsRequest))
+stages stack = if (λ w. inStatus (w .state .control .stage)) (statusStage stack) (dataThenStatus stack)
+
+-- 649-700: a request that runs
+abbrev pub requests : Bool → Step
+requests stack = if stalled unstalls (stages stack)
 
 -- 623-701: `control`; stack is the device_stack setting
 unfoldable pub controls : Bool → Step
-controls stack =
-    if (λ w. w .state .control .on) (if stalled unstalls (stages stack))
-    (if (λ w. eqb (w .state .lengths .setups) 0) configured posts)
+controls stack = if (λ w. w .state .control .on) (requests stack) (if (λ w. eqb (w .state .lengths .setups) 0) configured posts)

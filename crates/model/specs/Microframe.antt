@@ -27,11 +27,16 @@ asleepAt t w = within (w .settings .suspend) t
 
 -- ---- from the phase on; c: the settings, t: the time, rs: RS
 
+-- 501-503: MIDI input; 504-508: what the device stack adds
+abbrev pub midiSteps : Settings → ℕ → Step
+midiSteps c t = when (λ w. c .«midi_in») (midiIn (within (c .sleep) t) (c .«midi_every»))
+
+abbrev pub stackSteps : Bool → Step
+stackSteps stack = when (λ w. stack) (midiOut then readsVendor)
+
 -- 501-508: what follows the audio stream
 unfoldable pub others : Settings → ℕ → Step
-others c t =
-    when (λ w. c .«midi_in») (midiIn (within (c .sleep) t) (c .«midi_every»))
-    then when (λ w. c .«device_stack») (midiOut then readsVendor)
+others c t = midiSteps c t then stackSteps (c .«device_stack»)
 
 -- 497, 499: the phase is streaming
 abbrev pub streaming : Phase → Bool
@@ -41,9 +46,13 @@ streaming Reset = false
 streaming Enumerate = false
 streaming Stream = true
 
+-- 500-508: the streams of an Overbridge device
+abbrev pub bridgeSteps : Settings → ℕ → Step
+bridgeSteps c t = streams then others c t
+
 -- 497-509: the serial device, or the audio stream and what follows it
 unfoldable pub transfers : Settings → ℕ → Step
-transfers c t = when (λ w. streaming (w .state .phase)) (if (λ w. c .cdc) serialStep (streams then others c t))
+transfers c t = when (λ w. streaming (w .state .phase)) (if (λ w. c .cdc) serialStep (bridgeSteps c t))
 
 -- 493-496: start of frame, and control
 unfoldable pub enumerates : Settings → Step

@@ -88,14 +88,21 @@ sleeps = one (λ w. count «midi_asleep» 1)
 
 -- ---- suspend and device left
 
--- 413-425: the bus is suspended, or resumed
+-- a register is read, changed and stored, and bits of USBSTS are raised
+abbrev pub changes : ℕ → (ℕ → ℕ) → ℕ → Step
+changes o f sts = onPage (R._then_ (changing o f) (raising sts))
+
+-- 414-424: the bus is suspended, and resumed
+abbrev pub suspending : Step
+suspending = one (λ w. suspended true) then changes PORTSC1 (λ v. set v 0x80) 0x100
+
+abbrev pub resuming : Step
+resuming = one (λ w. suspended false) then changes PORTSC1 (λ v. clear v 0x80) 4
+
+-- 413-425: where the time comes into the suspend span, or leaves it
 unfoldable pub suspends : Bool → Step
-suspends true =
-    when (λ w. not (w .state .port .suspended))
-    (one (λ w. suspended true) then onPage (R._then_ (changing PORTSC1 (λ v. set v 0x80)) (raising 0x100)))
-suspends false =
-    when (λ w. w .state .port .suspended)
-    (one (λ w. suspended false) then onPage (R._then_ (changing PORTSC1 (λ v. clear v 0x80)) (raising 4)))
+suspends true = when (λ w. not (w .state .port .suspended)) suspending
+suspends false = when (λ w. w .state .port .suspended) resuming
 
 -- 437-438, 455-456, 464-465, 475-476: a phase begins now
 unfoldable pub enters : Phase → Step

@@ -71,12 +71,18 @@ fitting e held w = min (min (nextTotal e w) 512) held
 unfoldable pub drainsSerial : ℕ → Step
 drainsSerial n = here (λ v. one (λ w. serial n) then runs (endpoint 2 false) (take n (v .serial)) (λ r. nothing))
 
+-- 813-814: bytes from a serial device, and 815-829: those for it
+abbrev pub takesSerial : Step
+takesSerial = runs (endpoint 2 true) [] (λ r. one (λ w. received (r .bytes)))
+
+abbrev pub givesSerial : Step
+givesSerial =
+    when (λ w. not (eqb (w .state .lengths .serial) 0) && ready (endpoint 2 false) w)
+    (here (λ v. drainsSerial (fitting (endpoint 2 false) (v .state .lengths .serial) v)))
+
 -- 812-830: `serial`
 unfoldable pub serialStep : Step
-serialStep =
-    runs (endpoint 2 true) [] (λ r. one (λ w. received (r .bytes)))
-    then when (λ w. not (eqb (w .state .lengths .serial) 0) && ready (endpoint 2 false) w)
-    (here (λ v. drainsSerial (fitting (endpoint 2 false) (v .state .lengths .serial) v)))
+serialStep = takesSerial then givesSerial
 
 -- 848-850: n bytes leave the MIDI queue and are sent, and their packets are counted
 unfoldable pub drainsMidi : ℕ → Step

@@ -27,7 +27,8 @@ use Rattle.record.specs.Change.{queued, apply, one}
 use Rattle.record.specs.Did.{Leads, entered}
 use Rattle.record.proofs.Laws.{once, on-page}
 use Rattle.model.specs.Phases.{changing, holds, anySpan, enters}
-use Rattle.phases.specs.Promises.{changes, atSetups}
+use Rattle.phases.specs.Promises.{atSetups}
+use Rattle.model.specs.Phases.{changes}
 
 -- a word is read, changed and stored, and a step goes on from there
 pub changed-then : (o : ℕ) (f : ℕ → ℕ) (g : PageStep) (v : ℕ) (p p₁ : List ℕ) (l : Bool) {r : Registers}

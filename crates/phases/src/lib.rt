@@ -9,7 +9,7 @@ ghost use Rattle.gptimers.specs.Timer.{inRange};
 ghost use Rattle.record.specs.Change.{onPage};
 ghost use Rattle.record.specs.Did.{Alone, Paged};
 ghost use Rattle.model.specs.Phases as M;
-ghost use Rattle.phases.specs.Promises.{Queued, suspending, resuming};
+ghost use Rattle.phases.specs.Promises.{Queued};
 use bus::put_at;
 use bus::word_at;
 use record::Phase;
@@ -171,7 +171,7 @@ pub fn asleep(s: State) -> State
 // The host suspends the bus.
 fn suspend(s: State, page: &mut [u8]) -> State
     requires { ⌜ length (now page) ≡ 4096 ⌝ }
-    ensures { λ r. ⌜ Paged suspending s (now (page .entry)) r (now (page .exit)) ⌝ }
+    ensures { λ r. ⌜ Paged M.suspending s (now (page .entry)) r (now (page .exit)) ⌝ }
 {
     let port = word_at(&*page, PORTSC1);
     put_at(page, PORTSC1, bits::set(port, SUSPENDED));
@@ -185,7 +185,7 @@ fn suspend(s: State, page: &mut [u8]) -> State
 // The host resumes the bus: a port change.
 fn resume(s: State, page: &mut [u8]) -> State
     requires { ⌜ length (now page) ≡ 4096 ⌝ }
-    ensures { λ r. ⌜ Paged resuming s (now (page .entry)) r (now (page .exit)) ⌝ }
+    ensures { λ r. ⌜ Paged M.resuming s (now (page .entry)) r (now (page .exit)) ⌝ }
 {
     let port = word_at(&*page, PORTSC1);
     put_at(page, PORTSC1, bits::clear(port, SUSPENDED));

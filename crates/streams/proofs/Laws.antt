@@ -28,7 +28,8 @@ use Rattle.record.specs.Change.{count, received, serial, midi, drained, apply, 
 use Rattle.record.specs.Did.{Leads, Did, afterRun}
 use Rattle.record.proofs.Laws.{in-turn, by-true, by-false, unchanged, once, from-here, leads-as, leads-by, run-then}
 use Rattle.model.specs.Streams.{ready, fitting, drainsSerial, serialStep, drainsMidi, midiOut, readsVendor}
-use Rattle.streams.specs.Promises.{atSerial, atMidi, atReceive, packetOf, takesSerial, givesSerial, Fewer, Receives, Serves, Writes, ServesBoth}
+use Rattle.streams.specs.Promises.{atSerial, atMidi, atReceive, packetOf, Fewer, Receives, Serves, Writes, ServesBoth}
+use Rattle.model.specs.Streams.{takesSerial, givesSerial}
 use Rattle.streams.proofs.Found.{unprimed-not, ended-not, active-ready, active-token, brings}
 
 -- ---- a queue that loses its first bytes, as a loop moves the others up

@@ -1,19 +1,15 @@
 -- What the functions on streams promise: the Worlds that their steps lead to, with the queues and areas that they take.
 use Prim.Native.Nat.{ℕ, _≤_, min}
-use mathlib.Core.Bool.{true, false, not, _&&_}
-use mathlib.Core.List.{List, []}
+use mathlib.Core.List.{List}
 use mathlib.Core.Path.{_≡_}
-use lib.Dec.{eqb}
 use Rattle.bus.specs.Memory.{Memory}
 use Rattle.bus.specs.Sized.{Sized}
 use Rattle.usbdev.specs.Transfer.{totalOf}
-use Rattle.dtd.specs.Dtd.{endpoint}
 use Rattle.record.specs.declared.Lengths.{Lengths}
 use Rattle.record.specs.declared.State.{State}
 use Rattle.record.specs.World.{World, atBus, withSerialQueue, withMidiQueue, withReceiveArea}
-use Rattle.record.specs.Change.{received, Step, here, when, one, runs}
+use Rattle.record.specs.Change.{Step}
 use Rattle.record.specs.Did.{Leads}
-use Rattle.model.specs.Streams.{ready, fitting, drainsSerial}
 
 -- ---- a World with what a function takes in its place
 
@@ -34,15 +30,6 @@ atServed w s m q out = atBus (withReceiveArea (withSerialQueue w q) out) s m
 -- usbhost.rs 826-827, 846-847: what one packet carries of the bytes that wait, to a descriptor with a token
 abbrev pub packetOf : ℕ → ℕ → ℕ
 packetOf tok held = min (min (totalOf tok) 512) held
-
--- 813-814, 815-829: `serialStep` in its two directions
-abbrev pub takesSerial : Step
-takesSerial = runs (endpoint 2 true) [] (λ r. one (λ w. received (r .bytes)))
-
-abbrev pub givesSerial : Step
-givesSerial =
-    when (λ w. not (eqb (w .state .lengths .serial) 0) && ready (endpoint 2 false) w)
-    (here (λ v. drainsSerial (fitting (endpoint 2 false) (v .state .lengths .serial) v)))
 
 -- ---- what a function does
 

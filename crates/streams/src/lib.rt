@@ -55,7 +55,7 @@ fn serial_in(
 ) -> State
     requires { ⌜ Sized (shown dynamic sram page) ⌝ }
     requires { ⌜ s .answer .received + 32767 ≤ length (now receive) ⌝ }
-    ensures { λ r. ⌜ P.Receives P.takesSerial s (shown (dynamic .entry) (sram .entry) (page .entry)) (now (receive .entry)) r (shown (dynamic .exit) (sram .exit) (page .exit)) (now (receive .exit)) ⌝ }
+    ensures { λ r. ⌜ P.Receives M.takesSerial s (shown (dynamic .entry) (sram .entry) (page .entry)) (now (receive .entry)) r (shown (dynamic .exit) (sram .exit) (page .exit)) (now (receive .exit)) ⌝ }
 {
     let at = s.answer.received;
     let limit = receive.len();
@@ -122,7 +122,7 @@ fn serial_out(
 ) -> State
     requires { ⌜ Sized (shown dynamic sram page) ⌝ }
     requires { ⌜ s .lengths .serial ≤ length (now serial) ⌝ }
-    ensures { λ r. ⌜ P.Serves P.givesSerial s (shown (dynamic .entry) (sram .entry) (page .entry)) (now (serial .entry)) r (shown (dynamic .exit) (sram .exit) (page .exit)) (now (serial .exit)) ⌝ }
+    ensures { λ r. ⌜ P.Serves M.givesSerial s (shown (dynamic .entry) (sram .entry) (page .entry)) (now (serial .entry)) r (shown (dynamic .exit) (sram .exit) (page .exit)) (now (serial .exit)) ⌝ }
 {
     if s.lengths.serial == 0 {
         return s;

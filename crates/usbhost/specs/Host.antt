@@ -1,6 +1,6 @@
 -- The host record, a new one, and its state by parts (document 01, "Host record"; usbhost.rs 207-354).
 use Prim.Native.Nat.{ℕ, _-_, _*_}
-use mathlib.Core.Bool.{Bool, true, false}
+use mathlib.Core.Bool.{false}
 use mathlib.Core.List.{List, _++_}
 use lib.Dec.{leb}
 use lib.ListN.{take, replicate}
@@ -8,8 +8,7 @@ use Rattle.bits.specs.Pick.{pick}
 use Rattle.midi.specs.declared.Packer.{Packer}
 use Rattle.midi.specs.Packer.{fresh}
 use Rattle.gptimers.specs.Timer.{none}
-use Rattle.record.specs.declared.Phase.{Phase}
-use Rattle.record.specs.declared.Phase.the-variants.{Idle, Vbus, Reset, Enumerate, Stream}
+use Rattle.record.specs.declared.Phase.the-variants.{Idle}
 use Rattle.record.specs.declared.Stage.the-variants.{Data}
 use Rattle.record.specs.declared.Settings.{Settings}
 use Rattle.record.specs.declared.State.{State}
@@ -29,14 +28,6 @@ stateOf h =
       lengths = h .lengths;
       answer = record { received = 0; dropped = 0 };
     }
-
--- 356-358: whether the device streams
-abbrev pub isStream : Phase → Bool
-isStream Idle = false
-isStream Vbus = false
-isStream Reset = false
-isStream Enumerate = false
-isStream Stream = true
 
 -- ---- `new` (319-354)
 

@@ -7,13 +7,14 @@ ghost use lib.Dec.{leb};
 ghost use lib.Seq.{sets};
 ghost use Rattle.bits.specs.Pick.{pick};
 ghost use Rattle.bounds.specs.Bounds.{inBounds};
+ghost use Rattle.model.specs.Microframe.{streaming as Microframe·streaming};
 ghost use Rattle.usbhost.specs.Calls.{unless, sendingLength, midiSent, serialSent, given, givenRing, giveNumber, takenFrame, takeNumber, deviceRead, deviceWritten, writtenPage, accessNumber};
 ghost use Rattle.usbhost.specs.Promises.{bare, MidiPromise, SerialPromise, GivePromise, TakePromise, ReadPromise, WritePromise, FramePromise};
 ghost use Rattle.usbhost.specs.Frame.{lengthsOk, boundsOk, frameNumber, lent, lentIn, framed, frameAnswer};
 ghost use Rattle.bus.specs.Memory.{shown};
 ghost use Rattle.record.specs.Record.{withAnswer};
 ghost use Rattle.record.specs.declared.Settings.{Settings as Record·Settings};
-ghost use Rattle.usbhost.specs.Host.{stateOf, hostOf, noSettings, newHost, created, isStream};
+ghost use Rattle.usbhost.specs.Host.{stateOf, hostOf, noSettings, newHost, created};
 use gptimers::Timer;
 use gptimers::Timers;
 use midi::Packer;
@@ -86,7 +87,7 @@ pub struct Framed {
 
 // Whether the phase is that of streaming.
 fn is_stream(p: Phase) -> bool
-    ensures { λ r. ⌜ r ≡ isStream p ⌝ }
+    ensures { λ r. ⌜ r ≡ Microframe·streaming p ⌝ }
 {
     match p {
         Phase::Idle => false,
@@ -787,7 +788,7 @@ impl Host {
     }
 
     pub fn streaming(self) -> bool
-        ensures { λ r. ⌜ r ≡ isStream (self .phase) ⌝ }
+        ensures { λ r. ⌜ r ≡ Microframe·streaming (self .phase) ⌝ }
     {
         let phase = self.phase;
         is_stream(phase)
