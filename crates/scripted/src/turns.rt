@@ -120,7 +120,7 @@ pub fn show_turn(
     at: usize,
 ) -> usize
     requires { ⌜ at ≤ 40000 ⌝ }
-    ensures { λ r. ⌜ r ≤ 65536 ⌝ }
+    ensures { λ r. ⌜ r ≤ at + 1024 ⌝ }
 {
     if live {
         return show_microframe(
