@@ -65,9 +65,9 @@ fn start_run(
 {
     let end = text::single(out, at, b'n', run);
     let next = fresh(run, length, true, control);
-    windows::clear(dynamic);
-    windows::clear(sram);
-    windows::clear(page);
+    *dynamic = [0u8; 65536];
+    *sram = [0u8; 65536];
+    *page = [0u8; 4096];
     Next {
         state: next,
         at: end,

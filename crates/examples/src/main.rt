@@ -1,11 +1,15 @@
 // Runs the worked examples of document 01 that are not marked, by the crates' own calls.
-use libc::STDOUT_FILENO;
 use midi::Packer;
+use script::text;
+ghost use Prim.Native.Nat.{_+_, _≤_};
 
 // A line of one number.
-fn print_line(n: u64) {
-    io::print_decimal(STDOUT_FILENO, n);
-    io::write_all(STDOUT_FILENO, b"\n");
+fn show_line(out: &mut [u8; 65536], at: usize, n: u64) -> usize
+    requires { ⌜ at + 21 ≤ 65536 ⌝ }
+    ensures { λ r. ⌜ r ≤ at + 21 ⌝ }
+{
+    let end = text::decimal(out, at, n);
+    text::put(out, end, b'\n')
 }
 
 fn wide(b: u8) -> u64 {
@@ -13,7 +17,10 @@ fn wide(b: u8) -> u64 {
 }
 
 // First pointer 40000FFE, total 4: two bytes there, two from the start of the second page.
-fn two_pages() {
+fn two_pages(out: &mut [u8; 65536], at: usize) -> usize
+    requires { ⌜ at ≤ 1000 ⌝ }
+    ensures { λ r. ⌜ r ≤ at + 200 ⌝ }
+{
     let mut dynamic = [0u8; 65536];
     let sram = [0u8; 65536];
     let page = [0u8; 4096];
@@ -24,32 +31,45 @@ fn two_pages() {
     dynamic[0x3001] = 22;
     dynamic[0x3002] = 99;
     let pointers = [0x4000_0FFEu32, 0x4000_3000, 0, 0, 0, 0, 0, 0, 0];
-    let mut out = [0u8; 4];
-    let refusal = transfer::checked_copy_in(&dynamic, &sram, &page, &pointers, 4, &mut out, 0);
-    io::write_all(STDOUT_FILENO, b"two pages: refusal and bytes\n");
-    print_line(wide(refusal));
-    print_line(wide(out[0]));
-    print_line(wide(out[1]));
-    print_line(wide(out[2]));
-    print_line(wide(out[3]));
+    let mut bytes = [0u8; 4];
+    let refusal = transfer::checked_copy_in(&dynamic, &sram, &page, &pointers, 4, &mut bytes, 0);
+    let mut end = text::append(out, at, b"two pages: refusal and bytes\n");
+    end = show_line(out, end, wide(refusal));
+    end = show_line(out, end, wide(bytes[0]));
+    end = show_line(out, end, wide(bytes[1]));
+    end = show_line(out, end, wide(bytes[2]));
+    show_line(out, end, wide(bytes[3]))
 }
 
 // At 4,092 held MIDI bytes F8 is accepted; at 4,096 it meets 7.
-fn queue_space(held: usize) {
+fn queue_space(out: &mut [u8; 65536], at: usize, held: usize) -> usize
+    requires { ⌜ at ≤ 1000 ⌝ }
+    ensures { λ r. ⌜ r ≤ at + 200 ⌝ }
+{
     let mut queue = [0u8; 4096];
     let sent = midi::send(Packer::new(), 0, b"\xF8", &mut queue, held);
-    io::write_all(
-        STDOUT_FILENO,
+    let mut end = text::append(
+        out,
+        at,
         b"F8 with so many held: refusal, held then, last byte but three\n",
     );
-    print_line(held as u64);
-    print_line(wide(sent.refusal));
-    print_line(sent.held as u64);
-    print_line(wide(queue[4092]));
+    end = show_line(out, end, held as u64);
+    end = show_line(out, end, wide(sent.refusal));
+    end = show_line(out, end, sent.held as u64);
+    show_line(out, end, wide(queue[4092]))
 }
 
 fn main() {
-    two_pages();
-    queue_space(4092);
-    queue_space(4096);
+    let mut out = [0u8; 65536];
+    let mut end = two_pages(&mut out, 0);
+    end = queue_space(&mut out, end, 4092);
+    end = queue_space(&mut out, end, 4096);
+    stdio::finish(
+        false,
+        false,
+        &out,
+        end,
+        b"",
+        b"examples: standard output could not be written; the examples are not whole\n",
+    );
 }

@@ -61,9 +61,9 @@ fn start_run(
 {
     let end = text::single(out, at, b'n', run);
     let next = fresh(run, length);
-    windows::clear(dynamic);
-    windows::clear(sram);
-    windows::clear(page);
+    *dynamic = [0u8; 65536];
+    *sram = [0u8; 65536];
+    *page = [0u8; 4096];
     Next {
         state: next,
         at: end,
@@ -207,7 +207,7 @@ fn send(state: State, line: &[u8], queue: &mut [u8; 4096], out: &mut [u8; 65536]
     requires { ⌜ (state .queued ≤ 4096) × (state .length ≤ 65536) ⌝ }
     ensures { λ r. ⌜ ((r .state .queued ≤ 4096) × (r .state .length ≤ 65536)) × (r .at ≤ 65536) ⌝ }
 {
-    let mut bytes = [0u8; 8192];
+    let mut bytes = [0u8; 32768];
     let got = parse::read_bytes(line, 1, &mut bytes);
     if got.good {
         return send_first(state, &bytes, got.count, queue, out, at);

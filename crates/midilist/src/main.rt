@@ -1,4 +1,5 @@
 // Lists the USB-MIDI packets that the bytes of standard input make.
+use libc::STDERR_FILENO;
 use libc::STDIN_FILENO;
 use libc::STDOUT_FILENO;
 use midi::Event;
@@ -72,11 +73,13 @@ fn list_piece(p: Packer, bytes: &[u8], out: &mut [u8]) -> Piece
     }
 }
 
-// Where the listing stands: the packer, the packets so far, and whether to go on.
+// Where the listing stands: the packer, the packets so far, whether to go on, and whether a read or a write failed.
 struct Listing {
     packer: Packer,
     packets: u64,
     more: bool,
+    unread: bool,
+    unwritten: bool,
 }
 
 // Reads a piece and writes its lines at once. The end of the input, an error in reading and one in writing end the listing.
@@ -91,6 +94,8 @@ fn list_some(s: Listing, text: &mut [u8]) -> Listing
             packer,
             packets: s.packets,
             more: false,
+            unread: got < 0,
+            unwritten: false,
         };
     }
     let n = io::count(got, &input);
@@ -102,15 +107,21 @@ fn list_some(s: Listing, text: &mut [u8]) -> Listing
         packer: next,
         packets: std::num::wrapping_add_u64(s.packets, piece.packets as u64),
         more,
+        unread: false,
+        unwritten: !more,
     }
 }
 
+// The heading, and then every piece.
 fn list_all() -> Listing {
     let mut text = io::large_buffer();
+    let more = io::write_all(STDOUT_FILENO, b"usb-midi\n");
     let mut s = Listing {
         packer: Packer::new(),
         packets: 0,
-        more: true,
+        more,
+        unread: false,
+        unwritten: !more,
     };
     let mut turns = u64::MAX;
     while turns > 0 && s.more {
@@ -120,13 +131,36 @@ fn list_all() -> Listing {
     s
 }
 
+// The last line, of the packets and of the bytes held in the packer; whether it could be written.
+fn count(packets: u64, held: u8) -> bool {
+    if io::print_decimal(STDOUT_FILENO, packets) {
+        if io::write_all(STDOUT_FILENO, b" packets, ") {
+            if io::print_decimal(STDOUT_FILENO, held as u64) {
+                return io::write_all(STDOUT_FILENO, b" held\n");
+            }
+        }
+    }
+    false
+}
+
 fn main() {
-    io::write_all(STDOUT_FILENO, b"usb-midi\n");
     let s = list_all();
-    io::print_decimal(STDOUT_FILENO, s.packets);
-    io::write_all(STDOUT_FILENO, b" packets, ");
+    if s.unread {
+        io::write_all(
+            STDERR_FILENO,
+            b"midilist: standard input could not be read; the list is not whole\n",
+        );
+        return;
+    }
     let packer = s.packer;
-    let held = packer.held;
-    io::print_decimal(STDOUT_FILENO, held as u64);
-    io::write_all(STDOUT_FILENO, b" held\n");
+    let mut written = !s.unwritten;
+    if written {
+        written = count(s.packets, packer.held);
+    }
+    if !written {
+        io::write_all(
+            STDERR_FILENO,
+            b"midilist: standard output could not be written; the list is not whole\n",
+        );
+    }
 }

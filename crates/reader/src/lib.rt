@@ -1,35 +1,14 @@
 // Reads a run script from standard input, and writes its log, or a table of its runs.
 use libc::STDERR_FILENO;
-use libc::STDIN_FILENO;
-use libc::STDOUT_FILENO;
 use scripted::calls;
 use scripted::calls::Next;
 use scripted::calls::Run;
 use scripted::lines;
 use scripted::table;
 use scripted::table::Row;
-ghost use mathlib.Core.Path.{_≡_};
-ghost use Prim.Native.Nat.{_-_, _≤_};
+use stdio::Place;
+ghost use Prim.Native.Nat.{_≤_};
 ghost use lib.ListN.{length};
-
-// Writes the first bytes of a buffer.
-fn write_first(fd: i32, out: &[u8], count: usize)
-    requires { ⌜ count ≤ length (now out) ⌝ }
-{
-    io::write_all(fd, &out[..count]);
-}
-
-// A place for an answer: behind the last one, or the start once what a full buffer holds is written.
-fn room(out: &[u8; 65536], at: usize) -> usize
-    requires { ⌜ at ≤ 65536 ⌝ }
-    ensures { λ r. ⌜ r ≤ 40000 ⌝ }
-{
-    if at <= 40000 {
-        return at;
-    }
-    write_first(STDOUT_FILENO, out, at);
-    0
-}
 
 // How many runs are done, on standard error: at every 64th.
 fn progress(number: u64) {
@@ -85,12 +64,14 @@ fn settled(before: Work, tabular: bool, next: Next, out: &mut [u8; 65536], at: u
 }
 
 // Behind an observation, which a table does not show.
-fn looked(before: Work, tabular: bool, at: usize, end: usize) -> Work
-    requires { ⌜ (at ≤ 65536) × (end ≤ 65536) ⌝ }
+fn looked(before: Work, tabular: bool, end: usize) -> Work
+    requires { ⌜ (before .at ≤ 40000) × (end ≤ 65536) ⌝ }
     ensures { λ r. ⌜ r .at ≤ 65536 ⌝ }
 {
     let mut after = before;
-    after.at = if tabular { at } else { end };
+    if !tabular {
+        after.at = end;
+    }
     after
 }
 
@@ -113,15 +94,15 @@ fn take_line(
     receive: &mut [u8; 196608],
     received: &mut [u32; 576000],
     sending: &mut [u32; 576000],
-    bytes: &mut [u8; 8192],
+    bytes: &mut [u8; 32768],
     out: &mut [u8; 65536],
 ) -> Work
-    requires { ⌜ before .at ≤ 65536 ⌝ }
+    requires { ⌜ before .at ≤ 40000 ⌝ }
     requires { ⌜ (from ≤ end) × (end ≤ length (now text)) ⌝ }
     ensures { λ r. ⌜ r .at ≤ 65536 ⌝ }
 {
     let line = &text[from..end];
-    let at = room(&*out, before.at);
+    let at = before.at;
     let run = before.run;
     if lines::is_look(run.live, run.stopped, line) {
         let last = lines::observe(
@@ -140,7 +121,7 @@ fn take_line(
             out,
             at,
         );
-        return looked(before, tabular, at, last);
+        return looked(before, tabular, last);
     }
     let next = lines::answer(
         run,
@@ -158,7 +139,8 @@ fn take_line(
         at,
     );
     lines::clear_all(
-        next.run.live & (next.run.number != run.number),
+        next.run.number != run.number,
+        lines::used_by(run),
         setups,
         midi,
         serial,
@@ -199,21 +181,6 @@ fn take_line(
     }
 }
 
-// The place of the next line end before `count`, or `count`.
-fn line_end(text: &[u8], from: usize, count: usize) -> usize
-    requires { ⌜ (from ≤ count) × (count ≤ length (now text)) ⌝ }
-    ensures { λ r. ⌜ (from ≤ r) × (r ≤ count) ⌝ }
-{
-    let mut i = from;
-    while i < count {
-        if text[i] == b'\n' {
-            return i;
-        }
-        i += 1;
-    }
-    i
-}
-
 // The good `w` line that stands whole from `from` on, taken: where the next one begins, or `from` where there is none.
 fn take_store(
     text: &[u8],
@@ -226,7 +193,7 @@ fn take_store(
     requires { ⌜ (from ≤ count) × (count ≤ length (now text)) ⌝ }
     ensures { λ r. ⌜ (from ≤ r) × (r ≤ count) ⌝ }
 {
-    let end = line_end(text, from, count);
+    let end = stdio::line_end(text, from, count);
     if end < count {
         let line = &text[from..end];
         if script::parse::letter(line) == b'w' {
@@ -281,74 +248,7 @@ fn pass_stores(
     from
 }
 
-// Moves what stands from `used` to `end` to the front, and says how much that is.
-fn shift(text: &mut [u8; 65536], used: usize, end: usize) -> usize
-    requires { ⌜ (used ≤ end) × (end ≤ 65536) ⌝ }
-    ensures { λ r. ⌜ r ≡ end - used ⌝ }
-{
-    let count = end - used;
-    let mut i = 0;
-    while i < count {
-        text[i] = text[used + i];
-        i += 1;
-    }
-    i
-}
-
-// Where reading stands: the line from `from` to `end`, what is not taken yet from `next` to `held`, and whether there may be more.
-struct Place {
-    from: usize,
-    end: usize,
-    next: usize,
-    held: usize,
-    more: bool,
-}
-
-// Reads once, behind what a text holds, and says where it then ends.
-fn read_behind(text: &mut [u8], held: usize) -> usize
-    requires { ⌜ held ≤ 65536 ⌝ }
-    requires { ⌜ length (now text) ≡ 65536 ⌝ }
-    ensures { λ r. ⌜ (held ≤ r) × (r ≤ 65536) ⌝ }
-{
-    let got = libc::read(STDIN_FILENO, &mut text[held..]);
-    held + io::count(got, &text[held..])
-}
-
-// Reads once, behind a line that goes on; the last line is one that no line end follows. A line that fills the buffer goes on too far: it is bad.
-fn refill(text: &mut [u8; 65536], used: usize, held: usize) -> Place
-    requires { ⌜ (used ≤ held) × (held ≤ 65536) ⌝ }
-    ensures { λ r. ⌜ ((r .from ≤ r .end) × (r .end ≤ 65536)) × ((r .next ≤ r .held) × (r .held ≤ 65536)) ⌝ }
-{
-    let left = shift(text, used, held);
-    if left == 65536 {
-        return Place {
-            from: 0,
-            end: left,
-            next: left,
-            held: left,
-            more: true,
-        };
-    }
-    let end = read_behind(text, left);
-    if end == left {
-        return Place {
-            from: 0,
-            end,
-            next: end,
-            held: end,
-            more: 0 < end,
-        };
-    }
-    Place {
-        from: 0,
-        end: 0,
-        next: 0,
-        held: end,
-        more: true,
-    }
-}
-
-// The next line that is whole; the stores before it are taken. It is an empty one where the text is read on, or microframes are left.
+// The next line; the stores before it are taken. It is an empty one where the text is read on, or microframes are left.
 fn next_line(
     before: Place,
     left: u64,
@@ -364,38 +264,20 @@ fn next_line(
 {
     let held = before.held;
     if left > 0 {
-        return Place {
-            from: 0,
-            end: 0,
-            next: before.next,
-            held,
-            more: true,
-        };
+        return stdio::no_line(before.next, held);
     }
     let next = pass_stores(live, &*text, before.next, held, memory, dynamic, sram, page);
-    let end = line_end(&*text, next, held);
-    if end < held {
-        return Place {
-            from: next,
-            end,
-            next: end + 1,
-            held,
-            more: true,
-        };
-    }
-    refill(text, next, held)
+    stdio::next_line(text, next, held)
 }
 
 // The end of a table: the last run's row, the sums, and what stopped it.
 fn end_table(work: Work, out: &mut [u8; 65536]) -> usize
-    requires { ⌜ work .at ≤ 65536 ⌝ }
+    requires { ⌜ work .at ≤ 40000 ⌝ }
     ensures { λ r. ⌜ r ≤ 65536 ⌝ }
 {
     let run = work.run;
-    let at = room(&*out, work.at);
-    let summed = table::end_run(run, work.sums, out, at);
-    let next = room(&*out, summed.at);
-    let end = table::end_all(summed.sums, out, next);
+    let summed = table::end_run(run, work.sums, out, work.at);
+    let end = table::end_all(summed.sums, out, summed.at);
     if run.stopped {
         return script::text::append(out, end, b"bad line\n");
     }
@@ -404,7 +286,7 @@ fn end_table(work: Work, out: &mut [u8; 65536]) -> usize
 
 // Nothing is counted yet; a table begins with its heading, and its runs go on where a byte was dropped.
 fn start(tabular: bool, out: &mut [u8; 65536]) -> Work
-    ensures { λ r. ⌜ r .at ≤ 65536 ⌝ }
+    ensures { λ r. ⌜ r .at ≤ 40000 ⌝ }
 {
     let run = calls::fresh(0, false, tabular, 0, 0, usbhost::no_settings());
     let sums = table::row_of(run);
@@ -415,20 +297,45 @@ fn start(tabular: bool, out: &mut [u8; 65536]) -> Work
     Work { run, at, sums }
 }
 
-// Writes what is not written yet, and before that ends a table.
-fn write_rest(tabular: bool, work: Work, out: &mut [u8; 65536])
-    requires { ⌜ work .at ≤ 65536 ⌝ }
+// Where the text ends: a table that is whole gets its end.
+fn ended(whole_table: bool, work: Work, out: &mut [u8; 65536]) -> usize
+    requires { ⌜ work .at ≤ 40000 ⌝ }
+    ensures { λ r. ⌜ r ≤ 65536 ⌝ }
 {
-    if tabular {
-        let end = end_table(work, out);
-        write_first(STDOUT_FILENO, out, end);
-        return;
+    if whole_table {
+        return end_table(work, out);
     }
-    write_first(STDOUT_FILENO, out, work.at);
+    work.at
 }
 
-// The whole script: its log, or the table of its runs.
-pub fn run_areas(
+// Writes what is not written yet, and says what could not be read or written.
+fn finish(tabular: bool, unread: bool, unwritten: bool, work: Work, out: &mut [u8; 65536])
+    requires { ⌜ work .at ≤ 40000 ⌝ }
+{
+    let end = ended(tabular & !unread, work, out);
+    if tabular {
+        stdio::finish(
+            unread,
+            unwritten,
+            out,
+            end,
+            b"tabulate: standard input could not be read; the table is not whole\n",
+            b"tabulate: standard output could not be written; the table is not whole\n",
+        );
+        return;
+    }
+    stdio::finish(
+        unread,
+        unwritten,
+        out,
+        end,
+        b"replay: standard input could not be read; the log is not whole\n",
+        b"replay: standard output could not be written; the log is not whole\n",
+    );
+}
+
+// The whole script, over its areas.
+fn run_areas(
     tabular: bool,
     text: &mut [u8; 65536],
     setups: &mut [u8; 2056],
@@ -443,23 +350,19 @@ pub fn run_areas(
     receive: &mut [u8; 196608],
     received: &mut [u32; 576000],
     sending: &mut [u32; 576000],
-    bytes: &mut [u8; 8192],
+    bytes: &mut [u8; 32768],
     out: &mut [u8; 65536],
 ) {
     let mut work = start(tabular, out);
-    let mut place = Place {
-        from: 0,
-        end: 0,
-        next: 0,
-        held: 0,
-        more: true,
-    };
+    let mut place = stdio::no_line(0, 0);
+    let mut failed = false;
+    let mut more = true;
     let mut turns = u64::MAX;
-    while turns > 0 && place.more {
+    while turns > 0 && more {
         place = next_line(
             place,
             work.run.left,
-            work.run.live & !work.run.stopped,
+            work.run.live,
             work.run.length,
             text,
             dynamic,
@@ -487,7 +390,48 @@ pub fn run_areas(
             bytes,
             out,
         );
+        let answers = stdio::room(&*out, work.at);
+        work.at = answers.at;
+        failed = answers.failed;
+        more = place.more & !(failed | work.run.stopped);
         turns -= 1;
     }
-    write_rest(tabular, work, out);
+    finish(tabular, place.failed, failed, work, out);
+}
+
+// The script on standard input, up to a bad line: its log, or the table of its runs.
+pub fn run(tabular: bool) {
+    let mut text = [0u8; 65536];
+    let mut setups = [0u8; 2056];
+    let mut midi = [0u8; 4096];
+    let mut serial = [0u8; 4096];
+    let mut device = [0u8; 64];
+    let mut dynamic = [0u8; 1048576];
+    let mut sram = [0u8; 65536];
+    let mut page = [0u8; 4096];
+    let mut reply = [0u8; 65535];
+    let mut config = [0u8; 65535];
+    let mut receive = [0u8; 196608];
+    let mut received = [0u32; 576000];
+    let mut sending = [0u32; 576000];
+    let mut bytes = [0u8; 32768];
+    let mut out = [0u8; 65536];
+    run_areas(
+        tabular,
+        &mut text,
+        &mut setups,
+        &mut midi,
+        &mut serial,
+        &mut device,
+        &mut dynamic,
+        &mut sram,
+        &mut page,
+        &mut reply,
+        &mut config,
+        &mut receive,
+        &mut received,
+        &mut sending,
+        &mut bytes,
+        &mut out,
+    );
 }

@@ -1,1 +1,2 @@
+pub mod Cleared
 pub mod Fnv

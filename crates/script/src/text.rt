@@ -57,6 +57,23 @@ pub fn field(out: &mut [u8; 65536], at: usize, n: u64) -> usize
     end
 }
 
+// A number in decimal.
+pub fn decimal(out: &mut [u8; 65536], at: usize, n: u64) -> usize
+    requires { ⌜ at + 20 ≤ 65536 ⌝ }
+    ensures { λ r. ⌜ r ≤ at + 20 ⌝ }
+{
+    let mut digits = [b'0'; 20];
+    let mut i: usize = 19;
+    digits[19] = b'0' + (n % 10) as u8;
+    let mut rest = n / 10;
+    while i > 0 && rest > 0 {
+        i -= 1;
+        digits[i] = b'0' + (rest % 10) as u8;
+        rest = rest / 10;
+    }
+    append(out, at, &digits[i..])
+}
+
 // A space and 0 or 1.
 pub fn flag(out: &mut [u8; 65536], at: usize, on: bool) -> usize
     requires { ⌜ at + 17 ≤ 65536 ⌝ }

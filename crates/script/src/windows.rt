@@ -4,12 +4,29 @@ use crate::text;
 use std::num::wrapping_add_u32;
 ghost use Prim.Native.Nat.{_+_, _*_, _≤_};
 ghost use lib.ListN.{length};
+ghost use mathlib.Core.Path.{_≡_};
+ghost use Rattle.script.specs.Cleared.{cleared};
 
-// Zeros.
-pub fn clear(bytes: &mut [u8]) {
+// The first bytes of a buffer become zeros.
+pub fn clear(bytes: &mut [u8], count: usize)
+    requires { ⌜ count ≤ length (now bytes) ⌝ }
+    ensures { λ _. ⌜ now (bytes .exit) ≡ cleared count (now (bytes .entry)) ⌝ }
+{
     let mut i = 0;
-    while i < bytes.len() {
+    while i < count {
         bytes[i] = 0;
+        i += 1;
+    }
+}
+
+// The same of a ring's words.
+pub fn clear_words(words: &mut [u32], count: usize)
+    requires { ⌜ (count ≤ length (now words)) × (count ≤ 576000) ⌝ }
+    ensures { λ _. ⌜ now (words .exit) ≡ cleared count (now (words .entry)) ⌝ }
+{
+    let mut i = 0;
+    while i < count {
+        words[i] = 0;
         i += 1;
     }
 }

@@ -12,10 +12,11 @@ use script::hash;
 use script::parse;
 use script::text;
 use script::windows;
+use usbhost::TakenFrame;
 
 // What a run holds beside its areas: `length` bytes of dynamic memory, `space` frames of the sending ring, the microframes that are still asked
-// for, how many calls were refused and bytes dropped, and what came in all. A run that is not live passes over its lines; behind a bad line all
-// lines are passed over. A run that goes `through` stays live where a byte was dropped.
+// for, how many calls were refused, bytes dropped and frames given, and what came in all. A run that is not live passes over its lines; behind a
+// bad line all lines are passed over. A run that goes `through` stays live where a byte was dropped.
 pub struct Run {
     pub number: u64,
     pub live: bool,
@@ -29,6 +30,7 @@ pub struct Run {
     pub step: u64,
     pub refused: u64,
     pub dropped: u64,
+    pub given: u64,
     pub settings: Settings,
     pub state: State,
     pub packer: Packer,
@@ -63,6 +65,7 @@ pub fn fresh(
         step: 0,
         refused: 0,
         dropped: 0,
+        given: 0,
         settings,
         state: usbhost::new_state(),
         packer: Packer::new(),
@@ -99,7 +102,7 @@ fn stored(run: Run, state: State, refusal: u8, out: &mut [u8; 65536], at: usize)
     ensures { λ r. ⌜ r .at ≤ 65536 ⌝ }
 {
     let end = text::outcome(out, at, refusal);
-    let refused = turns::counted(run.refused, refusal);
+    let refused = turns::counted(run.refused, refusal != 0);
     let mut next = with_state(run, state);
     next.refused = refused;
     Next { run: next, at: end }
@@ -325,7 +328,7 @@ fn send(
     setups: &[u8; 2056],
     midi: &mut [u8; 4096],
     serial: &mut [u8; 4096],
-    bytes: &mut [u8; 8192],
+    bytes: &mut [u8; 32768],
     out: &mut [u8; 65536],
     at: usize,
 ) -> Next
@@ -366,6 +369,16 @@ fn read_frame(line: &[u8]) -> Frame {
     }
 }
 
+// What a frame given answers; one that was taken counts.
+fn gave(run: Run, state: State, refusal: u8, out: &mut [u8; 65536], at: usize) -> Next
+    requires { ⌜ at ≤ 40000 ⌝ }
+    ensures { λ r. ⌜ r .at ≤ 65536 ⌝ }
+{
+    let mut next = run;
+    next.given = turns::counted(run.given, refusal == 0);
+    stored(next, state, refusal, out, at)
+}
+
 // `g W0 .. W11`: a frame given.
 fn frame_give(
     run: Run,
@@ -390,7 +403,7 @@ fn frame_give(
             setups,
             &mut sending[..space],
         );
-        return stored(run, given.state, given.refusal, out, at);
+        return gave(run, given.state, given.refusal, out, at);
     }
     bad(run, out, at)
 }
@@ -420,6 +433,9 @@ fn frame_take(
     ensures { λ r. ⌜ r .at ≤ 65536 ⌝ }
 {
     let taken = usbhost::take_frame(run.state, run.settings.spans, run.packer, setups, received);
+    if taken.refusal != 0 {
+        return stored(run, taken.state, taken.refusal, out, at);
+    }
     if taken.empty {
         let end = text::append(out, at, b"t empty\n");
         return Next { run, at: end };
@@ -432,14 +448,27 @@ fn frame_take(
     }
 }
 
-// Frames taken: how many, and the hash of their words.
+// Frames taken: how many, the hash of their words, and the number of a call that was refused, or 0.
 struct Drained {
     state: State,
     count: u64,
     hash: u64,
+    refusal: u8,
 }
 
-// One frame more, unless there is none.
+// One frame more.
+fn with_frame(before: Drained, taken: TakenFrame) -> Drained {
+    let state = taken.state;
+    let words = taken.frame;
+    Drained {
+        state,
+        count: std::num::wrapping_add_u64(before.count, 1),
+        hash: log::mixed_frame(before.hash, &words, 0),
+        refusal: 0,
+    }
+}
+
+// The same, unless there is none or the call is refused.
 fn drain_one(
     before: Drained,
     spans: usize,
@@ -448,16 +477,12 @@ fn drain_one(
     received: &[u32],
 ) -> Drained {
     let taken = usbhost::take_frame(before.state, spans, packer, setups, received);
-    if taken.empty {
-        return before;
+    if taken.empty | (taken.refusal != 0) {
+        let mut next = before;
+        next.refusal = taken.refusal;
+        return next;
     }
-    let state = taken.state;
-    let words = taken.frame;
-    Drained {
-        state,
-        count: std::num::wrapping_add_u64(before.count, 1),
-        hash: log::mixed_frame(before.hash, &words, 0),
-    }
+    with_frame(before, taken)
 }
 
 // Up to `most` frames, until the ring is empty.
@@ -477,12 +502,32 @@ fn drain(
         state,
         count: 0,
         hash: hash::START,
+        refusal: 0,
     };
-    while left > 0 {
+    while left > 0 && drained.refusal == 0 {
         drained = drain_one(drained, spans, packer, setups, received);
         left -= 1;
     }
     drained
+}
+
+// How many frames were taken and their hash, or the number of a refusal.
+fn show_drained(run: Run, drained: Drained, out: &mut [u8; 65536], at: usize) -> Next
+    requires { ⌜ at ≤ 40000 ⌝ }
+    ensures { λ r. ⌜ r .at ≤ 65536 ⌝ }
+{
+    let state = drained.state;
+    if drained.refusal != 0 {
+        return stored(run, state, drained.refusal, out, at);
+    }
+    let mut end = text::put(out, at, b'T');
+    end = text::field(out, end, drained.count);
+    end = text::field(out, end, drained.hash);
+    end = text::put(out, end, b'\n');
+    Next {
+        run: with_state(run, state),
+        at: end,
+    }
 }
 
 // `T COUNT`: up to that many frames taken.
@@ -507,14 +552,7 @@ fn frames_take(
             received,
             most.value,
         );
-        let mut end = text::put(out, at, b'T');
-        end = text::field(out, end, drained.count);
-        end = text::field(out, end, drained.hash);
-        end = text::put(out, end, b'\n');
-        return Next {
-            run: with_state(run, drained.state),
-            at: end,
-        };
+        return show_drained(run, drained, out, at);
     }
     bad(run, out, at)
 }
@@ -549,7 +587,7 @@ pub fn queue(
     serial: &mut [u8; 4096],
     received: &[u32],
     sending: &mut [u32; 576000],
-    bytes: &mut [u8; 8192],
+    bytes: &mut [u8; 32768],
     out: &mut [u8; 65536],
     at: usize,
 ) -> Next

@@ -12,10 +12,50 @@ use crate::turns::Turned;
 use record::State;
 use script::parse;
 use script::text;
+use script::windows;
 
-// Every area as it is at a run's start, where one starts.
+// How much a run may have written of its long areas: bytes of dynamic memory and of the receive area, words of the two rings.
+pub struct Used {
+    pub dynamic: usize,
+    pub receive: usize,
+    pub received: usize,
+    pub sending: usize,
+}
+
+// A ring is written from its start on, a frame behind the other.
+pub fn used_by(run: Run) -> Used
+    ensures { λ r. ⌜ ((r .dynamic ≤ 1048576) × (r .receive ≤ 196608)) × ((r .received ≤ 576000) × (r .sending ≤ 576000)) ⌝ }
+{
+    let all = run.all;
+    let came = std::num::wrapping_add_u64(all.midi, all.serial);
+    Used {
+        dynamic: log::at_most(run.length, 1048576),
+        receive: log::at_most(came as usize, 196608),
+        received: calls::ring_words(run.state.stats.in_frames as usize, 576000),
+        sending: calls::ring_words(run.given as usize, 576000),
+    }
+}
+
+// Zeros where the run that ended may have written, so that the next one finds every area zero.
+pub fn clear_used(
+    used: Used,
+    dynamic: &mut [u8; 1048576],
+    receive: &mut [u8; 196608],
+    received: &mut [u32; 576000],
+    sending: &mut [u32; 576000],
+)
+    requires { ⌜ ((used .dynamic ≤ 1048576) × (used .receive ≤ 196608)) × ((used .received ≤ 576000) × (used .sending ≤ 576000)) ⌝ }
+{
+    windows::clear(dynamic, used.dynamic);
+    windows::clear(receive, used.receive);
+    windows::clear_words(received, used.received);
+    windows::clear_words(sending, used.sending);
+}
+
+// Every area as it is at a run's start, where one ended that used so much.
 pub fn clear_all(
-    starts: bool,
+    ended: bool,
+    used: Used,
     setups: &mut [u8; 2056],
     midi: &mut [u8; 4096],
     serial: &mut [u8; 4096],
@@ -28,22 +68,21 @@ pub fn clear_all(
     receive: &mut [u8; 196608],
     received: &mut [u32; 576000],
     sending: &mut [u32; 576000],
-) {
-    if !starts {
+)
+    requires { ⌜ ((used .dynamic ≤ 1048576) × (used .receive ≤ 196608)) × ((used .received ≤ 576000) × (used .sending ≤ 576000)) ⌝ }
+{
+    if !ended {
         return;
     }
     *setups = [0u8; 2056];
     *midi = [0u8; 4096];
     *serial = [0u8; 4096];
     *device = [0u8; 64];
-    *dynamic = [0u8; 1048576];
     *sram = [0u8; 65536];
     *page = [0u8; 4096];
     *reply = [0u8; 65535];
     *config = [0u8; 65535];
-    *receive = [0u8; 196608];
-    *received = [0u32; 576000];
-    *sending = [0u32; 576000];
+    clear_used(used, dynamic, receive, received, sending);
 }
 
 // The answer to a line that starts a run, or passes over it.
@@ -67,7 +106,7 @@ fn started_run(number: u64, through: bool, started: Start) -> Run {
     calls::fresh(number, true, through, length, started.space, settings)
 }
 
-// `n ..`: a new run, whose areas are to be cleared.
+// `n ..`: a new run.
 fn new_run(run: Run, line: &[u8], out: &mut [u8; 65536], at: usize) -> Next
     requires { ⌜ at ≤ 40000 ⌝ }
     ensures { λ r. ⌜ r .at ≤ 65536 ⌝ }
@@ -206,7 +245,7 @@ pub fn answer(
     page: &mut [u8; 4096],
     received: &[u32; 576000],
     sending: &mut [u32; 576000],
-    bytes: &mut [u8; 8192],
+    bytes: &mut [u8; 32768],
     out: &mut [u8; 65536],
     at: usize,
 ) -> Next

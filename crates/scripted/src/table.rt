@@ -54,30 +54,13 @@ pub fn added(a: Row, b: Row) -> Row {
     }
 }
 
-// A number in decimal.
-pub fn decimal(out: &mut [u8; 65536], at: usize, n: u64) -> usize
-    requires { ⌜ at + 20 ≤ 65536 ⌝ }
-    ensures { λ r. ⌜ r ≤ at + 20 ⌝ }
-{
-    let mut digits = [b'0'; 20];
-    let mut i: usize = 19;
-    digits[19] = b'0' + (n % 10) as u8;
-    let mut rest = n / 10;
-    while i > 0 && rest > 0 {
-        i -= 1;
-        digits[i] = b'0' + (rest % 10) as u8;
-        rest = rest / 10;
-    }
-    text::append(out, at, &digits[i..])
-}
-
 // A tab and a number.
 fn cell(out: &mut [u8; 65536], at: usize, n: u64) -> usize
     requires { ⌜ at + 21 ≤ 65536 ⌝ }
     ensures { λ r. ⌜ r ≤ at + 21 ⌝ }
 {
     let end = text::put(out, at, b'\t');
-    decimal(out, end, n)
+    text::decimal(out, end, n)
 }
 
 // The cells of the audio stream.
@@ -146,7 +129,7 @@ pub fn end_run(run: Run, sums: Row, out: &mut [u8; 65536], at: usize) -> Summed
     if run.number == 0 {
         return Summed { sums, at };
     }
-    let end = decimal(out, at, run.number);
+    let end = text::decimal(out, at, run.number);
     if run.length == 0 {
         let last = text::append(out, end, b"\tskipped\n");
         return Summed { sums, at: last };
@@ -161,7 +144,7 @@ pub fn end_run(run: Run, sums: Row, out: &mut [u8; 65536], at: usize) -> Summed
 
 // The row of the sums.
 pub fn end_all(sums: Row, out: &mut [u8; 65536], at: usize) -> usize
-    requires { ⌜ at ≤ 40000 ⌝ }
+    requires { ⌜ at ≤ 40400 ⌝ }
     ensures { λ r. ⌜ r ≤ at + 400 ⌝ }
 {
     let end = text::append(out, at, b"all");

@@ -1,13 +1,11 @@
--- The loop keeps: the end is inside the buffer, which keeps its length.
-use Prim.Native.Nat.{_≤_, _<_, _-_}
-use mathlib.Core.Path.{_≡_}
-use lib.ListN.{length}
+-- The loop keeps: so many pairs have at most so many bytes.
+use Prim.Native.Nat.{_+_, _*_, _-_, _≤_}
 use borrow.Author.Needs.{needs}
 use Rattle.configlist.proofs.pairs.Statement.{statement}
 use Rattle.configlist.proofs.pairs.Tie as tie
 
 abbrev Inv-loop : tie.InvT-loop
-Inv-loop out₀ at interfaces alternates count end₀ i₀ out end i = (i ≤ count) × ((length out ≡ length out₀) × ((0 < length out) × (end ≤ length out)))
+Inv-loop out₀ at interfaces alternates count end₀ i₀ out end i = (i ≤ count) × (end ≤ at + 42 * i)
 
 abbrev μ-loop : tie.MeasureT-loop
 μ-loop out₀ at interfaces alternates count end₀ i₀ out end i = count - i
@@ -42,9 +40,6 @@ loop-less c = search needs
 loop-again : tie.Need-loop-again Inv-loop μ-loop
 loop-again c = search needs
 
-same-length : tie.Need-same-length Inv-loop μ-loop
-same-length c = search needs
-
 returns : tie.Need-returns Inv-loop μ-loop
 returns c = search needs
 
@@ -64,5 +59,4 @@ pairs-spec =
     add-i
     loop-less
     loop-again
-    same-length
     returns)

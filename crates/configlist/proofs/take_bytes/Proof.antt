@@ -1,4 +1,4 @@
--- The loop keeps the line inside its buffer, and the lengths of both buffers.
+-- The loop keeps the line inside its buffer, the buffer's length, and the answers' end.
 use Prim.Native.Nat.{_≤_, _<_, _-_}
 use mathlib.Core.Path.{_≡_}
 use lib.ListN.{length}
@@ -7,7 +7,7 @@ use Rattle.configlist.proofs.take_bytes.Statement.{statement}
 use Rattle.configlist.proofs.take_bytes.Tie as tie
 
 abbrev Inv-loop : tie.InvT-loop
-Inv-loop set₀ out₀ piece next₀ i₀ set out next i = (i ≤ length piece) × (((next .held ≤ length set) × (next .high < 16)) × ((length set ≡ length set₀) × ((length out ≡ length out₀) × (0 < length out))))
+Inv-loop set₀ out₀ piece next₀ i₀ set out next i = (i ≤ length piece) × ((((next .line .held ≤ length set) × (next .line .high < 16)) × (next .at ≤ 40000)) × (length set ≡ length set₀))
 
 abbrev μ-loop : tie.MeasureT-loop
 μ-loop set₀ out₀ piece next₀ i₀ set out next i = length piece - i
@@ -33,11 +33,14 @@ loop-again c = search needs
 same-length : tie.Need-same-length Inv-loop μ-loop
 same-length c = search needs
 
+returns : tie.Need-returns Inv-loop μ-loop
+returns c = search needs
+
 same-length-2 : tie.Need-same-length-2 Inv-loop μ-loop
 same-length-2 c = search needs
 
-returns : tie.Need-returns Inv-loop μ-loop
-returns c = search needs
+returns-2 : tie.Need-returns-2 Inv-loop μ-loop
+returns-2 c = search needs
 
 pub take-bytes-spec : {M : Type 1} → statement M
 take-bytes-spec =
@@ -52,5 +55,6 @@ take-bytes-spec =
     loop-less
     loop-again
     same-length
+    returns
     same-length-2
-    returns)
+    returns-2)

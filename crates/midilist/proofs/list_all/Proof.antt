@@ -6,13 +6,19 @@ use Rattle.midilist.proofs.list_all.Statement.{statement}
 use Rattle.midilist.proofs.list_all.Tie as tie
 
 abbrev Inv-loop : tie.InvT-loop
-Inv-loop text₀ s₀ turns₀ text s turns = 65536 ≡ length text
+Inv-loop text₀ more s₀ turns₀ text s turns = 65536 ≡ length text
 
 abbrev μ-loop : tie.MeasureT-loop
-μ-loop text₀ s₀ turns₀ text s turns = turns
+μ-loop text₀ more s₀ turns₀ text s turns = turns
 
 large-buffer-requires : tie.Need-large-buffer-requires Inv-loop μ-loop
 large-buffer-requires c κs = search needs
+
+slice-aggregate-write-all : tie.Need-slice-aggregate-write-all Inv-loop μ-loop
+slice-aggregate-write-all c = search needs
+
+write-all-requires : tie.Need-write-all-requires Inv-loop μ-loop
+write-all-requires c κs = search needs
 
 new-requires : tie.Need-new-requires Inv-loop μ-loop
 new-requires c κs = search needs
@@ -48,6 +54,8 @@ list-all-spec =
     Inv-loop
     μ-loop
     large-buffer-requires
+    slice-aggregate-write-all
+    write-all-requires
     new-requires
     loop-holds
     slice-aggregate-list-some

@@ -1,5 +1,4 @@
 -- `reader::take_line` meets its contract.
-use native.Mathlib.Omega.{arith}
 use borrow.Author.Needs.{needs}
 use Rattle.reader.proofs.take_line.Statement.{statement}
 use Rattle.reader.proofs.take_line.Tie as tie
@@ -13,9 +12,6 @@ part-line-start c = search needs
 part-line-end : tie.Need-part-line-end
 part-line-end c = search needs
 
-room-requires : tie.Need-room-requires
-room-requires c κs = search needs
-
 is-look-requires : tie.Need-is-look-requires
 is-look-requires c κs = search needs
 
@@ -23,7 +19,7 @@ observe-requires : tie.Need-observe-requires
 observe-requires c κs = search needs
 
 looked-requires : tie.Need-looked-requires
-looked-requires c κs = (omega (arith, c .before .before .before .before .before .before .before .before .before .before .before .before .before .before .before .before .before .before .before .before .before .before .before .before .before .before .before .room .ensures), c .observe .ensures)
+looked-requires c κs = (c .before .before .before .before .before .before .before .before .before .before .before .before .before .before .before .before .before .before .before .before .before .before .before .before .before .before .before .before .before .pre .0, c .observe .ensures)
 
 returns : tie.Need-returns
 returns c = search needs
@@ -31,11 +27,14 @@ returns c = search needs
 answer-requires : tie.Need-answer-requires
 answer-requires c κs = search needs
 
+used-by-requires : tie.Need-used-by-requires
+used-by-requires c κs = search needs
+
 clear-all-requires : tie.Need-clear-all-requires
 clear-all-requires c κs = search needs
 
 settled-requires : tie.Need-settled-requires
-settled-requires c κs = (c .before .before .before .before .before .before .before .before .before .before .before .before .before .before .before .before .before .before .before .before .before .before .before .before .before .before .before .before .before .before .before .room .ensures, c .before .before .before .before .before .before .before .before .before .before .before .before .before .before .before .before .before .answer .ensures)
+settled-requires c κs = (c .before .before .before .before .before .before .before .before .before .before .before .before .before .before .before .before .before .before .before .before .before .before .before .before .before .before .before .before .before .before .before .before .before .pre .0, c .before .before .before .before .before .before .before .before .before .before .before .before .before .before .before .before .before .answer .ensures)
 
 go-on-requires : tie.Need-go-on-requires
 go-on-requires c κs = search needs
@@ -50,12 +49,12 @@ take-line-spec =
     sub-line
     part-line-start
     part-line-end
-    room-requires
     is-look-requires
     observe-requires
     looked-requires
     returns
     answer-requires
+    used-by-requires
     clear-all-requires
     settled-requires
     go-on-requires

@@ -28,6 +28,9 @@ loop-again c = search needs
 returns : tie.Need-returns Inv-loop μ-loop
 returns c = search needs
 
+returns-2 : tie.Need-returns-2 Inv-loop μ-loop
+returns-2 c = search needs
+
 pub drain-spec : {M : Type 1} → statement M
 drain-spec =
     tie.close
@@ -39,4 +42,5 @@ drain-spec =
     sub-left
     loop-less
     loop-again
-    returns)
+    returns
+    returns-2)

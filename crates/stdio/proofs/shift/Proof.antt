@@ -1,8 +1,8 @@
--- `reader::shift` meets its contract: so many bytes were moved.
+-- `stdio::shift` meets its contract: so many bytes were moved.
 use Prim.Native.Nat.{_≤_, _-_}
 use borrow.Author.Needs.{needs}
-use Rattle.reader.proofs.shift.Statement.{statement}
-use Rattle.reader.proofs.shift.Tie as tie
+use Rattle.stdio.proofs.shift.Statement.{statement}
+use Rattle.stdio.proofs.shift.Tie as tie
 
 abbrev Inv-loop : tie.InvT-loop
 Inv-loop text₀ used end count i₀ text i = i ≤ end - used

@@ -1,10 +1,10 @@
--- `scripted::table::decimal` meets its contract: the digits found stand in their array.
+-- `script::text::decimal` meets its contract: the digits found stand in their array.
 use Prim.Native.Nat.{_≤_}
 use mathlib.Core.Path.{_≡_}
 use lib.ListN.{length}
 use borrow.Author.Needs.{needs}
-use Rattle.scripted.proofs.table.decimal.Statement.{statement}
-use Rattle.scripted.proofs.table.decimal.Tie as tie
+use Rattle.script.proofs.text.decimal.Statement.{statement}
+use Rattle.script.proofs.text.decimal.Tie as tie
 
 abbrev Inv-loop : tie.InvT-loop
 Inv-loop out at n digits₀ i₀ rest₀ digits i rest = (i ≤ 19) × (length digits ≡ 20)

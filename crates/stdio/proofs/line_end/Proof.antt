@@ -1,8 +1,8 @@
--- `reader::line_end` meets its contract: no line end was before.
+-- `stdio::line_end` meets its contract: no line end was before.
 use Prim.Native.Nat.{_≤_, _-_}
 use borrow.Author.Needs.{needs}
-use Rattle.reader.proofs.line_end.Statement.{statement}
-use Rattle.reader.proofs.line_end.Tie as tie
+use Rattle.stdio.proofs.line_end.Statement.{statement}
+use Rattle.stdio.proofs.line_end.Tie as tie
 
 abbrev Inv-loop : tie.InvT-loop
 Inv-loop text from count i₀ i = (from ≤ i) × (i ≤ count)

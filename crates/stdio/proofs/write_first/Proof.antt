@@ -1,9 +1,9 @@
--- What is written is a part of the buffer.
+-- `stdio::write_first` meets its contract: what is written is a part of the buffer.
 use mathlib.Core.Path.{sym}
 use lib.Seq.{length-take-le}
 use borrow.Author.Needs.{needs}
-use Rattle.leaves.proofs.write_first.Statement.{statement}
-use Rattle.leaves.proofs.write_first.Tie as tie
+use Rattle.stdio.proofs.write_first.Statement.{statement}
+use Rattle.stdio.proofs.write_first.Tie as tie
 
 slice-aggregate-write-all : tie.Need-slice-aggregate-write-all
 slice-aggregate-write-all c = sym (length-take-le (c .before .before .args .count) (c .before .before .args .out .now) (c .before .before .pre))
