@@ -140,7 +140,12 @@ fn take_line(
     );
     lines::clear_all(
         next.run.number != run.number,
-        lines::used_by(run),
+        lines::used_by(
+            run.length,
+            std::num::wrapping_add_u64(run.all.midi, run.all.serial),
+            run.state.stats.in_frames,
+            run.given,
+        ),
         setups,
         midi,
         serial,

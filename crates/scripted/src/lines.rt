@@ -22,17 +22,16 @@ pub struct Used {
     pub sending: usize,
 }
 
-// A ring is written from its start on, a frame behind the other.
-pub fn used_by(run: Run) -> Used
+// The same of a run with so much memory, after so many bytes and frames came in all and so many frames were given: a ring is written from its
+// start on, a frame behind the other.
+pub fn used_by(length: usize, bytes: u64, frames: u64, given: u64) -> Used
     ensures { λ r. ⌜ ((r .dynamic ≤ 1048576) × (r .receive ≤ 196608)) × ((r .received ≤ 576000) × (r .sending ≤ 576000)) ⌝ }
 {
-    let all = run.all;
-    let came = std::num::wrapping_add_u64(all.midi, all.serial);
     Used {
-        dynamic: log::at_most(run.length, 1048576),
-        receive: log::at_most(came as usize, 196608),
-        received: calls::ring_words(run.state.stats.in_frames as usize, 576000),
-        sending: calls::ring_words(run.given as usize, 576000),
+        dynamic: log::at_most(length, 1048576),
+        receive: log::at_most(bytes as usize, 196608),
+        received: calls::ring_words(frames as usize, 576000),
+        sending: calls::ring_words(given as usize, 576000),
     }
 }
 
