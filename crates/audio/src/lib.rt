@@ -11,6 +11,7 @@ ghost use Rattle.blocks.specs.Promises.{InRing, withDecoded};
 ghost use Rattle.audio.specs.Promises as P;
 use blocks::Decoded;
 use dtd::Found;
+use record::Audio;
 use record::State;
 use sending::encode;
 use std::num::wrapping_add_u16;
@@ -48,7 +49,7 @@ fn pace(dynamic: &[u8], sram: &[u8], page: &[u8], budget: u64) -> Paced
         };
     }
     let total = usbdev::total(dtd::token_of(dynamic, sram, page, td)) as u64;
-    let grown = wrapping_add_u64(budget, blocks::BLOCK as u64);
+    let grown = wrapping_add_u64(budget, Audio::BLOCK as u64);
     if grown < total {
         return Paced {
             budget: grown,
@@ -176,14 +177,14 @@ fn after_block(s: State, capacity: usize) -> State
     ensures { λ r. ⌜ r ≡ P.sentBlock s capacity ⌝ }
 {
     let ring = s.audio.sending;
-    let count = dtd::fewer(blocks::FRAMES, ring.len);
-    let missing = (blocks::FRAMES - count) as u64;
+    let count = dtd::fewer(Audio::FRAMES_PER_BLOCK, ring.len);
+    let missing = (Audio::FRAMES_PER_BLOCK - count) as u64;
     let start = blocks::place(ring.start, count, capacity);
-    let counter = wrapping_add_u16(s.audio.counter, 7);
+    let counter = wrapping_add_u16(s.audio.counter, Audio::FRAMES_PER_BLOCK as u16);
     let underruns = wrapping_add_u64(s.stats.out_underruns, missing);
     let transfers = wrapping_add_u64(s.stats.out_transfers, 1);
-    let frames = wrapping_add_u64(s.stats.out_frames, 7);
-    let credit = s.audio.credit - 7;
+    let frames = wrapping_add_u64(s.stats.out_frames, Audio::FRAMES_PER_BLOCK as u64);
+    let credit = s.audio.credit - Audio::FRAMES_PER_BLOCK as u64;
     let len = ring.len - count;
     let mut next = s;
     next.audio.counter = counter;
@@ -214,7 +215,7 @@ fn send_block(
 {
     let mut block = [0u8; 2048];
     let channels = s.audio.channels as usize;
-    let capacity = sending.len() / blocks::CHANNELS;
+    let capacity = sending.len() / Audio::CHANNELS;
     let ring = s.audio.sending;
     encode(
         &mut block,
@@ -262,7 +263,7 @@ pub fn stream_out(
     requires { ⌜ P.CanSend s (now sending) ⌝ }
     ensures { λ r. ⌜ P.Outputs Steps.streamOut s (shown (dynamic .entry) (sram .entry) (page .entry)) (now (sending .entry)) r (shown (dynamic .exit) (sram .exit) (page .exit)) ⌝ }
 {
-    if s.audio.credit < 7 {
+    if s.audio.credit < Audio::FRAMES_PER_BLOCK as u64 {
         return s;
     }
     match dtd::find(&*dynamic, &*sram, &*page, 3, false, AUDIO_OUT) {

@@ -9,15 +9,9 @@ ghost use Rattle.transfer.specs.Transfer.{bytesIn, bytesFrom};
 ghost use Rattle.record.specs.Change.{ringedPlace};
 ghost use Rattle.model.specs.Audio.{wordsOf, keepsBlock, keepsBlocks, blocksOf};
 ghost use Rattle.blocks.specs.Promises.{InRing, Keeps, KeepsFrames, oneBad, oneGood};
+use record::Audio;
 use record::Ring;
 use std::num::wrapping_add_u64;
-
-// Bytes of a received block, its frames, and the words of a frame.
-pub const BLOCK: usize = 368;
-
-pub const FRAMES: usize = 7;
-
-pub const CHANNELS: usize = 12;
 
 // How many frames the received ring has room for.
 pub const RECEIVED: usize = 48000;
@@ -58,8 +52,11 @@ fn decode_frame(block: &[u8], f: usize, received: &mut [u32], at: usize)
     ensures { λ _. ⌜ now (received .exit) ≡ sets (now (received .entry)) (at * 12) (wordsOf (take 48 (drop (48 * f) (drop 32 (now (block .entry)))))) ⌝ }
 {
     let mut c = 0;
-    while c < CHANNELS {
-        received[CHANNELS * at + c] = bus::word_at(block, 32 + 4 * (CHANNELS * f + c));
+    while c < Audio::CHANNELS {
+        received[Audio::CHANNELS * at + c] = bus::word_at(
+            block,
+            32 + 4 * (Audio::CHANNELS * f + c),
+        );
         c += 1;
     }
 }
@@ -72,7 +69,7 @@ fn decode_frames(block: &[u8], received: &mut [u32], before: Ring) -> Ring
 {
     let mut ring = before;
     let mut f = 0;
-    while f < FRAMES {
+    while f < Audio::FRAMES_PER_BLOCK {
         let at = place(ring.start, ring.len, RECEIVED);
         decode_frame(block, f, received, at);
         ring = pushed(ring);
@@ -104,8 +101,8 @@ fn one_good(d: Decoded, ring: Ring) -> Decoded
 {
     Decoded {
         ring,
-        credit: wrapping_add_u64(d.credit, FRAMES as u64),
-        frames: wrapping_add_u64(d.frames, FRAMES as u64),
+        credit: wrapping_add_u64(d.credit, Audio::FRAMES_PER_BLOCK as u64),
+        frames: wrapping_add_u64(d.frames, Audio::FRAMES_PER_BLOCK as u64),
         bad: d.bad,
     }
 }
@@ -125,7 +122,7 @@ fn decode_block(
     requires { ⌜ InRing (d .ring) × (length (now received) ≡ 576000) ⌝ }
     ensures { λ r. ⌜ Keeps (keepsBlock (bytesFrom (shown (dynamic .entry) (sram .entry) (page .entry)) (now (pointers .entry)) from 368)) d (now (received .entry)) r (now (received .exit)) ⌝ }
 {
-    let mut block = [0u8; 368];
+    let mut block = [0u8; Audio::BLOCK];
     transfer::copy_part(dynamic, sram, page, pointers, from, &mut block);
     if block[0] != 7 {
         return one_bad(d);
@@ -151,13 +148,13 @@ pub fn decode_run(
     ensures { λ r. ⌜ Keeps (keepsBlocks (blocksOf (bytesIn (shown (dynamic .entry) (sram .entry) (page .entry)) (now (pointers .entry)) total))) before (now (received .entry)) r (now (received .exit)) ⌝ }
 {
     let mut d = before;
-    let blocks = total / BLOCK;
+    let blocks = total / Audio::BLOCK;
     let mut i = 0;
     while i < blocks {
-        d = decode_block(dynamic, sram, page, pointers, BLOCK * i, received, d);
+        d = decode_block(dynamic, sram, page, pointers, Audio::BLOCK * i, received, d);
         i += 1;
     }
-    if total % BLOCK != 0 {
+    if total % Audio::BLOCK != 0 {
         return one_bad(d);
     }
     d

@@ -202,7 +202,7 @@ pub fn credit_ok(credit: u64, n: u64) -> bool
     ensures { λ r. ⌜ r ≡ B.creditOk credit n ⌝ }
 {
     let most = 623 * at_most(n);
-    (credit % 7 == 0) & (credit <= most)
+    (credit % (Audio::FRAMES_PER_BLOCK as u64) == 0) & (credit <= most)
 }
 
 // A timer after n microframes.
@@ -232,7 +232,7 @@ pub fn audio_ok(a: Audio) -> bool
     if a.block < 33 {
         return false;
     }
-    let channels = (a.block - 32) / 28;
+    let channels = Audio::channels_in(a.block);
     (a.budget <= 32766) & ((a.block <= 2047) & (a.channels == channels))
 }
 

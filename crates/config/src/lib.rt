@@ -5,7 +5,7 @@ ghost use Prim.Native.Nat.{_+_, _≤_, _<_};
 ghost use lib.ListN.{length, take, replicate};
 ghost use lib.Dec.{ltb};
 ghost use Rattle.bits.specs.Pick.{pick};
-ghost use Rattle.config.specs.Config.{at as Config·at, step, walked, descriptors, start, parsed, outBlock};
+ghost use Rattle.config.specs.Config.{at as Config·at, step, walked, descriptors, start, parsed};
 ghost use Rattle.config.specs.Table.{position, takenAt, choosing, Held, Holds, Moves, tableOf};
 
 // The pairs of interface and alternate by first appearance, zero past the last, and the packet size of each direction.
@@ -47,19 +47,6 @@ pub fn parse_config(d: &[u8]) -> ConfigInfo
         ob_in_packet: p.input,
         ob_out_packet: p.output,
     }
-}
-
-// The block and the channels after a configuration with this output size.
-pub fn out_block(size: u32, old: OutBlock) -> OutBlock
-    ensures { λ r. ⌜ r ≡ outBlock size old ⌝ }
-{
-    if 32 < size {
-        return OutBlock {
-            block: size,
-            channels: (size - 32) / 28,
-        };
-    }
-    old
 }
 
 // All whole descriptors, one after another.

@@ -5,10 +5,12 @@ ghost use mathlib.Core.List.{List};
 ghost use Prim.Native.Nat.{ℕ, _+_, _*_, _<_, _≤_};
 ghost use lib.ListN.{length, take};
 ghost use lib.Seq.{sets};
+ghost use Rattle.config.specs.Config.{outBlock};
 ghost use Rattle.record.specs.Record.{withOn, withDevice, withConfig, withControl, withLengths};
 ghost use Rattle.model.specs.Control as C;
 ghost use Rattle.finished.specs.Promises as P;
 use config::OutBlock;
+use record::Audio;
 use record::Control;
 use record::State;
 
@@ -103,6 +105,19 @@ fn push_pairs(setups: &mut [u8; 2056], interfaces: &[u8; 256], alternates: &[u8;
     }
 }
 
+// The block and the channels after a configuration with this output size.
+fn out_block(size: u32, old: OutBlock) -> OutBlock
+    ensures { λ r. ⌜ r ≡ outBlock size old ⌝ }
+{
+    if 32 < size {
+        return OutBlock {
+            block: size,
+            channels: Audio::channels_in(size),
+        };
+    }
+    old
+}
+
 // What the configuration asks for: the block, set configuration, and set interface for each pair; no setup waits.
 fn choose(s: State, setups: &mut [u8; 2056], reply: &[u8]) -> State
     requires { ⌜ (s .lengths .setups ≡ 0) × (s .control .got ≤ length (now reply)) ⌝ }
@@ -114,7 +129,7 @@ fn choose(s: State, setups: &mut [u8; 2056], reply: &[u8]) -> State
         block: s.audio.block,
         channels: s.audio.channels,
     };
-    let out = config::out_block(info.ob_out_packet, old);
+    let out = out_block(info.ob_out_packet, old);
     let interfaces = info.interfaces;
     let alternates = info.alternates;
     record::put_setup(setups, 0, SET_CONFIGURATION, 0);

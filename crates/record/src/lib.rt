@@ -1,6 +1,6 @@
 // The host record by its parts: what a chain of steps hands on by value. Queues and areas are lent beside it.
 ghost use mathlib.Core.Path.{_≡_};
-ghost use Prim.Native.Nat.{_+_, _*_, _≤_, _<_};
+ghost use Prim.Native.Nat.{_+_, _-_, _*_, _/_, _≤_, _<_};
 ghost use lib.Seq.{sets};
 ghost use Rattle.record.specs.Record as R;
 ghost use Rattle.record.specs.Did.{entered, afterRun};
@@ -67,6 +67,23 @@ pub struct Audio {
     pub channels: u32,
     pub received: Ring,
     pub sending: Ring,
+}
+
+// Frames of a block, words of a frame, and bytes of a block: a header of 32, and the frames (usbhost.rs 54-56).
+impl Audio {
+    pub const FRAMES_PER_BLOCK: usize = 7;
+
+    pub const CHANNELS: usize = 12;
+
+    pub const BLOCK: usize = 32 + Audio::FRAMES_PER_BLOCK * Audio::CHANNELS * 4;
+
+    // The channels of a block of so many bytes, rounded down.
+    pub fn channels_in(block: u32) -> u32
+        requires { ⌜ 32 ≤ block ⌝ }
+        ensures { λ r. ⌜ r ≡ (block - 32) / 28 ⌝ }
+    {
+        (block - 32) / (4 * Audio::FRAMES_PER_BLOCK as u32)
+    }
 }
 
 // The request that runs, if one does: its setup as the two little-endian words that are posted, its reply's length, its start.

@@ -6,8 +6,7 @@ ghost use lib.ListN.{length, take, drop, replicate};
 ghost use Rattle.record.specs.World.{World};
 ghost use Rattle.model.specs.Audio.{channelBytes, frameBytes};
 ghost use Rattle.sending.specs.Promises.{Begun, Sends, headerOf, atSending};
-use blocks::CHANNELS;
-use blocks::FRAMES;
+use record::Audio;
 use record::Ring;
 
 // The start of a block of zeros: 07 FF, and the stream counter.
@@ -27,10 +26,10 @@ fn encode_frame(block: &mut [u8], from: usize, channels: usize, sending: &[u32],
     requires { ⌜ (at * 12 + 12 ≤ length (now sending)) × (at < 48000) ⌝ }
     ensures { λ _. ⌜ ((p : List ℕ) → length p ≡ from → Begun (now (block .entry)) p → Begun (now (block .exit)) (p ++ channelBytes channels (take 12 (drop (at * 12) (now (sending .entry)))))) ⌝ }
 {
-    let count = dtd::fewer(channels, CHANNELS);
+    let count = dtd::fewer(channels, Audio::CHANNELS);
     let mut c = 0;
     while c < count {
-        bus::put_at(block, from + 4 * c, sending[CHANNELS * at + c]);
+        bus::put_at(block, from + 4 * c, sending[Audio::CHANNELS * at + c]);
         c += 1;
     }
 }
@@ -41,7 +40,7 @@ fn encode_frames(block: &mut [u8], channels: usize, sending: &[u32], ring: Ring,
     requires { ⌜ Sends ring capacity (now sending) ⌝ }
     ensures { λ _. ⌜ ((w : World) (p : List ℕ) → length p ≡ 32 → Begun (now (block .entry)) p → Begun (now (block .exit)) (p ++ frameBytes 0 7 (atSending w ring channels (now (sending .entry))))) ⌝ }
 {
-    let count = dtd::fewer(ring.len, FRAMES);
+    let count = dtd::fewer(ring.len, Audio::FRAMES_PER_BLOCK);
     let mut f = 0;
     while f < count {
         let at = blocks::place(ring.start, f, capacity);

@@ -65,7 +65,7 @@ pub struct Sent {
 pub struct Taken {
     pub refusal: u8,
     pub empty: bool,
-    pub frame: [u32; 12],
+    pub frame: [u32; Host::CHANNELS],
     pub host: Host,
 }
 
@@ -115,7 +115,7 @@ pub struct Stored {
 pub struct TakenFrame {
     pub refusal: u8,
     pub empty: bool,
-    pub frame: [u32; 12],
+    pub frame: [u32; Host::CHANNELS],
     pub state: State,
 }
 
@@ -151,12 +151,12 @@ fn put_words(ring: &mut [u32], at: usize, words: &[u32])
 }
 
 // The frame of twelve words at a place.
-fn frame_at(ring: &[u32], at: usize) -> [u32; 12]
+fn frame_at(ring: &[u32], at: usize) -> [u32; Host::CHANNELS]
     requires { ⌜ at + 12 ≤ length (now ring) ⌝ }
     ensures { λ r. ⌜ r ≡ take 12 (drop at (now (ring .entry))) ⌝ }
 {
-    let mut frame = [0u32; 12];
-    let end = at + 12;
+    let mut frame = [0u32; Host::CHANNELS];
+    let end = at + Host::CHANNELS;
     put_words(&mut frame, 0, &ring[at..end]);
     frame
 }
@@ -220,8 +220,8 @@ fn new_audio() -> Audio
         credit: 0,
         counter: 0,
         budget: 0,
-        block: 368,
-        channels: 12,
+        block: Host::BLOCK as u32,
+        channels: Host::CHANNELS as u32,
         received: Ring { start: 0, len: 0 },
         sending: Ring { start: 0, len: 0 },
     }
@@ -408,7 +408,7 @@ pub fn send_serial(
 fn sending_length(n: usize) -> bool
     ensures { λ r. ⌜ r ≡ sendingLength n ⌝ }
 {
-    (84 <= n) & ((n <= 576_000) & (n % 12 == 0))
+    (Host::FRAMES_PER_BLOCK * Host::CHANNELS <= n) & ((n <= 576_000) & (n % Host::CHANNELS == 0))
 }
 
 // Numbers 2, 3, 5 and 7 of a frame given, or 0.
@@ -423,14 +423,14 @@ fn give_number(
     ensures { λ r. ⌜ r ≡ giveNumber (bare s spans p (now (setups .entry))) (now (frame .entry)) (now (sending .entry)) ⌝ }
 {
     let ring = s.audio.sending;
-    let capacity = sending.len() / 12;
+    let capacity = sending.len() / Host::CHANNELS;
     let seven = first_of(ring.len < capacity, 0, 7);
     let bounded = bounds::in_bounds(s, p, setups);
     let inside = bounds::ring_ok(ring, capacity);
     let five = first_of(bounded & inside, seven, 5);
     let three = first_of(spans <= 16, five, 3);
     let right = sending_length(sending.len());
-    first_of(right & (frame.len() == 12), three, 2)
+    first_of(right & (frame.len() == Host::CHANNELS), three, 2)
 }
 
 // Gives a frame to the sending ring: it goes behind the newest.
@@ -451,10 +451,10 @@ pub fn give_frame(
             state: s,
         };
     }
-    let capacity = sending.len() / 12;
+    let capacity = sending.len() / Host::CHANNELS;
     let start = s.audio.sending.start;
     let held = s.audio.sending.len;
-    let at = (start + held) % capacity * 12;
+    let at = (start + held) % capacity * Host::CHANNELS;
     put_words(sending, at, frame);
     let after = held + 1;
     let mut next = s;
@@ -484,7 +484,7 @@ fn no_frame(refusal: u8, empty: bool, s: State) -> TakenFrame
     TakenFrame {
         refusal,
         empty,
-        frame: [0; 12],
+        frame: [0; Host::CHANNELS],
         state: s,
     }
 }
@@ -524,7 +524,7 @@ fn frame_bounds(
     let bounded = bounds::in_bounds(s, p, setups);
     let areas = bounds::areas_ok(s, reply, config);
     let heard = bounds::ring_ok(received, 48000);
-    let sent = bounds::ring_ok(ring, sending / 12);
+    let sent = bounds::ring_ok(ring, sending / Host::CHANNELS);
     bounded & (areas & (heard & sent))
 }
 
@@ -661,7 +661,7 @@ pub fn take_frame(
     if held == 0 {
         return no_frame(0, true, s);
     }
-    let frame = frame_at(received, start * 12);
+    let frame = frame_at(received, start * Host::CHANNELS);
     let second = (start + 1) % 48_000;
     let after = held - 1;
     let mut next = s;
@@ -747,11 +747,11 @@ pub fn write_device(
 }
 
 impl Host {
-    pub const FRAMES_PER_BLOCK: usize = 7;
+    pub const FRAMES_PER_BLOCK: usize = Audio::FRAMES_PER_BLOCK;
 
-    pub const CHANNELS: usize = 12;
+    pub const CHANNELS: usize = Audio::CHANNELS;
 
-    pub const BLOCK: usize = 368;
+    pub const BLOCK: usize = Audio::BLOCK;
 
     // A host under settings of at most 16 gone spans.
     pub fn new(c: Settings) -> Created

@@ -13,6 +13,9 @@ sub-missing c = search needs
 place-requires : tie.Need-place-requires
 place-requires c κs = search needs
 
+cast-wrapping-add-u16 : tie.Need-cast-wrapping-add-u16
+cast-wrapping-add-u16 c = search needs
+
 wrapping-add-u16-requires : tie.Need-wrapping-add-u16-requires
 wrapping-add-u16-requires c κs = search needs
 
@@ -43,6 +46,7 @@ after-block-spec =
     fewer-requires
     sub-missing
     place-requires
+    cast-wrapping-add-u16
     wrapping-add-u16-requires
     wrapping-add-u64-requires
     wrapping-add-u64-requires-2

@@ -10,12 +10,12 @@ returns : tie.Need-returns
 unfolding audioOk
 returns c = rw (lt-leb 33 _ (c .if1 .taken)) refl
 
-sub-channels : tie.Need-sub-channels
-sub-channels c = search needs
+channels-in-requires : tie.Need-channels-in-requires
+channels-in-requires c κs = search needs
 
 returns-2 : tie.Need-returns-2
 unfolding audioOk
-returns-2 c = rw (le-leb 33 _ (c .before .before .before .before .if1 .left)) refl
+returns-2 c = rw (le-leb 33 _ (c .before .before .before .before .if1 .left), c .before .before .before .channels-in .ensures) refl
 
 pub audio-ok-spec : {M : Type 1} → statement M
-audio-ok-spec = tie.close (tie.spec returns sub-channels returns-2)
+audio-ok-spec = tie.close (tie.spec returns channels-in-requires returns-2)

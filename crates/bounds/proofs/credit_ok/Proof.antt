@@ -11,9 +11,12 @@ at-most-requires c κs = search needs
 mul-most : tie.Need-mul-most
 mul-most c = search needs
 
+rem-result : tie.Need-rem-result
+rem-result c = search needs
+
 returns : tie.Need-returns
 unfolding creditOk
 returns c = rw (c .at-most .ensures .0) refl
 
 pub credit-ok-spec : {M : Type 1} → statement M
-credit-ok-spec = tie.close (tie.spec at-most-requires mul-most returns)
+credit-ok-spec = tie.close (tie.spec at-most-requires mul-most rem-result returns)
