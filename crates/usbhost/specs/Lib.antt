@@ -2,4 +2,3 @@ pub mod Host
 pub mod Calls
 pub mod Promises
 pub mod Frame
-pub mod Limits

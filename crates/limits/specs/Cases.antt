@@ -1,0 +1,236 @@
+-- A case of all calls on a host: the fields that its numbers of refusal read, each with its usual value, and the numbers that the calls answer.
+use Prim.Native.Nat.{ℕ}
+use mathlib.Core.Bool.{Bool}
+use mathlib.Core.List.{List, [], _∷_, _++_}
+use mathlib.Core.Path.{_≡_}
+use lib.Dec.{eqb}
+use lib.ListN.{length}
+use Rattle.bits.specs.Pick.{pick}
+use Rattle.midi.specs.declared.Packer.{Packer}
+use Rattle.record.specs.declared.Phase.{Phase}
+use Rattle.record.specs.declared.Phase.the-variants.{Idle, Vbus, Reset, Enumerate, Stream}
+use Rattle.record.specs.declared.State.{State}
+use Rattle.usbhost.specs.declared.Host.{Host}
+use Rattle.usbhost.specs.Host.{hostOf}
+use Rattle.usbhost.specs.Calls.{midiNumber, serialNumber, giveNumber, takeNumber, accessNumber}
+use Rattle.usbhost.specs.Frame.{Lent, frameNumber}
+use Rattle.usbhost.specs.Promises.{withSpans}
+
+pub data Field : Type 0 where
+  -- the lengths of what a call is lent, given and sent, and where a device access lies
+  dynamic static page reply-area config-area receive-area received-ring sending-ring frame-words serial-bytes offset size : Field
+  -- the record: a phase by its place among the five, and 1 where a flag is set
+  spans phase uf microframes phase-start waiting midi serial device config credit budget block channels received-start : Field
+  received-held sending-start sending-held running first second reply request-start zero-set zero-count one-set one-count : Field
+  status held sysex : Field
+  -- its counters but that of microframes
+  in-transfers out-transfers in-frames out-frames bad-blocks midi-dtds midi-asleep out-underruns midi-packets-out : Field
+  vendor-in-bytes restarts enumerations : Field
+
+-- a field's place among the fields, and its value in the usual case
+unfoldable pub usual : Field → ℕ × ℕ
+usual dynamic = (0, 4096)
+usual static = (1, 65536)
+usual page = (2, 4096)
+usual reply-area = (3, 65535)
+usual config-area = (4, 65535)
+usual receive-area = (5, 196608)
+usual received-ring = (6, 576000)
+usual sending-ring = (7, 84)
+usual frame-words = (8, 12)
+usual serial-bytes = (9, 1)
+usual offset = (10, 512)
+usual size = (11, 4)
+usual spans = (12, 0)
+usual phase = (13, 4)
+usual uf = (14, 3)
+usual microframes = (15, 3)
+usual phase-start = (16, 0)
+usual waiting = (17, 0)
+usual midi = (18, 0)
+usual serial = (19, 0)
+usual device = (20, 0)
+usual config = (21, 0)
+usual credit = (22, 0)
+usual budget = (23, 0)
+usual block = (24, 368)
+usual channels = (25, 12)
+usual received-start = (26, 0)
+usual received-held = (27, 0)
+usual sending-start = (28, 0)
+usual sending-held = (29, 0)
+usual running = (30, 0)
+usual first = (31, 0)
+usual second = (32, 0)
+usual reply = (33, 0)
+usual request-start = (34, 0)
+usual zero-set = (35, 0)
+usual zero-count = (36, 0)
+usual one-set = (37, 0)
+usual one-count = (38, 0)
+usual status = (39, 0)
+usual held = (40, 0)
+usual sysex = (41, 0)
+usual in-transfers = (42, 0)
+usual out-transfers = (43, 0)
+usual in-frames = (44, 0)
+usual out-frames = (45, 0)
+usual bad-blocks = (46, 0)
+usual midi-dtds = (47, 0)
+usual midi-asleep = (48, 0)
+usual out-underruns = (49, 0)
+usual midi-packets-out = (50, 0)
+usual vendor-in-bytes = (51, 0)
+usual restarts = (52, 0)
+usual enumerations = (53, 0)
+
+-- a field's value where some are not as usual
+unfoldable pub valueIn : List (Field × ℕ) → Field → ℕ
+valueIn [] f = usual f .1
+valueIn (s ∷ ss) f = pick (eqb (usual (s .0) .0) (usual f .0)) (s .1) (valueIn ss f)
+
+-- ---- the record by its fields; what no number reads is that of any other record
+
+abbrev flag : ℕ → Bool
+flag n = eqb n 1
+
+abbrev phaseOf : ℕ → Phase
+phaseOf n = pick (eqb n 0) Idle (pick (eqb n 1) Vbus (pick (eqb n 2) Reset (pick (eqb n 3) Enumerate Stream)))
+
+abbrev pub stateBy : (Field → ℕ) → Host → State
+stateBy v o =
+    record {
+      phase = phaseOf (v phase);
+      port =
+          record {
+            uf = v uf;
+            t = v phase-start;
+            suspended = o .port .suspended;
+            gone = o .port .gone;
+            «was_running» = o .port .«was_running»;
+            line = o .port .line;
+          };
+      audio =
+          record {
+            credit = v credit;
+            counter = o .audio .counter;
+            budget = v budget;
+            block = v block;
+            channels = v channels;
+            received = record { start = v received-start; len = v received-held };
+            sending = record { start = v sending-start; len = v sending-held };
+          };
+      control =
+          record {
+            on = flag (v running);
+            stage = o .control .stage;
+            first = v first;
+            second = v second;
+            got = v reply;
+            t0 = v request-start;
+          };
+      timers =
+          record {
+            zero = record { set = flag (v zero-set); count = v zero-count };
+            one = record { set = flag (v one-set); count = v one-count };
+          };
+      stats =
+          record {
+            microframes = v microframes;
+            «in_transfers» = v in-transfers;
+            «out_transfers» = v out-transfers;
+            «in_frames» = v in-frames;
+            «out_frames» = v out-frames;
+            «bad_blocks» = v bad-blocks;
+            «midi_dtds» = v midi-dtds;
+            «midi_asleep» = v midi-asleep;
+            «out_underruns» = v out-underruns;
+            «midi_packets_out» = v midi-packets-out;
+            «vendor_in_bytes» = v vendor-in-bytes;
+            restarts = v restarts;
+            enumerations = v enumerations;
+          };
+      lengths = record { setups = v waiting; midi = v midi; serial = v serial; device = v device; config = v config };
+      answer = record { received = 0; dropped = 0 };
+    }
+
+abbrev pub packerBy : (Field → ℕ) → Host → Packer
+packerBy v o =
+    record { status = v status; first = o .packer .first; second = o .packer .second; held = v held; sysex = flag (v sysex) }
+
+abbrev pub hostBy : (Field → ℕ) → List ℕ → Host → Host
+hostBy v setups o =
+    hostOf (stateBy v o) (withSpans (o .settings) (v spans)) (packerBy v o) setups (o .midi) (o .serial) (o .device)
+
+-- ---- the numbers of all calls
+
+-- the lengths of what is lent, given and sent
+pub record Long : Type 0 where
+  pub dynamic : ℕ
+  pub sram : ℕ
+  pub page : ℕ
+  pub reply : ℕ
+  pub config : ℕ
+  pub receive : ℕ
+  pub received : ℕ
+  pub sending : ℕ
+  pub frame : ℕ
+  pub bytes : ℕ
+
+abbrev pub longOf : Lent → List ℕ → List ℕ → Long
+longOf l frame bytes =
+    record {
+      dynamic = length (l .memory .dynamic);
+      sram = length (l .memory .sram);
+      page = length (l .memory .page);
+      reply = length (l .reply);
+      config = length (l .config);
+      receive = length (l .receive);
+      received = length (l .received);
+      sending = length (l .sending);
+      frame = length frame;
+      bytes = length bytes;
+    }
+
+abbrev pub longIn : (Field → ℕ) → Long
+longIn v =
+    record {
+      dynamic = v dynamic;
+      sram = v static;
+      page = v page;
+      reply = v reply-area;
+      config = v config-area;
+      receive = v receive-area;
+      received = v received-ring;
+      sending = v sending-ring;
+      frame = v frame-words;
+      bytes = v serial-bytes;
+    }
+
+-- in the order microframe, MIDI send, serial send, frame given, frame taken, device access
+abbrev pub calls : ℕ → ℕ → ℕ → ℕ → ℕ → ℕ → List ℕ
+calls frame music cdc given taken access = frame ∷ music ∷ cdc ∷ given ∷ taken ∷ access ∷ []
+
+abbrev pub numbersOf : Host → Lent → List ℕ → List ℕ → List ℕ → ℕ → ℕ → List ℕ
+numbersOf h l sent bytes frame off n =
+    calls (frameNumber h l) (midiNumber h sent) (serialNumber h bytes) (giveNumber h frame (l .sending)) (takeNumber h (l .received))
+    (accessNumber h (length (l .memory .page)) off n)
+
+-- a row of the table: the fields that are not as usual, the first bytes of the setup queue, the MIDI bytes that are sent, and the numbers
+pub record Row : Type 0 where
+  pub sets : List (Field × ℕ)
+  pub queue : List ℕ
+  pub sent : List ℕ
+  pub numbers : List ℕ
+
+-- what a row says: the calls answer its numbers whatever else stands in the record, behind the setups, and in all that is lent, given and sent
+unfoldable pub Meets : Row → Type 0
+Meets r =
+    (o : Host) (behind : List ℕ) (l : Lent) (frame bytes : List ℕ)
+    → longOf l frame bytes ≡ longIn (valueIn (r .sets))
+    → numbersOf (hostBy (valueIn (r .sets)) (r .queue ++ behind) o) l (r .sent) bytes frame (valueIn (r .sets) offset) (valueIn (r .sets) size)
+    ≡ r .numbers
+
+unfoldable pub Table : List Row → Type 0
+Table [] = Unit {0}
+Table (r ∷ rs) = Meets r × Table rs
