@@ -1,33 +1,35 @@
-// Runs each call on a host but the microframe at every limit of document 01's numbers of refusal, and one past it.
-mod access;
+// Runs all calls on a host at limits of document 01's numbers of refusal and one past them: what each answers, and that a refusal changes nothing.
 mod calls;
-mod field;
-mod lists;
-mod numbers;
-mod rings;
+mod case;
+mod frame;
+mod rows;
 mod same;
-mod setups;
-mod space;
-mod tally;
-mod trial;
-mod value;
+mod show;
 
-use tally::Tally;
+use libc::STDERR_FILENO;
 
-// Every list, over a ring of marks.
-fn all(t: Tally, ring: &mut [u32; 576_012]) -> Tally {
-    let t = access::places(t, ring);
-    let t = numbers::numbers(t, ring);
-    let t = setups::setups(t, ring);
-    let t = space::space(t, ring);
-    let t = value::values(t, ring);
-    let t = access::order(t, ring);
-    let t = rings::order(t, ring);
-    let t = space::order(t, ring);
-    rings::rings(t, ring)
+// Whether every line was written.
+fn all() -> bool {
+    if !show::print(
+        b"numbers of microframe, MIDI send, serial send, frame given, frame taken, device read, device write\n",
+    ) {
+        return false;
+    }
+    let mut i = 0;
+    while i < rows::ROWS {
+        if !show::line(rows::row(i)) {
+            return false;
+        }
+        i += 1;
+    }
+    show::created(16) && show::created(17)
 }
 
 fn main() {
-    let mut ring = [same::WORD_MARK; 576_012];
-    tally::total(all(tally::none(), &mut ring));
+    if !all() {
+        io::write_all(
+            STDERR_FILENO,
+            b"limits: standard output could not be written; the list is not whole\n",
+        );
+    }
 }

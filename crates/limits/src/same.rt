@@ -1,6 +1,5 @@
-// Whether two records are alike in every field, and how much of an area is not as it was filled.
+// Whether two states are alike in every field, and how much of an area is not as it was filled.
 use gptimers::Timers;
-use midi::Packer;
 use record::Audio;
 use record::Lengths;
 use record::Phase;
@@ -8,7 +7,6 @@ use record::Stage;
 use record::State;
 use record::Stats;
 use std::num::wrapping_add_usize;
-use std::num::wrapping_sub_usize;
 
 // What every byte of an area holds before a call.
 pub const MARK: u8 = 0xEE;
@@ -114,33 +112,13 @@ pub fn same_state(a: State, b: State) -> bool {
         & same_timers(a.timers, b.timers)
 }
 
-pub fn same_packer(a: Packer, b: Packer) -> bool {
-    let bytes = (a.status == b.status) & ((a.first == b.first) & (a.second == b.second));
-    bytes & ((a.held == b.held) & (a.sysex == b.sysex))
-}
-
-// Whether two parts of rings hold the same words.
-fn same_words(a: &[u32], b: &[u32]) -> bool {
-    if a.len() != b.len() {
-        return false;
-    }
-    let mut i = 0;
-    while i < a.len() {
-        if a[i] != b[i] {
-            return false;
-        }
-        i += 1;
-    }
-    true
-}
-
 // 1 where it holds.
 fn as_count(other: bool) -> usize {
     if other { 1 } else { 0 }
 }
 
 // How many bytes are not the mark.
-fn changed(bytes: &[u8]) -> usize {
+pub fn changed(bytes: &[u8]) -> usize {
     let mut n: usize = 0;
     let mut i = 0;
     while i < bytes.len() {
@@ -159,61 +137,4 @@ pub fn changed_words(words: &[u32]) -> usize {
         i += 1;
     }
     n
-}
-
-// The byte at a place, or 0 where there is none.
-pub fn byte_at(bytes: &[u8], at: usize) -> u8 {
-    if at < bytes.len() {
-        return bytes[at];
-    }
-    0
-}
-
-// Whether a frame stands at a word of a ring.
-pub fn part_is(ring: &[u32], at: usize, frame: &[u32]) -> bool {
-    if at < ring.len() {
-        if 12 <= ring.len() - at {
-            let end = at + 12;
-            return same_words(&ring[at..end], frame);
-        }
-    }
-    false
-}
-
-fn put_word(ring: &mut [u32], at: usize, v: u32) {
-    if at < ring.len() {
-        ring[at] = v;
-    }
-}
-
-// Puts a frame at a word of a ring, as far as the ring reaches.
-pub fn put_frame(ring: &mut [u32], at: usize, frame: [u32; 12]) {
-    let mut i = 0;
-    while i < 12 {
-        put_word(ring, wrapping_add_usize(at, i), frame[i]);
-        i += 1;
-    }
-}
-
-// Whether two frames are alike.
-pub fn same_frame(a: [u32; 12], b: [u32; 12]) -> bool {
-    same_words(&a, &b)
-}
-
-// Whether all of a queue but the `adds` bytes that end at `length` is marks, and these end with the packet of F8.
-pub fn queued_midi(queue: &[u8; 4096], length: usize, adds: usize) -> bool {
-    let code = byte_at(queue, wrapping_sub_usize(length, 4)) == 0x0F;
-    let byte = byte_at(queue, wrapping_sub_usize(length, 3)) == 0xF8;
-    (changed(queue) == adds) & ((adds == 0) | (code & byte))
-}
-
-// Whether all of a queue but the `adds` bytes from `held` on is marks, and these begin with A5.
-pub fn queued_serial(queue: &[u8; 4096], held: usize, adds: usize) -> bool {
-    (changed(queue) == adds) & ((adds == 0) | (byte_at(queue, held) == 0xA5))
-}
-
-// Whether all of a page but the `size` bytes from `off` on is marks, and these end with 4.
-pub fn stored(page: &[u8; 4097], off: usize, size: usize) -> bool {
-    let last = wrapping_add_usize(off, wrapping_sub_usize(size, 1));
-    (changed(page) == size) & ((size == 0) | (byte_at(page, last) == 4))
 }

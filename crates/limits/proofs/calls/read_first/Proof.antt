@@ -1,4 +1,4 @@
--- `limits::calls::read_first` is safe and ends. A part of the page is as long as it is cut.
+-- `limits::calls::read_first` is safe. No part is cut longer than the whole is.
 use mathlib.Core.Path.{sym}
 use native.Mathlib.Omega.{arith}
 use lib.Seq.{length-take-le}
@@ -6,18 +6,55 @@ use borrow.Author.Needs.{needs}
 use Rattle.limits.proofs.calls.read_first.Statement.{statement}
 use Rattle.limits.proofs.calls.read_first.Tie as tie
 
-returns : tie.Need-returns
-returns c = search needs
+array-read-least : tie.Need-array-read-least
+array-read-least c = search needs
 
-slice-aggregate-read-device : tie.Need-slice-aggregate-read-device
-slice-aggregate-read-device c = sym (length-take-le _ _ (omega arith))
+least-requires : tie.Need-least-requires
+least-requires c κs = search needs
+
+state-requires : tie.Need-state-requires
+state-requires c κs = search needs
+
+addresses-requires : tie.Need-addresses-requires
+addresses-requires c κs = search needs
+
+array-read-spans : tie.Need-array-read-spans
+array-read-spans c = search needs
+
+offset-requires : tie.Need-offset-requires
+offset-requires c κs = search needs
+
+size-requires : tie.Need-size-requires
+size-requires c κs = search needs
+
+slice-aggregate-part : tie.Need-slice-aggregate-part
+slice-aggregate-part c = sym (length-take-le _ _ (omega arith))
+
+new-requires : tie.Need-new-requires
+new-requires c κs = search needs
 
 read-device-requires : tie.Need-read-device-requires
 read-device-requires c κs = search needs
 
-returns-2 : tie.Need-returns-2
-returns-2 c = search needs
+judged-requires : tie.Need-judged-requires
+judged-requires c κs = search needs
+
+returns : tie.Need-returns
+returns c = search needs
 
 pub read-first-spec : {M : Type 1} → statement M
 read-first-spec =
-    tie.close (tie.spec returns slice-aggregate-read-device read-device-requires returns-2)
+    tie.close
+    (tie.spec
+    array-read-least
+    least-requires
+    state-requires
+    addresses-requires
+    array-read-spans
+    offset-requires
+    size-requires
+    slice-aggregate-part
+    new-requires
+    read-device-requires
+    judged-requires
+    returns)

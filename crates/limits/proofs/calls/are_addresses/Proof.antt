@@ -1,24 +1,23 @@
--- `limits::lists::label_end` is safe and ends. The loop stays inside the text.
+-- `limits::calls::are_addresses` is safe and ends. The loop stays inside the queue.
 use borrow.Author.Needs.{needs}
 use Prim.Native.Nat.{_≤_, _-_}
-use lib.ListN.{length}
-use Rattle.limits.proofs.lists.label_end.Statement.{statement}
-use Rattle.limits.proofs.lists.label_end.Tie as tie
+use Rattle.limits.proofs.calls.are_addresses.Statement.{statement}
+use Rattle.limits.proofs.calls.are_addresses.Tie as tie
 
 abbrev Inv-loop : tie.InvT-loop
-Inv-loop text at i₀ i = 0 ≤ i
+Inv-loop queue i₀ i = i ≤ 2056
 
 abbrev μ-loop : tie.MeasureT-loop
-μ-loop text at i₀ i = length text - i
+μ-loop queue i₀ i = 2056 - i
 
 loop-holds : tie.Need-loop-holds Inv-loop μ-loop
 loop-holds c = search needs
 
-shared-slice-read-ends-label : tie.Need-shared-slice-read-ends-label Inv-loop μ-loop
-shared-slice-read-ends-label c = search needs
+element-copy-out-if1 : tie.Need-element-copy-out-if1 Inv-loop μ-loop
+element-copy-out-if1 c = search needs
 
-ends-label-requires : tie.Need-ends-label-requires Inv-loop μ-loop
-ends-label-requires c κs = search needs
+address-requires : tie.Need-address-requires Inv-loop μ-loop
+address-requires c κs = search needs
 
 returns : tie.Need-returns Inv-loop μ-loop
 returns c = search needs
@@ -35,15 +34,15 @@ loop-again c = search needs
 returns-2 : tie.Need-returns-2 Inv-loop μ-loop
 returns-2 c = search needs
 
-pub label-end-spec : {M : Type 1} → statement M
-label-end-spec =
+pub are-addresses-spec : {M : Type 1} → statement M
+are-addresses-spec =
     tie.close
     (tie.spec
     Inv-loop
     μ-loop
     loop-holds
-    shared-slice-read-ends-label
-    ends-label-requires
+    element-copy-out-if1
+    address-requires
     returns
     add-i
     loop-less

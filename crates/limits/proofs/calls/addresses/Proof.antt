@@ -1,22 +1,22 @@
--- `limits::setups::full_of` is safe and ends. The loop stays inside the queue.
+-- `limits::calls::addresses` is safe and ends. The loop stays inside the queue.
 use borrow.Author.Needs.{needs}
 use Prim.Native.Nat.{_≤_, _-_}
 use mathlib.Core.Path.{_≡_}
 use lib.ListN.{length}
-use Rattle.limits.proofs.setups.full_of.Statement.{statement}
-use Rattle.limits.proofs.setups.full_of.Tie as tie
+use Rattle.limits.proofs.calls.addresses.Statement.{statement}
+use Rattle.limits.proofs.calls.addresses.Tie as tie
 
 abbrev Inv-loop : tie.InvT-loop
-Inv-loop setup queue₀ i₀ queue i = (i ≤ 2056) × (length queue ≡ 2056)
+Inv-loop queue₀ i₀ queue i = (i ≤ 2056) × (length queue ≡ 2056)
 
 abbrev μ-loop : tie.MeasureT-loop
-μ-loop setup queue₀ i₀ queue i = 2056 - i
+μ-loop queue₀ i₀ queue i = 2056 - i
 
 loop-holds : tie.Need-loop-holds Inv-loop μ-loop
 loop-holds c = search needs
 
-array-read-queue : tie.Need-array-read-queue Inv-loop μ-loop
-array-read-queue c = search needs
+address-requires : tie.Need-address-requires Inv-loop μ-loop
+address-requires c κs = search needs
 
 array-write-queue : tie.Need-array-write-queue Inv-loop μ-loop
 array-write-queue c = search needs
@@ -33,14 +33,14 @@ loop-again c = search needs
 returns : tie.Need-returns Inv-loop μ-loop
 returns c = search needs
 
-pub full-of-spec : {M : Type 1} → statement M
-full-of-spec =
+pub addresses-spec : {M : Type 1} → statement M
+addresses-spec =
     tie.close
     (tie.spec
     Inv-loop
     μ-loop
     loop-holds
-    array-read-queue
+    address-requires
     array-write-queue
     add-i
     loop-less

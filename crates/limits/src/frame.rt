@@ -1,0 +1,137 @@
+// A microframe on real areas of the lengths of a case.
+use crate::calls::Seen;
+use crate::calls::addresses;
+use crate::calls::are_addresses;
+use crate::calls::judged;
+use crate::calls::least;
+use crate::case;
+use crate::same::MARK;
+use crate::same::WORD_MARK;
+use crate::same::changed;
+use crate::same::changed_words;
+use crate::same::same_state;
+use midi::Packer;
+
+fn same_arrays(
+    setups: &[u8; 2056],
+    midi: &[u8; 4096],
+    serial: &[u8; 4096],
+    device: &[u8; 64],
+) -> bool {
+    are_addresses(setups) & (changed(midi) == 0) & (changed(serial) == 0) & (changed(device) == 0)
+}
+
+fn same_windows(dynamic: &[u8; 8192], sram: &[u8; 65_537], page: &[u8; 4097]) -> bool {
+    (changed(dynamic) == 0) & (changed(sram) == 0) & (changed(page) == 0)
+}
+
+fn same_areas(
+    reply: &[u8; 65_535],
+    config: &[u8; 65_536],
+    receive: &[u8; 196_608],
+    received: &[u32; 576_001],
+) -> bool {
+    (changed(reply) == 0)
+        & (changed(config) == 0)
+        & (changed(receive) == 0)
+        & (changed_words(received) == 0)
+}
+
+// On the record's own arrays.
+fn run(
+    v: [u64; 25],
+    dynamic: &mut [u8],
+    sram: &mut [u8],
+    page: &mut [u8],
+    reply: &mut [u8],
+    config: &mut [u8],
+    receive: &mut [u8],
+    received: &mut [u32],
+    sending: &[u32],
+) -> Seen {
+    let state = case::state(v);
+    let mut settings = usbhost::no_settings();
+    settings.spans = v[case::SPANS] as usize;
+    let mut setups = addresses();
+    let mut midi = [MARK; 4096];
+    let mut serial = [MARK; 4096];
+    let mut device = [MARK; 64];
+    let done = usbhost::run_microframe(
+        state,
+        settings,
+        Packer::new(),
+        &mut setups,
+        &mut midi,
+        &mut serial,
+        &mut device,
+        dynamic,
+        sram,
+        page,
+        reply,
+        config,
+        receive,
+        received,
+        sending,
+        0,
+    );
+    let arrays = same_arrays(&setups, &midi, &serial, &device);
+    judged(done.refusal, arrays & same_state(done.state, state))
+}
+
+// On the first of each area, as much as the case says.
+fn cut(
+    v: [u64; 25],
+    dynamic: &mut [u8],
+    sram: &mut [u8],
+    page: &mut [u8],
+    reply: &mut [u8],
+    config: &mut [u8],
+    receive: &mut [u8],
+    received: &mut [u32],
+    sending: &[u32],
+) -> Seen {
+    let d = least(v[case::DYNAMIC], dynamic.len());
+    let s = least(v[case::STATIC], sram.len());
+    let p = least(v[case::PAGE], page.len());
+    let r = least(v[case::REPLY_AREA], reply.len());
+    let g = least(v[case::CONFIG_AREA], config.len());
+    let e = least(v[case::RECEIVE_AREA], receive.len());
+    let w = least(v[case::RECEIVED_RING], received.len());
+    let x = least(v[case::SENDING_RING], sending.len());
+    run(
+        v,
+        &mut dynamic[..d],
+        &mut sram[..s],
+        &mut page[..p],
+        &mut reply[..r],
+        &mut config[..g],
+        &mut receive[..e],
+        &mut received[..w],
+        &sending[..x],
+    )
+}
+
+pub fn microframe(v: [u64; 25]) -> Seen {
+    let mut dynamic = [MARK; 8192];
+    let mut sram = [MARK; 65_537];
+    let mut page = [MARK; 4097];
+    let mut reply = [MARK; 65_535];
+    let mut config = [MARK; 65_536];
+    let mut receive = [MARK; 196_608];
+    let mut received = [WORD_MARK; 576_001];
+    let sending = [WORD_MARK; 576_012];
+    let ran = cut(
+        v,
+        &mut dynamic,
+        &mut sram,
+        &mut page,
+        &mut reply,
+        &mut config,
+        &mut receive,
+        &mut received,
+        &sending,
+    );
+    let windows = same_windows(&dynamic, &sram, &page);
+    let areas = same_areas(&reply, &config, &receive, &received);
+    judged(ran.number, ran.right & windows & areas)
+}

@@ -1,0 +1,103 @@
+// A row written: its fields, and what each call answered. Every function answers false where a write failed, and writes nothing more.
+use crate::calls;
+use crate::calls::Seen;
+use crate::case;
+use crate::case::Row;
+use crate::frame;
+use libc::STDOUT_FILENO;
+
+pub fn print(text: &[u8]) -> bool {
+    io::write_all(STDOUT_FILENO, text)
+}
+
+fn print_number(n: u64) -> bool {
+    io::print_decimal(STDOUT_FILENO, n)
+}
+
+fn name_of_length(field: usize) -> bool {
+    match field {
+        case::DYNAMIC => print(b"dynamic memory "),
+        case::STATIC => print(b"static memory "),
+        case::PAGE => print(b"page "),
+        case::REPLY_AREA => print(b"reply area "),
+        case::CONFIG_AREA => print(b"configuration area "),
+        case::RECEIVE_AREA => print(b"receive area "),
+        case::RECEIVED_RING => print(b"received ring "),
+        case::SENDING_RING => print(b"sending ring "),
+        case::FRAME => print(b"frame "),
+        case::BYTES => print(b"serial bytes sent "),
+        case::OFFSET => print(b"access at "),
+        _ => print(b"access of "),
+    }
+}
+
+fn name(field: usize) -> bool {
+    match field {
+        case::SPANS => print(b"gone spans "),
+        case::WAITING => print(b"setups waiting "),
+        case::MIDI => print(b"MIDI queue "),
+        case::SERIAL => print(b"serial queue "),
+        case::DEVICE => print(b"device descriptor "),
+        case::CONFIG => print(b"configuration "),
+        case::COUNTS => print(b"microframes "),
+        case::CREDIT => print(b"credit after 3 microframes "),
+        case::BUDGET => print(b"input budget "),
+        case::RECEIVED_START => print(b"received ring's start "),
+        case::RECEIVED_HELD => print(b"received frames "),
+        case::SENDING_START => print(b"sending ring's start "),
+        case::SENDING_HELD => print(b"sending frames "),
+        _ => name_of_length(field),
+    }
+}
+
+fn set(field: usize, value: u64) -> bool {
+    name(field) && print_number(value)
+}
+
+fn beside(r: Row) -> bool {
+    if r.other == case::NONE {
+        return true;
+    }
+    print(b", ") && set(r.other, r.beside)
+}
+
+fn wide(b: u8) -> u64 {
+    b as u64
+}
+
+// The number, with a mark where the call did not leave what it must.
+fn answer(s: Seen) -> bool {
+    let number = print(b" ") && print_number(wide(s.number));
+    if s.right {
+        return number;
+    }
+    number && print(b" WRONG")
+}
+
+fn sends(v: [u64; 25]) -> bool {
+    answer(calls::midi_sent(v)) && answer(calls::serial_sent(v))
+}
+
+fn frames(v: [u64; 25]) -> bool {
+    answer(calls::given(v)) && answer(calls::taken(v))
+}
+
+fn accesses(v: [u64; 25]) -> bool {
+    answer(calls::device_read(v)) && answer(calls::device_written(v))
+}
+
+pub fn line(r: Row) -> bool {
+    let v = case::values(r);
+    let fields = set(r.field, r.value) && beside(r) && print(b":");
+    let all = fields && answer(frame::microframe(v)) && sends(v) && frames(v) && accesses(v);
+    all && print(b"\n")
+}
+
+// Number 3 of `new`.
+pub fn created(spans: usize) -> bool {
+    let mut settings = usbhost::no_settings();
+    settings.spans = spans;
+    let made = usbhost::Host::new(settings);
+    let shown = print(b"new with gone spans ") && print_number(spans as u64) && print(b": ");
+    shown && print_number(wide(made.refusal)) && print(b"\n")
+}
