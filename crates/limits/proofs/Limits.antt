@@ -11,7 +11,7 @@ use Rattle.usbhost.specs.Host.{created}
 use Rattle.usbhost.specs.Calls.{sendingLength, midiNumber, accessNumber}
 use Rattle.usbhost.specs.Frame.{lengthsOk, boundsOk}
 use Rattle.limits.specs.Cases.{usual, valueIn, Table}
-use Rattle.limits.specs.Limits.{windows, areas, spanCounts, accesses, queues, rings, stream, counts, timers, counters, phases, forms, setupQueues, fullQueues, requests, packers, space, order, Limits, many, address, configuration, zeros}
+use Rattle.limits.specs.Limits.{windows, areas, spanCounts, accesses, queues, rings, stream, counts, timers, counters, phases, forms, setupQueues, fullQueues, requests, packers, space, order, madeBelow, Limits, many, address, configuration, zeros}
 use Rattle.limits.proofs.Numbers.{table}
 use Rattle.limits.proofs.Queues.{setups-many}
 
@@ -42,7 +42,7 @@ fullQueues-hold =
     table fullQueues (λ o behind. rw (full behind, full-asking behind, full-early behind, full-zeros behind, full-but-one behind))
 
 pub limits : Limits
-unfolding feedOf messageLength messageCode runningOf eventsOf packetCount fits isPower made madeAt allMade other noneAsks setupsOk enumeratingOk requestOk queuesOk packerOk countsOk countersOk creditOk timerOk timersOk audioOk inBounds ringOk areasOk created sendingLength midiNumber accessNumber lengthsOk boundsOk usual valueIn flatMap windows areas spanCounts accesses queues rings stream counts timers counters phases forms setupQueues requests packers space order
+unfolding feedOf messageLength messageCode runningOf eventsOf packetCount fits isPower made madeAt allMade other noneAsks setupsOk enumeratingOk requestOk queuesOk packerOk countsOk countersOk creditOk timerOk timersOk audioOk inBounds ringOk areasOk created sendingLength midiNumber accessNumber lengthsOk boundsOk usual valueIn flatMap madeBelow windows areas spanCounts accesses queues rings stream counts timers counters phases forms setupQueues requests packers space order
 limits =
     record {
       number-1 = table windows (λ o behind. refl);
@@ -57,6 +57,7 @@ limits =
       in-counters = table counters (λ o behind. refl);
       in-phases = table phases (λ o behind. refl);
       in-forms = table forms (λ o behind. refl);
+      every-byte = refl;
       in-setups = table setupQueues (λ o behind. refl);
       in-full-queues = fullQueues-hold;
       in-requests = table requests (λ o behind. refl);

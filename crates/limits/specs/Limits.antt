@@ -1,12 +1,13 @@
 -- Every limit of document 01's numbers of refusal, and one past it, in all calls: one table, about the numbers that the calls' contracts cite.
-use Prim.Native.Nat.{ℕ, _+_, _-_, _*_, _^_}
+use Prim.Native.Nat.{ℕ, zero, suc, _+_, _-_, _*_, _^_}
 use mathlib.Core.List.{List, [], _∷_, _++_, map, flatMap}
 use mathlib.Core.Path.{_≡_}
-use lib.ListN.{replicate}
+use lib.ListN.{replicate, set}
+use Rattle.bits.specs.Pick.{pick}
 use Rattle.gptimers.specs.Timer.{ZERO}
 use Rattle.record.specs.declared.Settings.{Settings}
 use Rattle.record.specs.Setups.{little}
-use Rattle.bounds.specs.Bounds.{MOST}
+use Rattle.bounds.specs.Bounds.{made}
 use Rattle.usbhost.specs.Host.{created}
 use Rattle.usbhost.specs.Promises.{withSpans}
 use Rattle.limits.specs.Cases.{Field, Row, Table, calls, dynamic, static, page, reply-area, config-area, receive-area, received-ring, sending-ring, frame-words, serial-bytes, offset, size, spans, phase, uf, microframes, phase-start, waiting, midi, serial, device, config, credit, budget, block, channels, received-start, received-held, sending-start, sending-held, running, first, second, reply, request-start, zero-set, zero-count, one-set, one-count, status, held, sysex, in-transfers, out-transfers, in-frames, out-frames, bad-blocks, midi-dtds, midi-asleep, out-underruns, midi-packets-out, vendor-in-bytes, restarts, enumerations}
@@ -219,43 +220,43 @@ stream =
     ∷ after 3 credit 1868 (all 5)
     ∷ after 3 credit 1869 none
     ∷ after 3 credit 1876 (all 5)
-    ∷ after MOST credit (623 * MOST) (calls 6 0 0 0 0 0)
-    ∷ after MOST credit (623 * MOST + 7) (all 5)
+    ∷ after (2 ^ 40) credit (623 * 2 ^ 40) (calls 6 0 0 0 0 0)
+    ∷ after (2 ^ 40) credit (623 * 2 ^ 40 + 7) (all 5)
     ∷ []
 
 -- ---- 5: counts and starts; 6 after 2^40 microframes
 
 unfoldable pub counts : List Row
 counts =
-    both uf (MOST - 1) microframes (MOST - 1) none
-    ∷ both uf MOST microframes MOST (calls 6 0 0 0 0 0)
-    ∷ both uf (MOST + 1) microframes (MOST + 1) (all 5)
+    both uf (2 ^ 40 - 1) microframes (2 ^ 40 - 1) none
+    ∷ both uf (2 ^ 40) microframes (2 ^ 40) (calls 6 0 0 0 0 0)
+    ∷ both uf (2 ^ 40 + 1) microframes (2 ^ 40 + 1) (all 5)
     ∷ at uf 2 (all 5)
     ∷ at uf 3 none
     ∷ at uf 4 (all 5)
     ∷ at microframes 2 (all 5)
     ∷ at microframes 4 (all 5)
-    ∷ after MOST microframes (MOST + 1) (all 5)
+    ∷ after (2 ^ 40) microframes (2 ^ 40 + 1) (all 5)
     ∷ after 0 phase-start 0 none
     ∷ after 0 phase-start 1 (all 5)
     ∷ at phase-start 3 none
     ∷ at phase-start 4 (all 5)
-    ∷ after MOST phase-start MOST (calls 6 0 0 0 0 0)
-    ∷ after MOST phase-start (MOST + 1) (all 5)
+    ∷ after (2 ^ 40) phase-start (2 ^ 40) (calls 6 0 0 0 0 0)
+    ∷ after (2 ^ 40) phase-start (2 ^ 40 + 1) (all 5)
     ∷ []
 
 -- ---- 5: timers, of which `set` says whether one counts
 
 abbrev pub timer : Field → Field → List Row
-timer set count =
-    with ((set, 1) ∷ (count, ZERO - 375) ∷ []) none
-    ∷ with ((set, 1) ∷ (count, ZERO - 376) ∷ []) (all 5)
-    ∷ with ((set, 1) ∷ (count, ZERO + 2 ^ 24) ∷ []) none
-    ∷ with ((set, 1) ∷ (count, ZERO + 2 ^ 24 + 1) ∷ []) (all 5)
-    ∷ with ((set, 1) ∷ (count, ZERO) ∷ (uf, 0) ∷ (microframes, 0) ∷ []) none
-    ∷ with ((set, 1) ∷ (count, ZERO - 1) ∷ (uf, 0) ∷ (microframes, 0) ∷ []) (all 5)
-    ∷ with ((set, 1) ∷ (count, ZERO - 125 * MOST) ∷ (uf, MOST) ∷ (microframes, MOST) ∷ []) (calls 6 0 0 0 0 0)
-    ∷ with ((set, 1) ∷ (count, ZERO - 125 * MOST - 1) ∷ (uf, MOST) ∷ (microframes, MOST) ∷ []) (all 5)
+timer on count =
+    with ((on, 1) ∷ (count, ZERO - 375) ∷ []) none
+    ∷ with ((on, 1) ∷ (count, ZERO - 376) ∷ []) (all 5)
+    ∷ with ((on, 1) ∷ (count, ZERO + 2 ^ 24) ∷ []) none
+    ∷ with ((on, 1) ∷ (count, ZERO + 2 ^ 24 + 1) ∷ []) (all 5)
+    ∷ with ((on, 1) ∷ (count, ZERO) ∷ (uf, 0) ∷ (microframes, 0) ∷ []) none
+    ∷ with ((on, 1) ∷ (count, ZERO - 1) ∷ (uf, 0) ∷ (microframes, 0) ∷ []) (all 5)
+    ∷ with ((on, 1) ∷ (count, ZERO - 125 * 2 ^ 40) ∷ (uf, 2 ^ 40) ∷ (microframes, 2 ^ 40) ∷ []) (calls 6 0 0 0 0 0)
+    ∷ with ((on, 1) ∷ (count, ZERO - 125 * 2 ^ 40 - 1) ∷ (uf, 2 ^ 40) ∷ (microframes, 2 ^ 40) ∷ []) (all 5)
     ∷ at count 0 none
     ∷ at count (2 ^ 64 - 1) none
     ∷ []
@@ -271,8 +272,8 @@ counter f =
     ∷ after 0 f 1 (all 5)
     ∷ after 3 f 98301 none
     ∷ after 3 f 98302 (all 5)
-    ∷ after MOST f (32767 * MOST) (calls 6 0 0 0 0 0)
-    ∷ after MOST f (32767 * MOST + 1) (all 5)
+    ∷ after (2 ^ 40) f (32767 * 2 ^ 40) (calls 6 0 0 0 0 0)
+    ∷ after (2 ^ 40) f (32767 * 2 ^ 40 + 1) (all 5)
     ∷ []
 
 unfoldable pub counters : List Row
@@ -353,6 +354,15 @@ notOfSource =
 
 unfoldable pub forms : List Row
 forms = flatMap (alone none) ofSource ++ flatMap (alone (all 5)) notOfSource
+
+-- how many of the first n values of byte i of a setup make one of the source's (`made`)
+unfoldable pub madeBelow : List ℕ → ℕ → ℕ → ℕ
+madeBelow s i zero = 0
+madeBelow s i (suc n) = pick (made (little (set s i n) 0) (little (set s i n) 4)) 1 0 + madeBelow s i n
+
+-- of all 256 values of each byte
+abbrev pub swept : List ℕ → List ℕ
+swept s = map (λ i. madeBelow s i 256) (0 ∷ 1 ∷ 2 ∷ 3 ∷ 4 ∷ 5 ∷ 6 ∷ 7 ∷ [])
 
 -- an address waits, and runs, in a phase
 abbrev pub asksIn : List ℕ → ℕ → List Row
@@ -481,12 +491,12 @@ order =
     ∷ both spans 17 size 3 (all 3)
     ∷ both spans 17 device 65 (all 3)
     ∷ both size 3 device 65 (calls 5 5 5 5 5 4)
-    ∷ after MOST device 65 (all 5)
-    ∷ after MOST received-start 48000 (calls 5 0 0 0 5 0)
+    ∷ after (2 ^ 40) device 65 (all 5)
+    ∷ after (2 ^ 40) received-start 48000 (calls 5 0 0 0 5 0)
     ∷ both device 65 midi 4096 (all 5)
     ∷ both device 65 serial 4096 (all 5)
     ∷ both device 65 sending-held 7 (all 5)
-    ∷ with ((dynamic, 6144) ∷ (page, 4097) ∷ (receive-area, 0) ∷ (received-ring, 84) ∷ (sending-ring, 85) ∷ (spans, 17) ∷ (size, 3) ∷ (device, 65) ∷ (uf, MOST) ∷ (microframes, MOST) ∷ (midi, 4096) ∷ (serial, 4096) ∷ []) (calls 1 3 3 2 2 1)
+    ∷ with ((dynamic, 6144) ∷ (page, 4097) ∷ (receive-area, 0) ∷ (received-ring, 84) ∷ (sending-ring, 85) ∷ (spans, 17) ∷ (size, 3) ∷ (device, 65) ∷ (uf, 2 ^ 40) ∷ (microframes, 2 ^ 40) ∷ (midi, 4096) ∷ (serial, 4096) ∷ []) (calls 1 3 3 2 2 1)
     ∷ []
 
 -- ---- what the table says, and 3 of `new`
@@ -504,6 +514,9 @@ pub record Limits : Type 0 where
   pub in-counters : Table counters
   pub in-phases : Table phases
   pub in-forms : Table forms
+  pub every-byte : map swept (setup 0x80 6 0 1 0 0 64 0 ∷ setup 0x80 6 0 1 0 0 18 0 ∷ address ∷ configuration ∷ setup 0 9 1 0 0 0 0 0 ∷ setup 1 11 2 0 3 0 0 0 ∷ [])
+      ≡ setup 1 1 1 2 1 1 2 1 ∷ setup 1 1 1 2 1 1 2 1 ∷ setup 1 1 1 1 1 1 1 1 ∷ setup 1 1 1 1 1 1 256 256 ∷ setup 1 1 1 1 1 1 1 1
+      ∷ setup 1 1 255 1 256 1 1 1 ∷ []
   pub in-setups : Table setupQueues
   pub in-full-queues : Table fullQueues
   pub in-requests : Table requests
