@@ -2,7 +2,6 @@
 ghost use Prim.Native.Nat.{_≤_};
 use crate::case;
 use crate::same::MARK;
-use crate::same::WORD_MARK;
 use crate::same::changed;
 use crate::same::changed_words;
 use crate::same::same_state;
@@ -37,6 +36,10 @@ pub fn least(a: u64, b: usize) -> usize
 {
     let n = a as usize;
     if n < b { n } else { b }
+}
+
+fn low(v: u64) -> u32 {
+    (v % 0x1_0000_0000) as u32
 }
 
 // Byte i of a queue of addresses.
@@ -84,51 +87,35 @@ pub fn midi_sent(v: [u64; 25]) -> Seen {
     added(sent.refusal, kept, queued(&queue), 4)
 }
 
-fn serial_first(v: [u64; 25], whole: &[u8]) -> Seen {
-    let n = least(v[case::BYTES], whole.len());
+// The first of these bytes sent.
+pub fn serial_sent(v: [u64; 25], bytes: &[u8]) -> Seen {
+    let n = least(v[case::BYTES], bytes.len());
     let state = case::state(v);
     let setups = addresses();
     let mut queue = [MARK; 4096];
     let spans = v[case::SPANS] as usize;
-    let sent = usbhost::send_serial(
-        state,
-        spans,
-        Packer::new(),
-        &whole[..n],
-        &setups,
-        &mut queue,
-    );
+    let part = &bytes[..n];
+    let sent = usbhost::send_serial(state, spans, Packer::new(), part, &setups, &mut queue);
     let kept = same_state(sent.state, state);
     added(sent.refusal, kept, queued(&queue), n)
 }
 
-pub fn serial_sent(v: [u64; 25]) -> Seen {
-    let bytes = [0xA5u8; 4097];
-    serial_first(v, &bytes)
-}
-
-fn give(v: [u64; 25], frame: &[u32], sending: &mut [u32]) -> Seen {
+// The first of these words given to the first of a ring of marks.
+pub fn given(v: [u64; 25], frame: &[u32], ring: &mut [u32]) -> Seen {
+    let n = least(v[case::FRAME], frame.len());
+    let words = least(v[case::SENDING_RING], ring.len());
     let state = case::state(v);
     let setups = addresses();
     let spans = v[case::SPANS] as usize;
-    let done = usbhost::give_frame(state, spans, Packer::new(), frame, &setups, sending);
+    let part = &frame[..n];
+    let sending = &mut ring[..words];
+    let done = usbhost::give_frame(state, spans, Packer::new(), part, &setups, sending);
     let kept = same_state(done.state, state);
-    added(done.refusal, kept, changed_words(&*sending), 12)
+    added(done.refusal, kept, changed_words(&*ring), 12)
 }
 
-fn give_first(v: [u64; 25], frame: &[u32], sending: &mut [u32]) -> Seen {
-    let n = least(v[case::FRAME], frame.len());
-    let words = least(v[case::SENDING_RING], sending.len());
-    give(v, &frame[..n], &mut sending[..words])
-}
-
-pub fn given(v: [u64; 25]) -> Seen {
-    let frame = [1u32; 13];
-    let mut ring = [WORD_MARK; 576_012];
-    give_first(v, &frame, &mut ring)
-}
-
-fn take_first(v: [u64; 25], ring: &[u32]) -> Seen {
+// A frame taken from the first of a ring.
+pub fn taken(v: [u64; 25], ring: &[u32]) -> Seen {
     let words = least(v[case::RECEIVED_RING], ring.len());
     let state = case::state(v);
     let setups = addresses();
@@ -139,46 +126,37 @@ fn take_first(v: [u64; 25], ring: &[u32]) -> Seen {
     judged(done.refusal, kept)
 }
 
-pub fn taken(v: [u64; 25]) -> Seen {
-    let ring = [WORD_MARK; 576_012];
-    take_first(v, &ring)
-}
-
-fn read_first(v: [u64; 25], page: &[u8]) -> Seen {
+pub fn device_read(v: [u64; 25], page: &[u8]) -> Seen {
     let n = least(v[case::PAGE], page.len());
     let state = case::state(v);
     let setups = addresses();
     let spans = v[case::SPANS] as usize;
-    let off = case::offset(v);
-    let size = case::size(v);
+    let off = low(v[case::OFFSET]);
+    let size = low(v[case::SIZE]);
     let part = &page[..n];
     let done = usbhost::read_device(state, spans, Packer::new(), &setups, part, off, size);
     judged(done.refusal, done.value == 0)
 }
 
-pub fn device_read(v: [u64; 25]) -> Seen {
-    let page = [MARK; 4097];
-    read_first(v, &page)
-}
-
-fn write(v: [u64; 25], page: &mut [u8]) -> Seen {
+// On the first of a page of marks.
+pub fn device_written(v: [u64; 25], page: &mut [u8]) -> Seen {
+    let n = least(v[case::PAGE], page.len());
     let state = case::state(v);
     let setups = addresses();
     let spans = v[case::SPANS] as usize;
-    let off = case::offset(v);
-    let size = case::size(v);
-    let value = 0x0102_0304;
-    let done = usbhost::write_device(state, spans, Packer::new(), &setups, page, off, size, value);
+    let off = low(v[case::OFFSET]);
+    let size = low(v[case::SIZE]);
+    let part = &mut page[..n];
+    let done = usbhost::write_device(
+        state,
+        spans,
+        Packer::new(),
+        &setups,
+        part,
+        off,
+        size,
+        0x0102_0304,
+    );
     let kept = same_state(done.state, state);
     added(done.refusal, kept, changed(&*page), size as usize)
-}
-
-fn write_first(v: [u64; 25], page: &mut [u8]) -> Seen {
-    let n = least(v[case::PAGE], page.len());
-    write(v, &mut page[..n])
-}
-
-pub fn device_written(v: [u64; 25]) -> Seen {
-    let mut page = [MARK; 4097];
-    write_first(v, &mut page)
 }

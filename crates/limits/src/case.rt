@@ -94,28 +94,17 @@ pub struct Row {
     pub beside: u64,
 }
 
-fn with(v: [u64; 25], field: usize, value: u64) -> [u64; 25] {
-    let mut next = v;
-    if field < 25 {
-        next[field] = value;
-    }
-    next
-}
-
 pub fn values(r: Row) -> [u64; 25] {
-    with(with(usual(), r.field, r.value), r.other, r.beside)
-}
-
-fn low(v: u64) -> u32 {
-    (v % 0x1_0000_0000) as u32
-}
-
-pub fn offset(v: [u64; 25]) -> u32 {
-    low(v[OFFSET])
-}
-
-pub fn size(v: [u64; 25]) -> u32 {
-    low(v[SIZE])
+    let mut v = usual();
+    let field = r.field;
+    let other = r.other;
+    if field < 25 {
+        v[field] = r.value;
+    }
+    if other < 25 {
+        v[other] = r.beside;
+    }
+    v
 }
 
 // Setups wait in enumeration alone.

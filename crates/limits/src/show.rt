@@ -4,6 +4,8 @@ use crate::calls::Seen;
 use crate::case;
 use crate::case::Row;
 use crate::frame;
+use crate::same::MARK;
+use crate::same::WORD_MARK;
 use libc::STDOUT_FILENO;
 
 pub fn print(text: &[u8]) -> bool {
@@ -75,15 +77,19 @@ fn answer(s: Seen) -> bool {
 }
 
 fn sends(v: [u64; 25]) -> bool {
-    answer(calls::midi_sent(v)) && answer(calls::serial_sent(v))
+    let bytes = [0xA5u8; 4097];
+    answer(calls::midi_sent(v)) && answer(calls::serial_sent(v, &bytes))
 }
 
 fn frames(v: [u64; 25]) -> bool {
-    answer(calls::given(v)) && answer(calls::taken(v))
+    let frame = [1u32; 13];
+    let mut ring = [WORD_MARK; 576_012];
+    answer(calls::given(v, &frame, &mut ring)) && answer(calls::taken(v, &ring))
 }
 
 fn accesses(v: [u64; 25]) -> bool {
-    answer(calls::device_read(v)) && answer(calls::device_written(v))
+    let mut page = [MARK; 4097];
+    answer(calls::device_read(v, &page)) && answer(calls::device_written(v, &mut page))
 }
 
 pub fn line(r: Row) -> bool {

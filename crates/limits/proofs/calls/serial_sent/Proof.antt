@@ -1,10 +1,10 @@
--- `limits::calls::serial_first` is safe. No part is cut longer than the whole is.
+-- `limits::calls::serial_sent` is safe. No part is cut longer than the whole is.
 use mathlib.Core.Path.{sym}
 use native.Mathlib.Omega.{arith}
 use lib.Seq.{length-take-le}
 use borrow.Author.Needs.{needs}
-use Rattle.limits.proofs.calls.serial_first.Statement.{statement}
-use Rattle.limits.proofs.calls.serial_first.Tie as tie
+use Rattle.limits.proofs.calls.serial_sent.Statement.{statement}
+use Rattle.limits.proofs.calls.serial_sent.Tie as tie
 
 array-read-least : tie.Need-array-read-least
 array-read-least c = search needs
@@ -21,11 +21,11 @@ addresses-requires c κs = search needs
 array-read-spans : tie.Need-array-read-spans
 array-read-spans c = search needs
 
+slice-aggregate-part : tie.Need-slice-aggregate-part
+slice-aggregate-part c = sym (length-take-le _ _ (omega arith))
+
 new-requires : tie.Need-new-requires
 new-requires c κs = search needs
-
-slice-aggregate-send-serial : tie.Need-slice-aggregate-send-serial
-slice-aggregate-send-serial c = sym (length-take-le _ _ (omega arith))
 
 send-serial-requires : tie.Need-send-serial-requires
 send-serial-requires c κs = search needs
@@ -42,8 +42,8 @@ added-requires c κs = search needs
 returns : tie.Need-returns
 returns c = search needs
 
-pub serial-first-spec : {M : Type 1} → statement M
-serial-first-spec =
+pub serial-sent-spec : {M : Type 1} → statement M
+serial-sent-spec =
     tie.close
     (tie.spec
     array-read-least
@@ -51,8 +51,8 @@ serial-first-spec =
     state-requires
     addresses-requires
     array-read-spans
+    slice-aggregate-part
     new-requires
-    slice-aggregate-send-serial
     send-serial-requires
     same-state-requires
     queued-requires

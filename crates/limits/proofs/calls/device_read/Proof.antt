@@ -1,0 +1,68 @@
+-- `limits::calls::device_read` is safe. No part is cut longer than the whole is.
+use mathlib.Core.Path.{sym}
+use native.Mathlib.Omega.{arith}
+use lib.Seq.{length-take-le}
+use borrow.Author.Needs.{needs}
+use Rattle.limits.proofs.calls.device_read.Statement.{statement}
+use Rattle.limits.proofs.calls.device_read.Tie as tie
+
+array-read-least : tie.Need-array-read-least
+array-read-least c = search needs
+
+least-requires : tie.Need-least-requires
+least-requires c κs = search needs
+
+state-requires : tie.Need-state-requires
+state-requires c κs = search needs
+
+addresses-requires : tie.Need-addresses-requires
+addresses-requires c κs = search needs
+
+array-read-spans : tie.Need-array-read-spans
+array-read-spans c = search needs
+
+array-read-low : tie.Need-array-read-low
+array-read-low c = search needs
+
+low-requires : tie.Need-low-requires
+low-requires c κs = search needs
+
+array-read-low-2 : tie.Need-array-read-low-2
+array-read-low-2 c = search needs
+
+low-requires-2 : tie.Need-low-requires-2
+low-requires-2 c κs = search needs
+
+slice-aggregate-part : tie.Need-slice-aggregate-part
+slice-aggregate-part c = sym (length-take-le _ _ (omega arith))
+
+new-requires : tie.Need-new-requires
+new-requires c κs = search needs
+
+read-device-requires : tie.Need-read-device-requires
+read-device-requires c κs = search needs
+
+judged-requires : tie.Need-judged-requires
+judged-requires c κs = search needs
+
+returns : tie.Need-returns
+returns c = search needs
+
+pub device-read-spec : {M : Type 1} → statement M
+device-read-spec =
+    tie.close
+    (tie.spec
+    array-read-least
+    least-requires
+    state-requires
+    addresses-requires
+    array-read-spans
+    array-read-low
+    low-requires
+    array-read-low-2
+    low-requires-2
+    slice-aggregate-part
+    new-requires
+    read-device-requires
+    judged-requires
+    returns)
