@@ -6,10 +6,11 @@ use crate::calls::judged;
 use crate::calls::least;
 use crate::case;
 use crate::same::MARK;
-use crate::same::WORD_MARK;
 use crate::same::changed;
 use crate::same::changed_words;
+use crate::same::marks;
 use crate::same::same_state;
+use crate::same::word_marks;
 use midi::Packer;
 
 fn same_arrays(
@@ -21,20 +22,12 @@ fn same_arrays(
     are_addresses(setups) & (changed(midi) == 0) & (changed(serial) == 0) & (changed(device) == 0)
 }
 
-fn same_windows(dynamic: &[u8; 8192], sram: &[u8; 65_537], page: &[u8; 4097]) -> bool {
-    (changed(dynamic) == 0) & (changed(sram) == 0) & (changed(page) == 0)
+fn same_area(area: &[u8; 196_608]) -> bool {
+    changed(area) == 0
 }
 
-fn same_areas(
-    reply: &[u8; 65_535],
-    config: &[u8; 65_536],
-    receive: &[u8; 196_608],
-    received: &[u32; 576_001],
-) -> bool {
-    (changed(reply) == 0)
-        & (changed(config) == 0)
-        & (changed(receive) == 0)
-        & (changed_words(received) == 0)
+fn same_ring(ring: &[u32; 576_012]) -> bool {
+    changed_words(ring) == 0
 }
 
 // On the record's own arrays.
@@ -112,14 +105,14 @@ fn cut(
 }
 
 pub fn microframe(v: [u64; 25]) -> Seen {
-    let mut dynamic = [MARK; 8192];
-    let mut sram = [MARK; 65_537];
-    let mut page = [MARK; 4097];
-    let mut reply = [MARK; 65_535];
-    let mut config = [MARK; 65_536];
-    let mut receive = [MARK; 196_608];
-    let mut received = [WORD_MARK; 576_001];
-    let sending = [WORD_MARK; 576_012];
+    let mut dynamic = marks();
+    let mut sram = marks();
+    let mut page = marks();
+    let mut reply = marks();
+    let mut config = marks();
+    let mut receive = marks();
+    let mut received = word_marks();
+    let sending = word_marks();
     let ran = cut(
         v,
         &mut dynamic,
@@ -131,7 +124,10 @@ pub fn microframe(v: [u64; 25]) -> Seen {
         &mut received,
         &sending,
     );
-    let windows = same_windows(&dynamic, &sram, &page);
-    let areas = same_areas(&reply, &config, &receive, &received);
-    judged(ran.number, ran.right & windows & areas)
+    let windows = same_area(&dynamic) & same_area(&sram) & same_area(&page);
+    let areas = same_area(&reply) & same_area(&config) & same_area(&receive);
+    judged(
+        ran.number,
+        ran.right & windows & areas & same_ring(&received),
+    )
 }

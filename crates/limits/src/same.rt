@@ -1,4 +1,6 @@
 // Whether two states are alike in every field, and how much of an area is not as it was filled.
+ghost use mathlib.Core.Path.{_≡_};
+ghost use lib.ListN.{length};
 use gptimers::Timers;
 use record::Audio;
 use record::Lengths;
@@ -13,6 +15,20 @@ pub const MARK: u8 = 0xEE;
 
 // The same in a ring of words.
 pub const WORD_MARK: u32 = 0xEEEE_EEEE;
+
+// An area of marks, as long as the longest of bytes. Its length alone is told, so that a caller's proof does not look at each byte.
+pub fn marks() -> [u8; 196_608]
+    ensures { λ r. ⌜ 196608 ≡ length r ⌝ }
+{
+    [MARK; 196_608]
+}
+
+// A ring of marks, longer than the longest.
+pub fn word_marks() -> [u32; 576_012]
+    ensures { λ r. ⌜ 576012 ≡ length r ⌝ }
+{
+    [WORD_MARK; 576_012]
+}
 
 fn phase_number(p: Phase) -> u8 {
     match p {

@@ -5,7 +5,7 @@ use crate::case;
 use crate::case::Row;
 use crate::frame;
 use crate::same::MARK;
-use crate::same::WORD_MARK;
+use crate::same::word_marks;
 use libc::STDOUT_FILENO;
 
 pub fn print(text: &[u8]) -> bool {
@@ -83,7 +83,7 @@ fn sends(v: [u64; 25]) -> bool {
 
 fn frames(v: [u64; 25]) -> bool {
     let frame = [1u32; 13];
-    let mut ring = [WORD_MARK; 576_012];
+    let mut ring = word_marks();
     answer(calls::given(v, &frame, &mut ring)) && answer(calls::taken(v, &ring))
 }
 
