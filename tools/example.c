@@ -55,6 +55,7 @@ int main(void) {
     uint64_t second = usb_midi_send(first, 0, note + 2, 1, queue, first >> 40 & 0xFFFF);
     expect("40 sent: bytes queued", second >> 40, 4);
     expect("the packet is 09 90 3C 40", memcmp(queue, "\x09\x90\x3C\x40", 4) == 0, 1);
+    expect("part of a packet held: refusal 5, before 7", usb_midi_send(second, 0, note, 3, queue, 4095) >> 56, 5);
     expect("no room: refusal 7", usb_midi_send(second, 0, note, 3, queue, 4096) >> 56, 7);
     return wrong;
 }

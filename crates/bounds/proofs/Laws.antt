@@ -1,14 +1,16 @@
 -- Facts on the tests of the bounds.
 use Prim.Native.Nat.{ℕ, _+_, _-_, _<_, _≤_}
-use mathlib.Core.Bool.{Bool, true, false, _&&_, _||_}
+use mathlib.Core.Bool.{Bool, true, false, not, _&&_, _||_}
 use mathlib.Core.List.{List}
-use mathlib.Core.Path.{_≡_, refl}
+use mathlib.Core.Path.{_≡_, refl, sym}
 use native.Mathlib.Numerals.{add-one}
-use borrow.Author.Tests.{leb-true, ltb-true}
-use lib.Dec.{leb, ltb}
+use borrow.Author.Tests.{eq-eqb, eqb-true, le-leb, leb-true, ltb-true}
+use lib.Dec.{eqb, leb, ltb}
 use Rattle.bus.proofs.Sizes.{and-true}
+use Rattle.midi.specs.declared.Packer.{Packer}
+use Rattle.midi.specs.Packer.{messageLength, PackerBound}
 use Rattle.record.specs.declared.Ring.{Ring}
-use Rattle.bounds.specs.Bounds.{madeAt, allMade, other, noneAsks, ringOk}
+use Rattle.bounds.specs.Bounds.{madeAt, allMade, other, noneAsks, packerOk, ringOk}
 
 -- one setup more
 pub made-more : (q : List ℕ) (n : ℕ) → (allMade q n && madeAt q n) ≡ allMade q (n + 1)
@@ -30,3 +32,33 @@ unfolding ringOk
 in-ring r n e =
     let b = and-true (ltb (r .start) n) (leb (r .len) n) e in
     (ltb-true (r .start) n (b .0), leb-true (r .len) n (b .1))
+
+-- the packer's second clause, taken apart and put together
+or-held : (x u t : Bool) → (x || (u || not t)) ≡ true → x ≡ false → t ≡ true → u ≡ true
+or-held true true t e a b = refl
+or-held true false t e a b = sym a
+or-held false true t e a b = refl
+or-held false false true e a b = e
+or-held false false false e a b = b
+
+or-unless : (x u t : Bool) → (x ≡ false → t ≡ true → u ≡ true) → (x || (u || not t)) ≡ true
+or-unless true u t f = refl
+or-unless false true t f = refl
+or-unless false false false f = refl
+or-unless false false true f = f refl refl
+
+-- number 5's bound of a packer, as a fact and as a test
+pub packer-bound : (p : Packer) → packerOk p ≡ true → PackerBound p
+unfolding packerOk
+packer-bound p e =
+    let both = and-true (leb (p .held) 2) (p .sysex || (eqb (p .held) 0 || not (eqb (messageLength (p .status)) 2))) e in
+    record {
+      few = leb-true (p .held) 2 (both .0);
+      none = λ x l. eqb-true (p .held) 0 (or-held (p .sysex) (eqb (p .held) 0) (eqb (messageLength (p .status)) 2) (both .1) x (eq-eqb (messageLength (p .status)) 2 l));
+    }
+
+pub packer-ok : (p : Packer) → PackerBound p → packerOk p ≡ true
+unfolding packerOk
+packer-ok p b =
+    let outside = or-unless (p .sysex) (eqb (p .held) 0) (eqb (messageLength (p .status)) 2) (λ x l. eq-eqb (p .held) 0 (b .none x (eqb-true (messageLength (p .status)) 2 l))) in
+    simp (le-leb (p .held) 2 (b .few), outside)

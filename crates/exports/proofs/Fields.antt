@@ -1,12 +1,13 @@
 -- The fields of an answer do not overlap in its number: each is found again there, and so is the next packer.
 use Prim.Native.Nat.{ℕ, _+_, _*_, _/_, _%_, _^_, _<_}
-use mathlib.Core.Bool.{Bool, true, false}
+use mathlib.Core.Bool.{Bool, true, false, _&&_}
 use mathlib.Core.List.{List}
-use mathlib.Core.Path.{_≡_}
+use mathlib.Core.Path.{_≡_, refl}
 use native.Mathlib.Omega.{arith}
 use borrow.Author.Tests.{leb-true, eq-eqb, ne-eqb}
-use lib.Dec.{eqb}
+use lib.Dec.{eqb, leb}
 use Rattle.bits.specs.Pick.{pick-both}
+use Rattle.bus.proofs.Sizes.{and-true}
 use Rattle.config.specs.Config.{parsed}
 use Rattle.config.specs.Table.{tableOf}
 use Rattle.config.proofs.Cases.{by-test}
@@ -15,7 +16,10 @@ use Rattle.midi.specs.declared.Packer.{Packer}
 use Rattle.midi.specs.declared.Sent.{Sent}
 use Rattle.midi.specs.Packer.{sentOf, fresh, roomFor, packetCount, AllBytes, PackerBound, PackerBytes}
 use Rattle.midi.proofs.Bounds.{fedAll-bytes, sent-bound}
+use Rattle.bounds.specs.Bounds.{packerOk}
+use Rattle.bounds.proofs.Laws.{packer-bound, packer-ok}
 use Rattle.exports.specs.Answers.{above, flag, ofConfig, ofPacker, packerOf, ofSent}
+use Rattle.exports.specs.Send.{bounded, midiSent}
 
 pub above-parts : (refusal answer : ℕ) → answer < 2 ^ 32 → (above refusal answer / 2 ^ 32 ≡ refusal) × (above refusal answer % 2 ^ 32 ≡ answer)
 above-parts refusal answer h = (omega arith, omega arith)
@@ -61,9 +65,10 @@ packer-found n p bytes few e =
     let l = flag-lt (p .sysex) in
     same (omega arith) (omega arith) (omega arith) (omega arith) (flag-is (p .sysex) (n / 2 ^ 32 % 2) (omega arith))
 
--- 0 is the packer of a new host
-pub packer-new : packerOf 0 ≡ fresh
-packer-new = cc
+-- 0 is the packer of a new host, inside number 5's bound
+pub packer-new : (packerOf 0 ≡ fresh) × (packerOk (packerOf 0) ≡ true)
+unfolding packerOk
+packer-new = (cc, refl)
 
 pub record Found (s : Sent) : Type 0 where
   pub refusal : ofSent s / 2 ^ 56 ≡ s .refusal
@@ -83,12 +88,23 @@ sent-bytes : (p : Packer) (bs : List ℕ) (held : ℕ) → PackerBytes p → All
 unfolding sentOf
 sent-bytes p bs held h all = pick-both (λ (s : Sent). PackerBytes (s .packer)) (roomFor p bs held) (fedAll-bytes p bs h all) h
 
--- an answer holds the next packer, inside number 5's bounds again, so that it can be passed to the next send as it is
-pub sent-found : (n : ℕ) (bs : List ℕ) (held : ℕ) → PackerBound (packerOf n) → AllBytes bs → held < 65536
-    → Found (sentOf (packerOf n) bs held) × PackerBound (packerOf (ofSent (sentOf (packerOf n) bs held)))
-sent-found n bs held bound all h =
+-- an answer holds the next packer, so that it can be passed to the next send as it is
+pub sent-found : (n : ℕ) (bs : List ℕ) (held : ℕ) → AllBytes bs → held < 65536 → Found (midiSent (packerOf n) bs held)
+unfolding midiSent bounded
+sent-found n bs held all h =
     let p = packerOf n in
-    let next = sent-bound p bs held bound in
     let bytes : PackerBytes p = record { status = omega arith; first = omega arith; second = omega arith } in
-    let f = found (sentOf p bs held) (sent-held p bs held h) (sent-bytes p bs held bytes all) (omega (arith, next .few)) in
-    (f, rw (f .packer) next)
+    by-test (bounded p held)
+    (λ e. let next = sent-bound p bs held (packer-bound p (and-true (packerOk p) (leb held 4096 && eqb (held % 4) 0) e .0)) in
+    rw e (found (sentOf p bs held) (sent-held p bs held h) (sent-bytes p bs held bytes all) (omega (arith, next .few))))
+    (λ e. rw e (found (record { refusal = 5; packer = p; held = held }) h bytes (omega arith)))
+
+-- inside number 5's bound it stays there: a caller who starts with 0 and passes each answer on never meets 5 by the packer
+pub sent-again : (n : ℕ) (bs : List ℕ) (held : ℕ) → AllBytes bs → held < 65536 → packerOk (packerOf n) ≡ true
+    → packerOk (packerOf (ofSent (midiSent (packerOf n) bs held))) ≡ true
+unfolding midiSent
+sent-again n bs held all h ok =
+    let p = packerOf n in
+    let b = packer-bound p ok in
+    rw (sent-found n bs held all h .packer)
+    (packer-ok (midiSent p bs held .packer) (pick-both (λ (s : Sent). PackerBound (s .packer)) (bounded p held) (sent-bound p bs held b) b))

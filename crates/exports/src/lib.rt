@@ -8,8 +8,8 @@ ghost use Rattle.usbdev.specs.Access as Access;
 ghost use Rattle.usbdev.specs.Registers.{registers};
 ghost use Rattle.config.specs.Config.{parsed};
 ghost use Rattle.config.specs.Table.{tableOf};
-ghost use Rattle.midi.specs.Packer.{sentOf, queueAfter};
 ghost use Rattle.exports.specs.Answers as Answers;
+ghost use Rattle.exports.specs.Send as Send;
 use midi::Packer;
 use midi::Sent;
 
@@ -134,7 +134,15 @@ fn of_sent(s: Sent) -> u64
         + of_packer(s.packer)
 }
 
-// The packets of bytes behind the held ones of a queue: refusal * 2^56 + held * 2^40 + packer. A new packer is 0, and an answer is the next.
+// Number 5: a packer inside its bound, and a queue that holds whole packets.
+fn bounded(p: Packer, held: u16) -> bool
+    ensures { λ r. ⌜ r ≡ Send.bounded p held ⌝ }
+{
+    let inside = bounds::packer_ok(p);
+    inside & ((held <= 4096) & (held % 4 == 0))
+}
+
+// The packets of bytes behind the held ones of a queue: refusal (5 or 7) * 2^56 + held * 2^40 + packer. A new packer is 0, and an answer is the next.
 #[no_mangle]
 pub extern "C" fn usb_midi_send(
     packer: u64,
@@ -143,7 +151,15 @@ pub extern "C" fn usb_midi_send(
     queue: &mut [u8; 4096],
     held: u16,
 ) -> u64
-    ensures { λ r. ⌜ (r ≡ Answers.ofSent (sentOf (Answers.packerOf packer) (now (bytes .entry)) held)) × (now (queue .exit) ≡ queueAfter cable (Answers.packerOf packer) (now (bytes .entry)) held (now (queue .entry))) ⌝ }
+    ensures { λ r. ⌜ (r ≡ Answers.ofSent (Send.midiSent (Answers.packerOf packer) (now (bytes .entry)) held)) × (now (queue .exit) ≡ Send.midiQueue cable (Answers.packerOf packer) (now (bytes .entry)) held (now (queue .entry))) ⌝ }
 {
-    of_sent(midi::send(packer_of(packer), cable, bytes, queue, held as usize))
+    let p = packer_of(packer);
+    if !bounded(p, held) {
+        return of_sent(Sent {
+            refusal: 5,
+            packer: p,
+            held: held as usize,
+        });
+    }
+    of_sent(midi::send(p, cable, bytes, queue, held as usize))
 }

@@ -1,6 +1,6 @@
 -- Laws of the calls: a record in bounds stays so, a refused call leaves all as it was, a new host is in bounds, and what a record in bounds accepts.
-use mathlib.Core.Path.{_≡_, refl, sym}
-use mathlib.Core.Bool.{Bool, true, false, not, _&&_, _||_}
+use mathlib.Core.Path.{_≡_, refl}
+use mathlib.Core.Bool.{Bool, true, false, not, _&&_}
 use mathlib.Core.List.{List}
 use Prim.Native.Nat.{ℕ, _+_, _-_, _*_, _/_, _%_, _≤_, _<_}
 use native.Mathlib.Nat.{mod-lt}
@@ -11,8 +11,7 @@ use lib.Seq.{length-sets}
 use borrow.Author.Tests.{eq-eqb, ne-eqb, le-leb, lt-leb, lt-ltb, eqb-true, leb-true, ltb-true}
 use Rattle.bits.specs.Pick.{pick, pick-both}
 use Rattle.bus.proofs.Sizes.{and-true}
-use Rattle.midi.specs.declared.Packer.{Packer}
-use Rattle.midi.specs.Packer.{messageLength, packetCount, roomFor, fedAll, PackerBound}
+use Rattle.midi.specs.Packer.{packetCount, roomFor, fedAll}
 use Rattle.midi.proofs.Bounds.{fedAll-bound}
 use Rattle.usbdev.specs.Access.{fits, readSized, writeSized}
 use Rattle.record.specs.declared.Lengths.{Lengths}
@@ -21,6 +20,7 @@ use Rattle.record.specs.declared.Settings.{Settings}
 use Rattle.record.specs.Record.{withMidi, withSerial}
 use Rattle.record.specs.Change.{takenFrom}
 use Rattle.bounds.specs.Bounds.{inBounds, askedOk, heldOk, countedOk, audioOk, setupsOk, allMade, noneAsks, enumeratingOk, requestOk, queuesOk, packerOk, countsOk, countersOk, creditOk, timersOk, timerOk, ringOk, receivedOk, sendingOk}
+use Rattle.bounds.proofs.Laws.{packer-bound, packer-ok}
 use Rattle.usbhost.specs.declared.Host.{Host}
 use Rattle.usbhost.specs.Host.{stateOf, settled, noSettings, newHost, created}
 use Rattle.usbhost.specs.Calls.{unless, fewSpans, bounded, midiNumber, midiQueued, midiSent, serialNumber, serialQueued, serialSent, sendingLength, giveNumber, framePut, frameGiven, given, givenRing, takeNumber, frameTaken, holdsFrame, takenFrame, accessNumber, deviceRead, registersOf, withFlag, deviceWritten, writtenPage}
@@ -44,35 +44,6 @@ either n h next true f = f refl
 either n h next false f = same n h
 
 -- ---- MIDI send
-
-or-test : (x u t : Bool) → (x || (u || not t)) ≡ true → x ≡ false → t ≡ true → u ≡ true
-or-test true true t e a b = refl
-or-test true false t e a b = sym a
-or-test false true t e a b = refl
-or-test false false true e a b = e
-or-test false false false e a b = b
-
-or-true : (x u t : Bool) → (x ≡ false → t ≡ true → u ≡ true) → (x || (u || not t)) ≡ true
-or-true true u t f = refl
-or-true false true t f = refl
-or-true false false false f = refl
-or-true false false true f = f refl refl
-
--- number 5's bound of a packer, as a fact and as a test
-pub packer-bound : (p : Packer) → packerOk p ≡ true → PackerBound p
-unfolding packerOk
-packer-bound p e =
-    let both = and-true (leb (p .held) 2) (p .sysex || (eqb (p .held) 0 || not (eqb (messageLength (p .status)) 2))) e in
-    record {
-      few = leb-true (p .held) 2 (both .0);
-      none = λ x l. eqb-true (p .held) 0 (or-test (p .sysex) (eqb (p .held) 0) (eqb (messageLength (p .status)) 2) (both .1) x (eq-eqb (messageLength (p .status)) 2 l));
-    }
-
-pub packer-ok : (p : Packer) → PackerBound p → packerOk p ≡ true
-unfolding packerOk
-packer-ok p b =
-    let outside = or-true (p .sysex) (eqb (p .held) 0) (eqb (messageLength (p .status)) 2) (λ x l. eq-eqb (p .held) 0 (b .none x (eqb-true (messageLength (p .status)) 2 l))) in
-    simp (le-leb (p .held) 2 (b .few), outside)
 
 -- a test in the middle that stays true
 middle : (a b b′ c : Bool) → (b ≡ true → b′ ≡ true) → (a && (b && c)) ≡ true → (a && (b′ && c)) ≡ true
