@@ -135,7 +135,9 @@ accesses =
     ∷ at offset 4092 none
     ∷ at offset 4096 (calls 0 0 0 0 0 4)
     ∷ at offset (2 ^ 32 - 4) (calls 0 0 0 0 0 4)
+    ∷ at offset (2 ^ 32 - 1) (calls 0 0 0 0 0 4)
     ∷ both offset 4094 size 2 none
+    ∷ both offset 4095 size 2 (calls 0 0 0 0 0 4)
     ∷ both offset 4096 size 2 (calls 0 0 0 0 0 4)
     ∷ both offset (2 ^ 32 - 2) size 2 (calls 0 0 0 0 0 4)
     ∷ both offset 4095 size 1 none
@@ -411,6 +413,10 @@ fullQueues =
 abbrev pub wordless : List (Field × ℕ)
 wordless = (phase, 3) ∷ (running, 1) ∷ (first, little configuration 0) ∷ (second, 2 ^ 32) ∷ []
 
+-- a request that began at x runs after 2^40 microframes
+abbrev pub begun : ℕ → List ℕ → Row
+begun x = with ((request-start, x) ∷ (uf, 2 ^ 40) ∷ (microframes, 2 ^ 40) ∷ (phase, 3) ∷ (running, 1) ∷ (first, little address 0) ∷ (second, little address 4) ∷ [])
+
 -- a reply no longer than its request asks, and in its area; a request that began no later than now
 unfoldable pub requests : List Row
 requests =
@@ -432,6 +438,8 @@ requests =
     ∷ runs address 0 [] request-start 3 none
     ∷ runs address 0 [] request-start 4 (all 5)
     ∷ at request-start 4 none
+    ∷ begun (2 ^ 40) (calls 6 0 0 0 0 0)
+    ∷ begun (2 ^ 40 + 1) (all 5)
     ∷ []
 
 -- ---- 5: bytes held in the packer
