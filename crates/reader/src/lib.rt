@@ -142,9 +142,9 @@ fn take_line(
         next.run.number != run.number,
         lines::used_by(
             run.length,
-            std::num::wrapping_add_u64(run.all.midi, run.all.serial),
-            run.state.stats.in_frames,
-            run.given,
+            run.all,
+            run.state.stats,
+            run.state.audio.sending.len,
         ),
         setups,
         midi,

@@ -15,8 +15,8 @@ use script::windows;
 use usbhost::TakenFrame;
 
 // What a run holds beside its areas: `length` bytes of dynamic memory, `space` frames of the sending ring, the microframes that are still asked
-// for, how many calls were refused, bytes dropped and frames given, and what came in all. A run that is not live passes over its lines; behind a
-// bad line all lines are passed over. A run that goes `through` stays live where a byte was dropped.
+// for, how many calls were refused and bytes dropped, and what came in all. A run that is not live passes over its lines; behind a bad line all
+// lines are passed over. A run that goes `through` stays live where a byte was dropped.
 pub struct Run {
     pub number: u64,
     pub live: bool,
@@ -30,7 +30,6 @@ pub struct Run {
     pub step: u64,
     pub refused: u64,
     pub dropped: u64,
-    pub given: u64,
     pub settings: Settings,
     pub state: State,
     pub packer: Packer,
@@ -65,7 +64,6 @@ pub fn fresh(
         step: 0,
         refused: 0,
         dropped: 0,
-        given: 0,
         settings,
         state: usbhost::new_state(),
         packer: Packer::new(),
@@ -102,7 +100,7 @@ fn stored(run: Run, state: State, refusal: u8, out: &mut [u8; 65536], at: usize)
     ensures { λ r. ⌜ r .at ≤ 65536 ⌝ }
 {
     let end = text::outcome(out, at, refusal);
-    let refused = turns::counted(run.refused, refusal != 0);
+    let refused = turns::counted(run.refused, refusal);
     let mut next = with_state(run, state);
     next.refused = refused;
     Next { run: next, at: end }
@@ -369,16 +367,6 @@ fn read_frame(line: &[u8]) -> Frame {
     }
 }
 
-// What a frame given answers; one that was taken counts.
-fn gave(run: Run, state: State, refusal: u8, out: &mut [u8; 65536], at: usize) -> Next
-    requires { ⌜ at ≤ 40000 ⌝ }
-    ensures { λ r. ⌜ r .at ≤ 65536 ⌝ }
-{
-    let mut next = run;
-    next.given = turns::counted(run.given, refusal == 0);
-    stored(next, state, refusal, out, at)
-}
-
 // `g W0 .. W11`: a frame given.
 fn frame_give(
     run: Run,
@@ -403,7 +391,7 @@ fn frame_give(
             setups,
             &mut sending[..space],
         );
-        return gave(run, given.state, given.refusal, out, at);
+        return stored(run, given.state, given.refusal, out, at);
     }
     bad(run, out, at)
 }

@@ -5,14 +5,18 @@ use crate::calls;
 use crate::calls::Next;
 use crate::calls::Run;
 use crate::log;
+use crate::log::Came;
 use crate::start;
 use crate::start::Start;
 use crate::turns;
 use crate::turns::Turned;
 use record::State;
+use record::Stats;
 use script::parse;
 use script::text;
 use script::windows;
+use std::num::wrapping_add_u64;
+use std::num::wrapping_sub_u64;
 
 // How much a run may have written of its long areas: bytes of dynamic memory and of the receive area, words of the two rings.
 pub struct Used {
@@ -22,15 +26,18 @@ pub struct Used {
     pub sending: usize,
 }
 
-// The same of a run with so much memory, after so many bytes and frames came in all and so many frames were given: a ring is written from its
-// start on, a frame behind the other.
-pub fn used_by(length: usize, bytes: u64, frames: u64, given: u64) -> Used
+// The same of a run with so much memory, after all that came and was counted, and with so many frames left to send. A ring is written from its
+// start on, a frame behind the other, and the frames given are those sent but for the missing ones, and those left.
+pub fn used_by(length: usize, all: Came, stats: Stats, left: usize) -> Used
     ensures { λ r. ⌜ ((r .dynamic ≤ 1048576) × (r .receive ≤ 196608)) × ((r .received ≤ 576000) × (r .sending ≤ 576000)) ⌝ }
 {
+    let came = wrapping_add_u64(all.midi, all.serial);
+    let sent = wrapping_sub_u64(stats.out_frames, stats.out_underruns);
+    let given = wrapping_add_u64(sent, left as u64);
     Used {
         dynamic: log::at_most(length, 1048576),
-        receive: log::at_most(bytes as usize, 196608),
-        received: calls::ring_words(frames as usize, 576000),
+        receive: log::at_most(came as usize, 196608),
+        received: calls::ring_words(stats.in_frames as usize, 576000),
         sending: calls::ring_words(given as usize, 576000),
     }
 }

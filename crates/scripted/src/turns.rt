@@ -47,12 +47,12 @@ pub struct Turned {
     pub live: bool,
 }
 
-// One more, where there was one.
-pub fn counted(n: u64, one: bool) -> u64 {
-    if one {
-        return std::num::wrapping_add_u64(n, 1);
+// One refused call more, where there was one.
+pub fn counted(refused: u64, refusal: u8) -> u64 {
+    if refusal == 0 {
+        return refused;
     }
-    n
+    std::num::wrapping_add_u64(refused, 1)
 }
 
 // Behind one microframe more; a run that does not go `through` ends where it dropped a byte.
@@ -68,7 +68,7 @@ pub fn turned_once(
     Turned {
         all: log::came_more(before.all, cdc, receive, answer.received),
         time: std::num::wrapping_add_u64(before.time, step),
-        refused: counted(before.refused, refusal != 0),
+        refused: counted(before.refused, refusal),
         dropped: std::num::wrapping_add_u64(before.dropped, answer.dropped),
         live: through | (answer.dropped == 0),
     }

@@ -27,9 +27,6 @@ returns c = search needs
 answer-requires : tie.Need-answer-requires
 answer-requires c κs = search needs
 
-wrapping-add-u64-requires : tie.Need-wrapping-add-u64-requires
-wrapping-add-u64-requires c κs = search needs
-
 used-by-requires : tie.Need-used-by-requires
 used-by-requires c κs = search needs
 
@@ -37,7 +34,7 @@ clear-all-requires : tie.Need-clear-all-requires
 clear-all-requires c κs = search needs
 
 settled-requires : tie.Need-settled-requires
-settled-requires c κs = (c .before .before .before .before .before .before .before .before .before .before .before .before .before .before .before .before .before .before .before .before .before .before .before .before .before .before .before .before .before .before .before .before .before .before .pre .0, c .before .before .before .before .before .before .before .before .before .before .before .before .before .before .before .before .before .before .answer .ensures)
+settled-requires c κs = (c .before .before .before .before .before .before .before .before .before .before .before .before .before .before .before .before .before .before .before .before .before .before .before .before .before .before .before .before .before .before .before .before .before .pre .0, c .before .before .before .before .before .before .before .before .before .before .before .before .before .before .before .before .before .answer .ensures)
 
 go-on-requires : tie.Need-go-on-requires
 go-on-requires c κs = search needs
@@ -57,7 +54,6 @@ take-line-spec =
     looked-requires
     returns
     answer-requires
-    wrapping-add-u64-requires
     used-by-requires
     clear-all-requires
     settled-requires

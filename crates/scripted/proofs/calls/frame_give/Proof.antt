@@ -23,8 +23,8 @@ slice-aggregate-give-frame-2 c = sym (length-take-le _ _ (c .before .before .rin
 give-frame-requires : tie.Need-give-frame-requires
 give-frame-requires c κs = search needs
 
-gave-requires : tie.Need-gave-requires
-gave-requires c κs = search needs
+stored-requires : tie.Need-stored-requires
+stored-requires c κs = search needs
 
 same-length : tie.Need-same-length
 same-length c = search needs
@@ -48,7 +48,7 @@ frame-give-spec =
     slice-relend-prefix-give-frame
     slice-aggregate-give-frame-2
     give-frame-requires
-    gave-requires
+    stored-requires
     same-length
     returns
     bad-requires
