@@ -1,6 +1,7 @@
 pub mod Accepted
 pub mod History
 pub mod Table
+pub mod OneCall
 pub mod Accepts
 pub mod Contracts
 pub mod Parts

@@ -34,7 +34,7 @@ pick-sent : (t : Bool) (m m′ : Counts) (n : ℕ) → m .sent ≡ n → m′ .s
 pick-sent true m m′ n p q = p
 pick-sent false m m′ n p q = q
 
-and-assoc : (a b c : Bool) → (a && (b && c)) ≡ ((a && b) && c)
+pub and-assoc : (a b c : Bool) → (a && (b && c)) ≡ ((a && b) && c)
 and-assoc true b c = refl
 and-assoc false b c = refl
 

@@ -1,3 +1,4 @@
 pub mod Calls
+pub mod Reach
 pub mod Sums
 pub mod Accepts
