@@ -13,3 +13,4 @@ pub mod History
 pub mod Ring
 pub mod InputStep
 pub mod Waking
+pub mod Blocks

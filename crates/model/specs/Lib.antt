@@ -8,3 +8,4 @@ pub mod Earned
 pub mod Marks
 pub mod Claims
 pub mod Ring
+pub mod Index

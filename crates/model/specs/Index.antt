@@ -1,0 +1,14 @@
+-- Bytes of a run by their index: the words in which laws say what blocks, frames and packets are.
+use Prim.Native.Nat.{ℕ, _+_, _*_, _%_, _^_}
+use mathlib.Core.List.{List}
+use lib.ListN.{getD}
+use Rattle.midi.specs.Packer.{byteCount}
+use Rattle.transfer.specs.Transfer.{tabulate}
+
+-- the big-endian word of the four bytes from index o on
+abbrev pub bigEndian : List ℕ → ℕ → ℕ
+bigEndian bs o = getD bs o 0 * 2 ^ 24 + getD bs (o + 1) 0 * 2 ^ 16 + getD bs (o + 2) 0 * 2 ^ 8 + getD bs (o + 3) 0
+
+-- USB MIDI 1.0, section 4: packet i has its code in the low half of byte 4 i, and its MIDI bytes, as many as the code says, from byte 4 i + 1 on
+abbrev pub bytesOfPacket : List ℕ → ℕ → List ℕ
+bytesOfPacket bs i = tabulate (byteCount (getD bs (4 * i) 0 % 16)) (λ j. getD bs (4 * i + 1 + j) 0)
