@@ -14,3 +14,4 @@ pub mod Ring
 pub mod InputStep
 pub mod Waking
 pub mod Blocks
+pub mod Decoded
