@@ -15,3 +15,4 @@ pub mod InputStep
 pub mod Waking
 pub mod Blocks
 pub mod Decoded
+pub mod Retired

@@ -9,3 +9,4 @@ pub mod Marks
 pub mod Claims
 pub mod Ring
 pub mod Index
+pub mod Retired
