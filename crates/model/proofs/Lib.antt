@@ -7,6 +7,7 @@ pub mod Budget
 pub mod Out
 pub mod Marks
 pub mod Received
+pub mod OldestFirst
 pub mod Placed
 pub mod OneBlock
 pub mod History

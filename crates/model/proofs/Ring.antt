@@ -1,14 +1,14 @@
 -- The received ring after a list of frames: it holds the last 48,000 of its own and of those, oldest first.
 use Prim.Native.Nat.{ℕ, zero, suc, _+_, _-_, _*_, _%_, _≤_, _<_}
-use mathlib.Core.Path.{_≡_, refl, ap, ap₂, sym, subst, _∙_}
+use mathlib.Core.Path.{_≡_, refl, ap, sym, subst, _∙_}
 use mathlib.Core.Logic.{_≢_}
 use mathlib.Core.Bool.{Bool, true, false}
 use mathlib.Core.List.{List, [], _∷_, _++_, map, append-assoc, append-nil}
 use native.Mathlib.Omega.{arith}
-use borrow.Author.Tests.{ltb-true, ltb-false, eqb-true, eqb-false}
-use lib.Dec.{eqb, ltb}
-use lib.ListN.{length, take, drop, set, length-append, length-drop}
-use lib.Seq.{sets, length-sets, length-take-le, sets-eq, take-at, drop-at, take-set-le, drop-set-lt, drop-append-le, drop-drop, take-nil}
+use borrow.Author.Tests.{eqb-true, eqb-false}
+use lib.Dec.{eqb}
+use lib.ListN.{length, take, drop, length-append, length-drop}
+use lib.Seq.{sets, length-sets, drop-append-le, drop-drop}
 use Rattle.bits.specs.Pick.{pick}
 use Rattle.bus.specs.Steps.{replay, replay-append}
 use Rattle.transfer.specs.Transfer.{tabulate}
@@ -17,21 +17,9 @@ use Rattle.record.specs.Change.{Change, count, credit, frame, FRAMES, WORDS, ri
 use Rattle.model.specs.Audio.{BLOCK-FRAMES, wordsOf, good}
 use Rattle.model.specs.Ring.{frameIn, contents, InOrder, framesFrom, framesOfBlock, framesOfBlocks, lastOf, blockChanges, blocksChanges}
 use Rattle.model.proofs.Received.{Kept, keptBy, keptOn}
+use Rattle.model.proofs.OldestFirst.{ring-length, ring-oldest, ring-appends}
 
 -- ---- lists
-
-take-drop : (m n : ℕ) (l : List ℕ) → take m (drop n l) ≡ drop n (take (n + m) l)
-take-drop m zero l = let e : m ≡ 0 + m = omega arith in ap (λ (k : ℕ). take k l) e
-take-drop m (suc n) [] = take-nil m ∙ sym (ap (drop (suc n)) (take-nil (suc n + m)))
-take-drop m (suc n) (x ∷ xs) = let e : suc (n + m) ≡ suc n + m = omega arith in take-drop m n xs ∙ ap (λ (k : ℕ). drop (suc n) (take k (x ∷ xs))) e
-
-take-sets : (n : ℕ) (l : List ℕ) (i : ℕ) (vs : List ℕ) → n ≤ i → take n (sets l i vs) ≡ take n l
-take-sets n l i [] h = refl
-take-sets n l i (a ∷ vs) h = take-sets n (set l i a) (suc i) vs (omega arith) ∙ take-set-le n l i a h
-
-drop-sets : (n : ℕ) (l : List ℕ) (i : ℕ) (vs : List ℕ) → i + length vs ≤ n → drop n (sets l i vs) ≡ drop n l
-drop-sets n l i [] h = refl
-drop-sets n l i (a ∷ vs) h = drop-sets n (set l i a) (suc i) vs (omega arith) ∙ drop-set-lt n l i a (omega arith)
 
 -- the last n of some lists in turn are the last n of all
 pub last-last : (n : ℕ) (xs ys : List (List ℕ)) → lastOf n (lastOf n xs ++ ys) ≡ lastOf n (xs ++ ys)
@@ -45,61 +33,6 @@ last-last n xs ys =
 
 last-few : (n : ℕ) (l : List (List ℕ)) → length l ≤ n → lastOf n l ≡ l
 last-few n l h = let e : length l - n ≡ 0 = omega arith in ap (λ (j : ℕ). drop j l) e
-
--- ---- a frame stored in the ring
-
-module _ (ring : List ℕ) (p : ℕ) (f : List ℕ) (room : length ring ≡ 576000) (inside : p < FRAMES) (whole : length f ≡ WORDS) where
-  stored-same : frameIn (sets ring (p * WORDS) f) p ≡ f
-  unfolding frameIn
-  stored-same =
-      let long : length (take (p * WORDS) ring) ≡ p * WORDS = length-take-le (p * WORDS) ring (omega arith) in
-      ap (λ (l : List ℕ). take WORDS (drop (p * WORDS) l)) (sets-eq f ring (p * WORDS) (omega arith) ∙ append-assoc (take (p * WORDS) ring) f _)
-      ∙ ap (take WORDS) (drop-at (take (p * WORDS) ring) _ (p * WORDS) long)
-      ∙ take-at f _ WORDS whole
-
-  stored-other : (j : ℕ) → j ≢ p → frameIn (sets ring (p * WORDS) f) j ≡ frameIn ring j
-  unfolding frameIn
-  stored-other j h = by-test (ltb j p) refl
-    where
-      by-test : (t : Bool) → ltb j p ≡ t → take WORDS (drop (j * WORDS) (sets ring (p * WORDS) f)) ≡ take WORDS (drop (j * WORDS) ring)
-      by-test true e =
-          take-drop WORDS (j * WORDS) (sets ring (p * WORDS) f)
-          ∙ ap (drop (j * WORDS)) (take-sets (j * WORDS + WORDS) ring (p * WORDS) f (omega (arith, ltb-true j p e)))
-          ∙ sym (take-drop WORDS (j * WORDS) ring)
-      by-test false e = ap (take WORDS) (drop-sets (j * WORDS) ring (p * WORDS) f (omega (arith, ltb-false j p e)))
-
--- ---- contents
-
-length-contents : (ring : List ℕ) (s n : ℕ) → length (contents ring s n) ≡ n
-unfolding contents
-length-contents ring s zero = refl
-length-contents ring s (suc n) = ap suc (length-contents ring _ n)
-
--- the newest stands last
-contents-newest : (ring : List ℕ) (s n : ℕ) → s < FRAMES → contents ring s (suc n) ≡ contents ring s n ++ (frameIn ring ((s + n) % FRAMES) ∷ [])
-unfolding contents
-contents-newest ring s zero h = let e : s ≡ (s + 0) % FRAMES = omega arith in ap (λ (i : ℕ). frameIn ring i ∷ []) e
-contents-newest ring s (suc n) h =
-    let e : ((s + 1) % FRAMES + n) % FRAMES ≡ (s + suc n) % FRAMES = omega arith in
-    ap (λ (l : List (List ℕ)). frameIn ring s ∷ l)
-    (contents-newest ring ((s + 1) % FRAMES) n (omega arith)
-    ∙ ap (λ (i : ℕ). contents ring ((s + 1) % FRAMES) n ++ (frameIn ring i ∷ [])) e)
-
--- two rings with the same frames there
-contents-same : (l ring : List ℕ) (s n : ℕ) → s < FRAMES → ((i : ℕ) → i < n → frameIn l ((s + i) % FRAMES) ≡ frameIn ring ((s + i) % FRAMES)) → contents l s n ≡ contents ring s n
-unfolding contents
-contents-same l ring s zero h g = refl
-contents-same l ring s (suc n) h g =
-    let e : (s + 0) % FRAMES ≡ s = omega arith in
-    ap₂ (λ (f : List ℕ) (fs : List (List ℕ)). f ∷ fs)
-    (subst (λ (i : ℕ). frameIn l i ≡ frameIn ring i) e (g 0 (omega arith)))
-    (contents-same l ring ((s + 1) % FRAMES) n (omega arith) (λ i b.
-    let e₁ : (s + suc i) % FRAMES ≡ ((s + 1) % FRAMES + i) % FRAMES = omega arith in
-    subst (λ (k : ℕ). frameIn l k ≡ frameIn ring k) e₁ (g (suc i) (omega arith))))
-
-contents-oldest : (ring : List ℕ) (s n : ℕ) → contents ring s (suc n) ≡ frameIn ring s ∷ contents ring ((s + 1) % FRAMES) n
-unfolding contents
-contents-oldest ring s n = refl
 
 -- ---- frames behind the newest
 
@@ -124,32 +57,21 @@ module _ (k : Kept) (f : List ℕ) (whole : length f ≡ WORDS) (o : InOrder (k 
   abbrev stores : List ℕ
   stores = sets (k .ring) (at * WORDS) f
 
-  inside : at < FRAMES
-  inside = omega arith
-
   room : length stores ≡ 576000
   room = length-sets (k .ring) (at * WORDS) f ∙ o .room
-
-  same : frameIn stores at ≡ f
-  same = stored-same (k .ring) at f (o .room) inside whole
-
-  other : (j : ℕ) → j ≢ at → frameIn stores j ≡ frameIn (k .ring) j
-  other = stored-other (k .ring) at f (o .room) inside whole
 
   -- a ring that is full loses its oldest
   full : k .place .len ≡ FRAMES → Adds (f ∷ []) k (keptBy stores (record { start = next; len = FRAMES }))
   full h =
       let rest = contents (k .ring) next 47999 in
       let there : at ≡ (next + 47999) % FRAMES = omega (arith, o .starts) in
-      let long : length (rest ++ (f ∷ [])) ≡ FRAMES = length-append rest (f ∷ []) ∙ ap (λ (n : ℕ). n + 1) (length-contents (k .ring) next 47999) in
+      let long : length (rest ++ (f ∷ [])) ≡ FRAMES = length-append rest (f ∷ []) ∙ ap (λ (n : ℕ). n + 1) (ring-length FRAMES (k .ring) next 47999) in
       let before : held k ≡ frameIn (k .ring) (k .place .start) ∷ rest =
-      ap (contents (k .ring) (k .place .start)) h ∙ contents-oldest (k .ring) (k .place .start) 47999 in
+      ap (contents (k .ring) (k .place .start)) h ∙ ring-oldest FRAMES (k .ring) (k .place .start) 47999 in
       record {
         frames =
-            contents-newest stores next 47999 (omega arith)
-            ∙ ap₂ (λ (l : List (List ℕ)) (x : List ℕ). l ++ (x ∷ []))
-            (contents-same stores (k .ring) next 47999 (omega arith) (λ i b. other ((next + i) % FRAMES) (λ e. omega (arith, o .starts))))
-            (ap (frameIn stores) (sym there) ∙ same)
+            ap (λ (i : ℕ). contents (sets (k .ring) (i * WORDS) f) next FRAMES) there
+            ∙ ring-appends FRAMES (k .ring) next 47999 f (omega arith) (omega arith) (omega (arith, o .room)) whole
             ∙ sym (last-more FRAMES (frameIn (k .ring) (k .place .start)) (rest ++ (f ∷ [])) long)
             ∙ sym (ap (λ (l : List (List ℕ)). lastOf FRAMES (l ++ (f ∷ []))) before);
         order = record { room = room; starts = omega arith; holds = omega arith };
@@ -161,14 +83,11 @@ module _ (k : Kept) (f : List ℕ) (whole : length f ≡ WORDS) (o : InOrder (k 
       let n = k .place .len in
       let less : n < FRAMES = omega (arith, o .holds) in
       let up : n + 1 ≡ suc n = omega arith in
-      let long : length (held k ++ (f ∷ [])) ≡ n + 1 = length-append (held k) (f ∷ []) ∙ ap (λ (j : ℕ). j + 1) (length-contents (k .ring) (k .place .start) n) in
+      let long : length (held k ++ (f ∷ [])) ≡ n + 1 = length-append (held k) (f ∷ []) ∙ ap (λ (j : ℕ). j + 1) (ring-length FRAMES (k .ring) (k .place .start) n) in
       record {
         frames =
             ap (contents stores (k .place .start)) up
-            ∙ contents-newest stores (k .place .start) n (o .starts)
-            ∙ ap₂ (λ (l : List (List ℕ)) (x : List ℕ). l ++ (x ∷ []))
-            (contents-same stores (k .ring) (k .place .start) n (o .starts) (λ i b. other ((k .place .start + i) % FRAMES) (λ e. omega (arith, o .starts))))
-            same
+            ∙ ring-appends FRAMES (k .ring) (k .place .start) n f (o .starts) less (omega (arith, o .room)) whole
             ∙ sym (last-few FRAMES (held k ++ (f ∷ [])) (omega arith));
         order = record { room = room; starts = o .starts; holds = omega arith };
       }
@@ -184,7 +103,7 @@ module _ (k : Kept) (f : List ℕ) (whole : length f ≡ WORDS) (o : InOrder (k 
 
 pub adds-none : (k : Kept) → InOrder (k .ring) (k .place) → Adds [] k k
 adds-none k o =
-    let long : length (held k) ≡ k .place .len = length-contents (k .ring) (k .place .start) (k .place .len) in
+    let long : length (held k) ≡ k .place .len = ring-length FRAMES (k .ring) (k .place .start) (k .place .len) in
     record { frames = sym (ap (lastOf FRAMES) (append-nil (held k)) ∙ last-few FRAMES (held k) (omega (arith, o .holds))); order = o }
 
 adds-both : (xs ys : List (List ℕ)) (k k₁ k₂ : Kept) → Adds xs k k₁ → Adds ys k₁ k₂ → Adds (xs ++ ys) k k₂

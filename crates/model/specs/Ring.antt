@@ -1,5 +1,5 @@
--- The received ring as a list of frames, oldest first, and the frames that a run of the input endpoint brings (demand 3; document 01, "Streams").
-use Prim.Native.Nat.{ℕ, zero, suc, _+_, _-_, _*_, _%_, _≤_, _<_}
+-- The two rings as lists of frames, oldest first, and the frames that a run of the input endpoint brings (demand 3; document 01, "Streams").
+use Prim.Native.Nat.{ℕ, zero, suc, _+_, _-_, _*_, _/_, _%_, _≤_, _<_}
 use mathlib.Core.Path.{_≡_}
 use mathlib.Core.Bool.{_||_}
 use mathlib.Core.List.{List, [], _∷_, _++_, map}
@@ -20,14 +20,26 @@ use Rattle.model.specs.Audio.{audioIn, BLOCK-FRAMES, good, wordsOf, bloc
 unfoldable pub frameIn : List ℕ → ℕ → List ℕ
 frameIn ring i = take WORDS (drop (i * WORDS) ring)
 
--- the frames at start, start + 1, .. modulo 48,000, so many of them: oldest first
-unfoldable pub contents : List ℕ → ℕ → ℕ → List (List ℕ)
-contents ring start zero = []
-contents ring start (suc len) = frameIn ring start ∷ contents ring ((start + 1) % FRAMES) len
+-- the frames at start, start + 1, .. modulo the capacity, so many of them: oldest first
+unfoldable pub oldestFirst : ℕ → List ℕ → ℕ → ℕ → List (List ℕ)
+oldestFirst capacity ring start zero = []
+oldestFirst capacity ring start (suc len) = frameIn ring start ∷ oldestFirst capacity ring ((start + 1) % capacity) len
+
+-- those of a ring with room for 48,000
+abbrev pub contents : List ℕ → ℕ → ℕ → List (List ℕ)
+contents ring start len = oldestFirst FRAMES ring start len
 
 -- what the received ring holds
 abbrev pub ringFrames : World → List (List ℕ)
 ringFrames w = contents (w .received) (w .state .audio .received .start) (w .state .audio .received .len)
+
+-- those of a sending ring, which has room for a frame in every twelve of its words (`to_rytm`, 373)
+abbrev pub sendingFrames : List ℕ → Ring → List (List ℕ)
+sendingFrames ring place = oldestFirst (length ring / WORDS) ring (place .start) (place .len)
+
+-- the frames that wait to be sent
+abbrev pub waitingFrames : World → List (List ℕ)
+waitingFrames w = sendingFrames (w .sending) (w .state .audio .sending)
 
 -- a ring with room for 48,000 frames, and a place that lies in it
 pub record InOrder (ring : List ℕ) (place : Ring) : Type 0 where
