@@ -8,6 +8,7 @@ pub mod Out
 pub mod Marks
 pub mod Received
 pub mod OldestFirst
+pub mod SentBlock
 pub mod Placed
 pub mod OneBlock
 pub mod History

@@ -10,3 +10,4 @@ pub mod Claims
 pub mod Ring
 pub mod Index
 pub mod Retired
+pub mod SentBlock
