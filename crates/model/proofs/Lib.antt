@@ -11,6 +11,7 @@ pub mod OldestFirst
 pub mod SentBlock
 pub mod Placed
 pub mod OneBlock
+pub mod SendingRing
 pub mod History
 pub mod Ring
 pub mod InputStep

@@ -520,7 +520,7 @@ module _ {K : Type 0} (R : Reading K) where
       ∙ pick-and (reachesOutput t w) _ _ k
 
 -- the stream counter, the sending ring and the frames counted as sent
-out-output : (w : World) → outOf (atOutput w) ≡ outOf w
+pub out-output : (w : World) → outOf (atOutput w) ≡ outOf w
 out-output w = silent-keeps outs streamIn (silent-hears outReading outLasting outUnheard (λ r n k. refl)) _ ∙ kept-stream outs out-leaves outLasting (rsSet w) w
 
 block-out : (x : World) → blockRead outReading x (outOf x) ≡ sentOut (outOf x)

@@ -1,0 +1,86 @@
+-- The sending ring as a list, oldest first, in a microframe: a block takes its first seven, or all, and nothing else touches it.
+use Prim.Native.Nat.{ℕ, _<_}
+use mathlib.Core.Path.{_≡_, refl, ap, ap₂, _∙_}
+use mathlib.Core.Bool.{Bool, true, false}
+use mathlib.Core.List.{List, [], _∷_}
+use lib.ListN.{drop}
+use Rattle.bits.specs.Pick.{pick}
+use Rattle.bus.specs.Steps.{replay}
+use Rattle.record.specs.World.{World}
+use Rattle.record.specs.Change.{Change, bus, ran, lost, count, uf, phase, started, gone, suspended, wasRunning, credit, budget, counter, block, timers, control, queued, popped, pushed, cleared, reply, device, config, forgot, midi, serial, received, frame, taken, apply, left}
+use Rattle.model.specs.Audio.{BLOCK-FRAMES, capacity, streamIn}
+use Rattle.model.specs.Microframe.{rsSet, microframe, enumerates}
+use Rattle.model.specs.Reach.{toPhase, phaseBy, streamBy, atOutput}
+use Rattle.model.specs.Earned.{Out, outOf, sentOut}
+use Rattle.model.specs.Claims.{sendsAt}
+use Rattle.model.specs.Ring.{sendingFrames, waitingFrames}
+use Rattle.model.proofs.OneBlock.{out-output, out-microframe}
+use Rattle.model.proofs.OldestFirst.{ring-taken}
+
+-- ---- no change writes the ring's words
+
+words-change : (c : Change) (w : World) → apply c w .sending ≡ w .sending
+unfolding apply
+words-change (bus s) w = refl
+words-change (ran e k n) w = refl
+words-change (lost n) w = refl
+words-change (count c n) w = refl
+words-change (uf n) w = refl
+words-change (phase p) w = refl
+words-change (started n) w = refl
+words-change (gone b) w = refl
+words-change (suspended b) w = refl
+words-change (wasRunning b) w = refl
+words-change (credit n) w = refl
+words-change (budget n) w = refl
+words-change (counter n) w = refl
+words-change (block n c) w = refl
+words-change (timers ts) w = refl
+words-change (control c) w = refl
+words-change (queued bs) w = refl
+words-change popped w = refl
+words-change (pushed bs) w = refl
+words-change cleared w = refl
+words-change (reply n bs) w = refl
+words-change (device bs) w = refl
+words-change (config bs) w = refl
+words-change forgot w = refl
+words-change (midi n) w = refl
+words-change (serial n) w = refl
+words-change (received bs) w = refl
+words-change (frame f) w = refl
+words-change (taken n) w = refl
+
+words-kept : (cs : List Change) (w : World) → replay apply cs w .sending ≡ w .sending
+words-kept [] w = refl
+words-kept (c ∷ cs) w = words-kept cs (apply c w) ∙ words-change c w
+
+pub words-microframe : (t : ℕ) (w : World) → left (microframe t) w .sending ≡ w .sending
+words-microframe t w = words-kept (microframe t w) w
+
+words-output : (w : World) → atOutput w .sending ≡ w .sending
+unfolding streamBy phaseBy
+words-output w =
+    let v = left (toPhase (w .settings) (rsSet w)) w in
+    let u = left (enumerates (w .settings)) v in
+    words-kept (streamIn u) u ∙ words-kept (enumerates (w .settings) v) v ∙ words-kept (toPhase (w .settings) (rsSet w) w) w
+
+-- ---- the list
+
+-- by the words and the place
+same-frames : (v w : World) → v .sending ≡ w .sending → outOf v .sending ≡ outOf w .sending → waitingFrames v ≡ waitingFrames w
+same-frames v w p q = ap₂ sendingFrames p q
+
+-- at the output step it is as at entry
+pub waiting-output : (w : World) → waitingFrames (atOutput w) ≡ waitingFrames w
+waiting-output w = same-frames (atOutput w) w (words-output w) (ap (λ (o : Out). o .sending) (out-output w))
+
+pub waiting-microframe : (t : ℕ) (w : World) → w .state .audio .sending .start < capacity w
+    → waitingFrames (left (microframe t) w) ≡ pick (sendsAt t w) (drop BLOCK-FRAMES (waitingFrames w)) (waitingFrames w)
+unfolding sentOut
+waiting-microframe t w inside =
+    ap₂ sendingFrames (words-microframe t w) (ap (λ (o : Out). o .sending) (out-microframe t w)) ∙ by (sendsAt t w)
+  where
+    by : (b : Bool) → sendingFrames (w .sending) (pick b (sentOut (outOf w)) (outOf w) .sending) ≡ pick b (drop BLOCK-FRAMES (waitingFrames w)) (waitingFrames w)
+    by true = ring-taken (capacity w) (w .sending) (w .state .audio .sending) BLOCK-FRAMES inside
+    by false = refl
