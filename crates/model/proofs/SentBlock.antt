@@ -166,10 +166,12 @@ module _ (w : World) where
       ∙ zero-take (w .state .audio .block) uncut j
       (behind front (replicate 2048 0) (32 + 28 * channels) (j - (32 + 28 * channels)) j 0 length-front (omega arith) ∙ zeros-at 2048 (j - (32 + 28 * channels)))
 
-  -- no f-th frame waits
-  none-waits : (f : ℕ) → w .state .audio .sending .len ≤ f → getD (waitingFrames w) f [] ≡ []
-  none-waits f h =
-      List·getD-eq-default (waitingFrames w) [] (omega (arith, ring-length (capacity w) (w .sending) (w .state .audio .sending .start) (w .state .audio .sending .len)))
+  -- as many wait as the ring's place says
+  waiting-length : length (waitingFrames w) ≡ w .state .audio .sending .len
+  waiting-length = ring-length (capacity w) (w .sending) (w .state .audio .sending .start) (w .state .audio .sending .len)
+
+  none-waits : (f : ℕ) → length (waitingFrames w) ≤ f → getD (waitingFrames w) f [] ≡ []
+  none-waits f h = List·getD-eq-default (waitingFrames w) [] h
 
   -- a frame has at most twelve words
   twelve-words : (f : ℕ) → w .state .audio .sending .start < capacity w → length (getD (waitingFrames w) f []) ≤ 12
@@ -183,14 +185,15 @@ module _ (w : World) where
           let long : length (getD (waitingFrames w) f []) ≡ length (take WORDS at) = ap length is in
           omega (arith, long, length-take WORDS at)
       by false e =
-          let none = ap length (none-waits f (ltb-false f (w .state .audio .sending .len) e)) in
+          let none = ap length (none-waits f (omega (arith, waiting-length, ltb-false f (w .state .audio .sending .len) e))) in
           omega (arith, none)
 
   silent : (v i : ℕ) → v ≡ 0 → v / 2 ^ (24 - 8 * i) % 256 ≡ 0
   silent v i e = ap (λ (x : ℕ). x / 2 ^ (24 - 8 * i) % 256) e ∙ ap (λ (x : ℕ). x % 256) (zero-div (2 ^ (24 - 8 * i)))
 
   -- all of it, for a block within its bounds and a ring whose start lies in it (number 5)
-  pub sent-block : 33 ≤ w .state .audio .block → w .state .audio .block ≤ 2047 → channels ≡ (w .state .audio .block - 32) / 28 → w .state .audio .sending .start < capacity w → BlockBytes w (blockOf w)
+  pub sent-block : 33 ≤ w .state .audio .block → w .state .audio .block ≤ 2047 → channels ≡ (w .state .audio .block - 32) / 28 → w .state .audio .sending .start < capacity w
+      → BlockBytes (w .state .audio .block) channels (w .state .audio .counter) (waitingFrames w) (blockOf w)
   sent-block least most matching inside =
       let room : 32 + 28 * channels ≤ w .state .audio .block = omega arith in
       let third = before-cut 2 (omega arith) ∙ in-header 2 (omega arith) in
@@ -199,7 +202,7 @@ module _ (w : World) where
         long = block-length most;
         first = before-cut 0 (omega arith) ∙ in-header 0 (omega arith);
         second = before-cut 1 (omega arith) ∙ in-header 1 (omega arith);
-        counter = omega (arith, third, fourth);
+        number = omega (arith, third, fourth);
         low = omega (arith, fourth);
         words = λ f c i hf hc hi. block-word f c i hf hc hi room inside;
         unfilled =
