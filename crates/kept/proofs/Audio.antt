@@ -19,8 +19,9 @@ use Rattle.record.specs.World.{World}
 use Rattle.record.specs.Change.{budget, block, apply, left, one, nothing}
 use Rattle.model.specs.Audio.{audioIn, BLOCK, named, addsBudget, overBudget, clearsBudget}
 use Rattle.model.specs.Microframe.{microframe}
+use Rattle.model.specs.Reach.{atOutput}
 use Rattle.bounds.specs.Bounds.{audioOk}
-use Rattle.kept.proofs.Every.{Each, Whole, whole-microframe}
+use Rattle.kept.proofs.Every.{Each, Whole, whole-microframe, whole-output}
 
 record InBounds (a : Audio) : Type 0 where
   low : leb 33 (a .block) ≡ true
@@ -162,3 +163,7 @@ audio-whole =
 
 pub audio-kept : (t : ℕ) (w : World) → audioOk (w .state .audio) ≡ true → audioOk (left (microframe t) w .state .audio) ≡ true
 audio-kept = whole-microframe AudioOk audio-whole
+
+-- and at the output step
+pub audio-output : (w : World) → audioOk (w .state .audio) ≡ true → audioOk (atOutput w .state .audio) ≡ true
+audio-output = whole-output AudioOk audio-whole

@@ -23,6 +23,7 @@ use Rattle.model.specs.Control.{toStatus, posted, posts, configured, keepsReply
 use Rattle.model.specs.Streams.{naks, reads, midiIn, drainsSerial, serialStep, drainsMidi, midiOut, readsVendor}
 use Rattle.model.specs.Audio.{overBudget, addsBudget, clearsBudget, keepsFrames, keepsGood, keepsBlock, keepsBlocks, keepsRun, inputs, streamIn, sendsBlock, unprimes, streamOut, streams}
 use Rattle.model.specs.Microframe.{rsSet, goneAt, asleepAt, others, transfers, enumerates, talks, atPhase, byPhase, opens, frameOf, microframe}
+use Rattle.model.specs.Reach.{toPhase, phaseBy, streamBy, atOutput}
 use Rattle.kept.proofs.Holding.{Holds, by-case, holds-then, holds-seq, holds-if, holds-nothing, holds-one, holds-here, holds-pick}
 
 -- every counter but the microframes'
@@ -479,6 +480,17 @@ module _ (B M Q P : World → Type 0) (O : Opening B M Q) (E : Early Q) (L : Eac
   unfolding microframe here
   every-microframe t w h = after-frame (w .settings) t (rsSet w) (goneAt t w) (asleepAt t w) w h
 
+  -- on the way to the output step, whether it is reached or not
+  pub every-output : (w : World) → B w → P (atOutput w)
+  unfolding streamBy phaseBy toPhase
+  every-output w h =
+      let c = w .settings in
+      each-hears P L _
+      (from-enumerates Q P E L weakens pops c _
+      (holds-seq Q (opens c false) _ w
+      (holds-seq Q (suspends false) (leaves (c .«device_stack») (rsSet w)) _
+      (each-leaves Q E (c .«device_stack») (rsSet w) _ (each-suspends Q E false _ (after-opens c false w h))))))
+
 -- a property that the counts, the timers and a setup's leaving keep too
 pub record Whole (P : World → Type 0) : Type 0 where
   pub each : Each P
@@ -490,3 +502,7 @@ pub record Whole (P : World → Type 0) : Type 0 where
 pub whole-microframe : (P : World → Type 0) → Whole P → (t : ℕ) → Holds P (microframe t)
 whole-microframe P W t w h =
     every-microframe P P P P (opening P (W .each .early) (W .counted) (W .numbered) (W .ticked)) (W .each .early) (W .each) (λ v p. p) (W .pops) t w h
+
+pub whole-output : (P : World → Type 0) → Whole P → (w : World) → P w → P (atOutput w)
+whole-output P W w h =
+    every-output P P P P (opening P (W .each .early) (W .counted) (W .numbered) (W .ticked)) (W .each .early) (W .each) (λ v p. p) (W .pops) w h
