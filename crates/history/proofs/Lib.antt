@@ -4,5 +4,6 @@ pub mod Table
 pub mod OneCall
 pub mod Retired
 pub mod Accepts
+pub mod Rings
 pub mod Contracts
 pub mod Parts

@@ -1,4 +1,5 @@
 pub mod Calls
 pub mod Reach
+pub mod Rings
 pub mod Sums
 pub mod Accepts
