@@ -8,7 +8,7 @@ use native.Mathlib.Nat.{add-zero, sub-zero, suc-sub-suc, mod-lt, mod-eq-of-lt, m
 use native.Mathlib.Omega.{arith}
 use borrow.Author.Tests.{ltb-true, ltb-false, leb-true, leb-false}
 use lib.Dec.{leb, ltb}
-use lib.ListN.{length, getD, take, drop, set, drop-of-length-le}
+use lib.ListN.{length, getD, take, drop, set, length-drop, drop-of-length-le}
 use lib.Seq.{sets, length-take-le, sets-eq, take-at, drop-at, take-set-le, drop-set-lt, take-nil}
 use Rattle.record.specs.declared.Ring.{Ring}
 use Rattle.record.specs.Change.{WORDS, takenFrom}
@@ -122,6 +122,14 @@ module _ (capacity : ℕ) where
   ring-nth ring s zero i h l = absurd (omega arith)
   ring-nth ring s (suc n) zero h l = ap (frameIn ring) (sym (start-same s h))
   ring-nth ring s (suc n) (suc i) h l = ring-nth ring ((s + 1) % capacity) n i (next-inside s h) (omega arith) ∙ ap (frameIn ring) (next-place s i)
+
+  -- and it has twelve words
+  pub ring-whole : (ring : List ℕ) (s n i : ℕ) → s < capacity → i < n → capacity * WORDS ≤ length ring → length (getD (oldestFirst capacity ring s n) i []) ≡ WORDS
+  unfolding frameIn
+  ring-whole ring s n i h l room =
+      let at = (s + i) % capacity in
+      let inside : at < capacity = mod-lt (s + i) (omega arith) in
+      ap length (ring-nth ring s n i h l) ∙ length-take-le WORDS (drop (at * WORDS) ring) (omega (arith, length-drop (at * WORDS) ring))
 
   -- without the k oldest
   pub ring-drop : (ring : List ℕ) (s n k : ℕ) → s < capacity → k ≤ n → oldestFirst capacity ring ((s + k) % capacity) (n - k) ≡ drop k (oldestFirst capacity ring s n)

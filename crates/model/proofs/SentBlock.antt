@@ -9,7 +9,6 @@ use borrow.Author.Tests.{ltb-true, ltb-false, lt-ltb, le-ltb}
 use lib.Dec.{ltb}
 use lib.ListN.{length, getD, take, drop, replicate, length-append, length-take, length-replicate, List·getD-append, List·getD-eq-default}
 use lib.Seq.{getD-append-add, getD-take, getD-drop, length-take-le}
-use Rattle.bits.specs.Pick.{pick}
 use Rattle.record.specs.World.{World}
 use Rattle.record.specs.Change.{WORDS}
 use Rattle.model.specs.Audio.{BLOCK-FRAMES, capacity, frameAt, bytesOf, channelBytes, frameBytes, blockOf}
@@ -255,6 +254,7 @@ module _ (w : World) where
         second = block-second (omega arith);
         number = block-number (omega arith);
         low = block-low (omega arith);
+        high = λ h. omega (arith, block-number (omega arith));
         words = λ f c i hf hc hi. block-word f c i hf hc hi room inside;
         unfilled =
             λ f c i hf hc hi none.

@@ -17,6 +17,7 @@ pub record BlockBytes (block channels counter : ℕ) (frames : List (List ℕ)) 
   -- 931: the counter's two bytes, the high one first
   pub number : 256 * getD b 2 0 + getD b 3 0 ≡ counter
   pub low : getD b 3 0 < 256
+  pub high : counter < 2 ^ 16 → getD b 2 0 < 256
   -- 941-944: the four bytes of word c of the f-th frame, the highest first; a word that is not there reads as 0
   pub words : (f c i : ℕ) → f < 7 → c < channels → i < 4 → getD b (byteAt channels f c i) 0 ≡ getD (getD frames f []) c 0 / 2 ^ (24 - 8 * i) % 256
   -- 936-939: no f-th frame waits
