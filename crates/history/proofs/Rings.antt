@@ -1,6 +1,6 @@
 -- The two rings in the calls, as lists, oldest first: a frame given is appended, a frame taken is the head and leaves the tail, a block takes the
 -- first seven or all; and what the block of an accepted microframe holds.
-use Prim.Native.Nat.{ℕ, suc, _+_, _-_, _*_, _/_, _%_, _≤_, _<_}
+use Prim.Native.Nat.{ℕ, suc, _+_, _-_, _*_, _/_, _%_, _^_, _≤_, _<_}
 use mathlib.Core.Path.{_≡_, refl, ap, ap₂, sym, subst, _∙_}
 use mathlib.Core.Logic.{_↔_}
 use mathlib.Core.Bool.{Bool, true, false, not, _&&_}
@@ -11,34 +11,36 @@ use borrow.Author.Tests.{ne-eqb, eqb-true, leb-true}
 use lib.Dec.{eqb, leb, ltb}
 use lib.ListN.{length, getD, drop, replicate}
 use lib.Seq.{sets, length-sets}
-use Rattle.bits.specs.Pick.{pick}
+use Rattle.bits.specs.Pick.{pick, pick-both}
 use Rattle.bits.proofs.Tests.{and-first, and-second}
 use Rattle.usbdev.specs.Access.{writeSized}
+use Rattle.record.specs.declared.Settings.{Settings}
 use Rattle.record.specs.World.{World}
 use Rattle.record.specs.Change.{FRAMES, WORDS, left, takenFrom}
 use Rattle.model.specs.Microframe as M
 use Rattle.model.specs.Audio.{BLOCK-FRAMES, capacity, blockOf}
 use Rattle.model.specs.Reach.{atOutput}
-use Rattle.model.specs.Earned.{Out}
+use Rattle.model.specs.Earned.{Out, outOf, sentOut}
 use Rattle.model.specs.Claims.{sendsAt}
 use Rattle.model.specs.Ring.{frameIn, oldestFirst, sendingFrames}
 use Rattle.model.specs.SentBlock.{BlockBytes}
-use Rattle.model.proofs.OldestFirst.{ring-length, ring-nth, ring-drop, ring-appends}
-use Rattle.model.proofs.OneBlock.{out-output}
+use Rattle.model.proofs.OldestFirst.{ring-length, ring-nth, ring-whole, ring-drop, ring-appends}
+use Rattle.model.proofs.OneBlock.{out-output, out-microframe}
 use Rattle.model.proofs.SentBlock.{sent-block}
 use Rattle.model.proofs.SendingRing.{words-microframe, waiting-output, waiting-microframe}
 use Rattle.bounds.specs.Bounds.{askedOk, heldOk, countedOk, audioOk, areasOk, inBounds, receivedOk, sendingOk}
 use Rattle.bounds.proofs.Laws.{in-ring}
 use Rattle.kept.proofs.Audio.{audio-output}
 use Rattle.usbhost.specs.declared.Host.{Host}
-use Rattle.usbhost.specs.Host.{stateOf}
+use Rattle.usbhost.specs.declared.Created.{Created}
+use Rattle.usbhost.specs.Host.{stateOf, newHost, settled, noSettings, created}
 use Rattle.usbhost.specs.Calls as C
 use Rattle.usbhost.specs.Calls.{unless, fewSpans, bounded, midiNumber, midiQueued, midiSent, serialNumber, serialQueued, serialSent, sendingLength, giveNumber, framePut, frameGiven, given, givenRing, takeNumber, frameTaken, oldest, holdsFrame, takenFrame, accessNumber, registersOf, withFlag, deviceWritten}
 use Rattle.usbhost.specs.Frame.{Lent, worldOf, hostIn, lentIn, boundsOk, frameNumber, framed}
 use Rattle.usbhost.proofs.Laws.{met}
 use Rattle.usbhost.proofs.Kept.{give-room, give-refused, ring-refused, take-empty}
 use Rattle.usbhost.proofs.Frame.{accepted-tests}
-use Rattle.history.specs.Calls.{microframe, midiSend, serialSend, frameGive, frameTake, deviceRead, deviceWrite, step}
+use Rattle.history.specs.Calls.{Call, microframe, midiSend, serialSend, frameGive, frameTake, deviceRead, deviceWrite, step, after}
 use Rattle.history.specs.Rings.{toSend, toTake}
 
 -- ---- a frame given
@@ -134,6 +136,13 @@ microframe-takes h t l = by (eqb (frameNumber h l) 0) refl
         ∙ taken (sendsAt t w)
     by false refused = refl
 
+-- the frames that wait when one is accepted have twelve words each
+pub microframe-whole : (h : Host) (l : Lent) → frameNumber h l ≡ 0 → (i : ℕ) → i < length (toSend h (l .sending)) → length (getD (toSend h (l .sending)) i []) ≡ WORDS
+microframe-whole h l e i less =
+    let n = length (l .sending) / WORDS in
+    let r = h .audio .sending in
+    ring-whole n (l .sending) (r .start) (r .len) i (streams h l e .inside) (omega (arith, ring-length n (l .sending) (r .start) (r .len))) (omega arith)
+
 -- the block at the output step of an accepted one: its bytes, of the frames that wait and of the counter as they are at entry
 module _ (h : Host) (l : Lent) (e : frameNumber h l ≡ 0) where
   abbrev atStep : World
@@ -167,6 +176,10 @@ take-start h ring e =
     let ok = met 5 (bounded h && receivedOk (stateOf h)) 0 (omega arith) (three .1) in
     in-ring (h .audio .received) FRAMES (and-second (bounded h) _ (ok .0)) .0
 
+take-room : (h : Host) (ring : List ℕ) → takeNumber h ring ≡ 0 → length ring ≡ FRAMES * WORDS
+unfolding takeNumber
+take-room h ring e = eqb-true (length ring) (FRAMES * WORDS) (met 2 (eqb (length ring) (FRAMES * WORDS)) _ (omega arith) e .0)
+
 take-length : (h : Host) (ring : List ℕ) → length (toTake h ring) ≡ h .audio .received .len
 take-length h ring = ring-length FRAMES ring (h .audio .received .start) (h .audio .received .len)
 
@@ -180,7 +193,7 @@ unfolding takenFrame
 take-answers-empty h ring e = (
   λ none.
       let few : h .audio .received .len ≡ 0 = sym (take-length h ring) ∙ ap length none in
-      ap₂ (λ (n m : ℕ). eqb n 0 && eqb m 0) e few,
+      simp (e, few),
   λ said. none-left h ring (eqb-true (h .audio .received .len) 0 (and-second (eqb (takeNumber h ring) 0) _ said)),
 )
 
@@ -199,6 +212,7 @@ holds-frame h ring e some =
 pub record TakesFirst (h : Host) (ring f : List ℕ) (fs : List (List ℕ)) : Type 0 where
   pub filled : takenFrame h ring .empty ≡ false
   pub frame : takenFrame h ring .frame ≡ f
+  pub whole : length f ≡ WORDS
   pub others : toTake (step h (frameTake ring)) ring ≡ fs
 
 pub take-first : (h : Host) (ring f : List ℕ) (fs : List (List ℕ)) → takeNumber h ring ≡ 0 → toTake h ring ≡ f ∷ fs → TakesFirst h ring f fs
@@ -209,14 +223,16 @@ take-first h ring f fs e is =
     let long : r .len ≡ suc (length fs) = sym (take-length h ring) ∙ ap length is in
     let some : 1 ≤ r .len = omega arith in
     let holds = holds-frame h ring e some in
+    let first : getD (toTake h ring) 0 [] ≡ f = ap (λ (l : List (List ℕ)). getD l 0 []) is in
     let filled : eqb (r .len) 0 ≡ false = ne-eqb (r .len) 0 (λ z. omega arith) in
     record {
-      filled = ap₂ (λ (n : ℕ) (b : Bool). eqb n 0 && b) e filled;
+      filled = simp (e, filled);
+      whole = ap length (sym first) ∙ ring-whole FRAMES ring (r .start) (r .len) 0 inside some (omega (arith, take-room h ring e));
       frame =
           ap (λ (b : Bool). pick b (oldest h ring) (replicate WORDS 0)) holds
           ∙ ap (frameIn ring) (sym (start-same r.start inside))
           ∙ sym (ring-nth FRAMES ring (r .start) (r .len) 0 inside some)
-          ∙ ap (λ (l : List (List ℕ)). getD l 0 []) is;
+          ∙ first;
       others =
           ap (λ (b : Bool). toTake (pick b (frameTaken h) h) ring) holds
           ∙ ring-drop FRAMES ring (r .start) (r .len) 1 inside some
@@ -254,3 +270,38 @@ rings-apart h =
       takes = λ received ring. same-by (λ (g : Host). toSend g ring) (holdsFrame h received) (frameTaken h) h refl;
       gives = λ frame sending ring. same-by (λ (g : Host). toTake g ring) (eqb (giveNumber h frame sending) 0) (frameGiven h) h refl;
     }
+
+-- ---- the stream counter has 16 bits, after every list of calls from `new` (document 01, "Streams")
+
+counter-frame : (t : ℕ) (w : World) → w .state .audio .counter < 2 ^ 16 → left (M.microframe t) w .state .audio .counter < 2 ^ 16
+unfolding sentOut
+counter-frame t w less = subst (λ (o : Out). o .counter < 2 ^ 16) (sym (out-microframe t w)) (by (sendsAt t w))
+  where
+    by : (b : Bool) → pick b (sentOut (outOf w)) (outOf w) .counter < 2 ^ 16
+    by true = omega arith
+    by false = less
+
+counter-step : (h : Host) (c : Call) → h .audio .counter < 2 ^ 16 → step h c .audio .counter < 2 ^ 16
+unfolding step framed midiSent serialSent given takenFrame deviceWritten midiQueued serialQueued frameGiven frameTaken withFlag C.deviceRead
+counter-step h (microframe t l) less =
+    pick-both (λ (w : World). w .state .audio .counter < 2 ^ 16) (eqb (frameNumber h l) 0) (counter-frame t (worldOf h l) less) less
+counter-step h (midiSend bs) less = pick-both (λ (g : Host). g .audio .counter < 2 ^ 16) (eqb (midiNumber h bs) 0) {a = midiQueued h bs} {b = h} less less
+counter-step h (serialSend bs) less = pick-both (λ (g : Host). g .audio .counter < 2 ^ 16) (eqb (serialNumber h bs) 0) {a = serialQueued h bs} {b = h} less less
+counter-step h (frameGive f sending) less = pick-both (λ (g : Host). g .audio .counter < 2 ^ 16) (eqb (giveNumber h f sending) 0) {a = frameGiven h} {b = h} less less
+counter-step h (frameTake received) less = pick-both (λ (g : Host). g .audio .counter < 2 ^ 16) (holdsFrame h received) {a = frameTaken h} {b = h} less less
+counter-step h (deviceRead page off size) less = less
+counter-step h (deviceWrite page off size v) less =
+    pick-both (λ (g : Host). g .audio .counter < 2 ^ 16) (eqb (accessNumber h (length page) off size) 0)
+    {a = withFlag h (writeSized (registersOf h page) off size v .line)} {b = h} less less
+
+counter-after : (h : Host) (cs : List Call) → h .audio .counter < 2 ^ 16 → after h cs .audio .counter < 2 ^ 16
+unfolding after
+counter-after h [] less = less
+counter-after h (c ∷ cs) less = counter-after (step h c) cs (counter-step h c less)
+
+pub stream-counter : (c : Settings) (cs : List Call) → after (created c .host) cs .audio .counter < 2 ^ 16
+unfolding created newHost
+stream-counter c cs =
+    pick-both (λ (x : Created). after (x .host) cs .audio .counter < 2 ^ 16) (leb (c .spans) 16)
+    {a = record { refusal = 0; host = newHost (settled c) }} {b = record { refusal = 3; host = newHost noSettings }}
+    (counter-after (newHost (settled c)) cs (omega arith)) (counter-after (newHost noSettings) cs (omega arith))
