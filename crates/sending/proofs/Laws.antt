@@ -16,6 +16,7 @@ use Rattle.midi.proofs.Laws.{sets-four}
 use Rattle.record.specs.declared.Ring.{Ring}
 use Rattle.record.specs.World.{World}
 use Rattle.model.specs.Audio.{frameAt, bytesOf, channelBytes, frameBytes, blockOf}
+use Rattle.model.proofs.SentBlock.{length-channels, length-frames}
 use Rattle.sending.specs.Promises.{Begun, headerOf, atSending}
 
 -- ---- zeros behind a beginning
@@ -100,11 +101,6 @@ more-bytes (suc n) ws =
   where
     one : 1 + n ≡ suc n
     one = omega arith
-
-pub length-channels : (n : ℕ) (ws : List ℕ) → length (channelBytes n ws) ≡ 4 * n
-unfolding channelBytes
-length-channels zero ws = refl
-length-channels (suc n) ws = omega (arith, length-append (bytesOf (getD ws 0 0)) (channelBytes n (drop 1 ws)), length-channels n (drop 1 ws))
 
 -- past a frame's words there is silence
 silent : (ws : List ℕ) (n k : ℕ) → length ws ≤ n → channelBytes (n + k) ws ≡ channelBytes n ws ++ replicate (4 * k) 0
@@ -192,12 +188,6 @@ module _ (w : World) where
   unfolding frameBytes
   more-frames n =
       split-frames 0 n 1 ∙ ap (λ (x : List ℕ). frameBytes 0 n w ++ x) (append-nil (channelBytes of (frameAt w (0 + n))) ∙ ap (λ (x : ℕ). channelBytes of (frameAt w x)) (zero-add n))
-
-  length-frames : (i n : ℕ) → length (frameBytes i n w) ≡ 4 * (n * of)
-  unfolding frameBytes
-  length-frames i zero = ap (λ (x : ℕ). 4 * x) (sym (zero-mul of))
-  length-frames i (suc n) =
-      omega (arith, length-append (channelBytes of (frameAt w i)) (frameBytes (suc i) n w), length-channels of (frameAt w i), length-frames (suc i) n, suc-mul n of)
 
   -- a ring without so many frames gives silence
   joined : (n : ℕ) → zeros 4 ++ zeros (4 * n) ≡ zeros (4 * suc n)
