@@ -1,5 +1,4 @@
--- The two rings in the calls, as lists, oldest first: a frame given is appended, a frame taken is the head and leaves the tail, a block takes the
--- first seven or all; and what the block of an accepted microframe holds.
+-- The two rings in the calls, as lists, oldest first: frames given, taken and sent; and what the block of an accepted microframe holds.
 use Prim.Native.Nat.{ℕ, suc, _+_, _-_, _*_, _/_, _%_, _^_, _≤_, _<_}
 use mathlib.Core.Path.{_≡_, refl, ap, ap₂, sym, subst, _∙_}
 use mathlib.Core.Logic.{_↔_}
@@ -144,26 +143,24 @@ microframe-whole h l e i less =
     ring-whole n (l .sending) (r .start) (r .len) i (streams h l e .inside) (omega (arith, ring-length n (l .sending) (r .start) (r .len))) (omega arith)
 
 -- the block at the output step of an accepted one: its bytes, of the frames that wait and of the counter as they are at entry
-module _ (h : Host) (l : Lent) (e : frameNumber h l ≡ 0) where
-  abbrev atStep : World
-  atStep = atOutput (worldOf h l)
-
-  pub microframe-block : BlockBytes (atStep .state .audio .block) (atStep .state .audio .channels) (h .audio .counter) (toSend h (l .sending)) (blockOf atStep)
-  unfolding audioOk
-  microframe-block =
-      let s = streams h l e in
-      let a = atStep .state .audio in
-      let ok = audio-output (worldOf h l) (s .audio) in
-      let low = and-second (leb 33 (a .block)) _ ok in
-      let high = and-second (leb (a .budget) 32766) _ low in
-      let out = out-output (worldOf h l) in
-      subst (λ (n : ℕ). BlockBytes (a .block) (a .channels) n (toSend h (l .sending)) (blockOf atStep)) (ap (λ (o : Out). o .counter) out)
-      (subst (λ (fs : List (List ℕ)). BlockBytes (a .block) (a .channels) (a .counter) fs (blockOf atStep)) (waiting-output (worldOf h l))
-      (sent-block atStep
-      (leb-true 33 (a .block) (and-first (leb 33 (a .block)) _ ok))
-      (leb-true (a .block) 2047 (and-first (leb (a .block) 2047) _ high))
-      (eqb-true (a .channels) ((a .block - 32) / 28) (and-second (leb (a .block) 2047) _ high))
-      (subst (λ (o : Out). o .sending .start < o .capacity) (sym out) (s .inside))))
+pub microframe-block : (h : Host) (l : Lent) → frameNumber h l ≡ 0
+    → BlockBytes (atOutput (worldOf h l) .state .audio .block) (atOutput (worldOf h l) .state .audio .channels) (h .audio .counter) (toSend h (l .sending)) (blockOf (atOutput (worldOf h l)))
+unfolding audioOk
+microframe-block h l e =
+    let x = atOutput (worldOf h l) in
+    let a = x .state .audio in
+    let s = streams h l e in
+    let ok = audio-output (worldOf h l) (s .audio) in
+    let low = and-second (leb 33 (a .block)) _ ok in
+    let high = and-second (leb (a .budget) 32766) _ low in
+    let out = out-output (worldOf h l) in
+    subst (λ (n : ℕ). BlockBytes (a .block) (a .channels) n (toSend h (l .sending)) (blockOf x)) (ap (λ (o : Out). o .counter) out)
+    (subst (λ (fs : List (List ℕ)). BlockBytes (a .block) (a .channels) (a .counter) fs (blockOf x)) (waiting-output (worldOf h l))
+    (sent-block x
+    (leb-true 33 (a .block) (and-first (leb 33 (a .block)) _ ok))
+    (leb-true (a .block) 2047 (and-first (leb (a .block) 2047) _ high))
+    (eqb-true (a .channels) ((a .block - 32) / 28) (and-second (leb (a .block) 2047) _ high))
+    (subst (λ (o : Out). o .sending .start < o .capacity) (sym out) (s .inside))))
 
 -- ---- a frame taken
 
@@ -248,7 +245,7 @@ same-by : {A : Type 0} (of : Host → A) (b : Bool) (g h : Host) → of g ≡ of
 same-by of true g h e = e
 same-by of false g h e = refl
 
--- a send or a device access touches nothing of the stream, a frame taken no frame that waits to be sent, a frame given none that waits to be taken
+-- a send or a device access changes nothing of the stream, a frame taken no frame that waits to be sent, a frame given none that waits to be taken
 pub record Apart (h : Host) : Type 0 where
   pub midi : (bs : List ℕ) → step h (midiSend bs) .audio ≡ h .audio
   pub serial : (bs : List ℕ) → step h (serialSend bs) .audio ≡ h .audio

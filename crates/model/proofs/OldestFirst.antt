@@ -53,11 +53,11 @@ module _ (ring : List ℕ) (p : ℕ) (f : List ℕ) (room : p * WORDS + WORDS �
 
 -- ---- places modulo the capacity
 
--- a place past the end is as far from the start
+-- a place past the end of the ring
 wraps : (a c : ℕ) → c ≤ a → a < c + c → a % c ≡ a - c
 wraps a c h l = mod-eq-sub-mod {n = a} {m = c} h ∙ mod-eq-of-lt {n = a - c} {m = c} (omega arith)
 
--- fewer places than the capacity lie apart
+-- places whose distance is below the capacity differ
 apart : (s i n c : ℕ) → s < c → i < n → n < c → (s + i) % c ≢ (s + n) % c
 apart s i n c hs hi hn e = by (ltb (s + i) c) (ltb (s + n) c) refl refl
   where

@@ -1,4 +1,4 @@
--- The sending ring as a list, oldest first, in a microframe: a block takes its first seven, or all, and nothing else touches it.
+-- The sending ring as a list, oldest first, in a microframe: a block takes its first seven, or all, and nothing else changes it.
 use Prim.Native.Nat.{ℕ, _<_}
 use mathlib.Core.Path.{_≡_, refl, ap, ap₂, _∙_}
 use mathlib.Core.Bool.{Bool, true, false}
