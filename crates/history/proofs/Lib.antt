@@ -1,9 +1,9 @@
 pub mod Accepted
 pub mod History
 pub mod Table
+pub mod Rings
 pub mod OneCall
 pub mod Retired
 pub mod Accepts
-pub mod Rings
 pub mod Contracts
 pub mod Parts

@@ -13,7 +13,7 @@ use Rattle.bits.proofs.Tests.{and-first, and-second, and-rest, and-false}
 use Rattle.bus.specs.Steps.{replay}
 use Rattle.record.specs.Record.{wrapped}
 use Rattle.record.specs.World.{World}
-use Rattle.record.specs.Change.{Change, bus, ran, lost, count, uf, phase, started, gone, suspended, wasRunning, credit, budget, counter, block, timers, control, queued, popped, pushed, cleared, reply, device, config, forgot, midi, serial, received, frame, taken, takenFrom, apply, Step}
+use Rattle.record.specs.Change.{Change, apply, Step, takenFrom}
 use Rattle.bounds.specs.Bounds.{ringOk, areasOk, receivedOk}
 use Rattle.model.specs.Audio.{inputs, streamOut}
 use Rattle.model.specs.Microframe as M
@@ -33,10 +33,12 @@ use Rattle.usbhost.specs.Calls.{bounded}
 use Rattle.usbhost.specs.Frame.{Lent, worldOf, hostIn, lengthsOk, boundsOk, frameNumber, framed}
 use Rattle.usbhost.proofs.Frame.{accepted-tests}
 use Rattle.history.specs.Calls.{microframe, step}
-use Rattle.history.specs.Reach.{accepted, reachesInput, reachesOutput, callReads, callSends, changesOf, receivedFrames}
+use Rattle.history.specs.Rings.{toTake}
+use Rattle.history.specs.Reach.{accepted, reachesInput, reachesOutput, callReads, callSends, changesOf}
 use Rattle.history.proofs.Accepted.{accepted-small}
 use Rattle.history.proofs.History.{by-test}
 use Rattle.history.proofs.Table.{and-assoc}
+use Rattle.history.proofs.Rings.{microframe-words}
 
 -- ---- the list is about the call
 
@@ -77,44 +79,6 @@ whole-list t h l e = ap (λ (b : Bool). pick b (M.microframe t (worldOf h l)) []
 placed-call : (t : ℕ) (h : Host) (l : Lent) (g : Step) (x : World) → accepted h l ≡ true → Placed (M.microframe t) (worldOf h l) g x → Placed (λ w. changesOf t h l) (worldOf h l) g x
 placed-call t h l g x e p =
     record { before = p .before; rest = p .rest; whole = whole-list t h l e ∙ p .whole; there = p .there }
-
--- ---- the sending ring's words: no change touches them
-
-sending-apply : (c : Change) (w : World) → apply c w .sending ≡ w .sending
-unfolding apply
-sending-apply (bus s) w = refl
-sending-apply (ran e k n) w = refl
-sending-apply (lost n) w = refl
-sending-apply (count c n) w = refl
-sending-apply (uf n) w = refl
-sending-apply (phase p) w = refl
-sending-apply (started n) w = refl
-sending-apply (gone b) w = refl
-sending-apply (suspended b) w = refl
-sending-apply (wasRunning b) w = refl
-sending-apply (credit n) w = refl
-sending-apply (budget n) w = refl
-sending-apply (counter n) w = refl
-sending-apply (block n m) w = refl
-sending-apply (timers ts) w = refl
-sending-apply (control c) w = refl
-sending-apply (queued bs) w = refl
-sending-apply popped w = refl
-sending-apply (pushed bs) w = refl
-sending-apply cleared w = refl
-sending-apply (reply n bs) w = refl
-sending-apply (device bs) w = refl
-sending-apply (config bs) w = refl
-sending-apply forgot w = refl
-sending-apply (midi n) w = refl
-sending-apply (serial n) w = refl
-sending-apply (received bs) w = refl
-sending-apply (frame f) w = refl
-sending-apply (taken n) w = refl
-
-sending-replay : (cs : List Change) (w : World) → replay apply cs w .sending ≡ w .sending
-sending-replay [] w = refl
-sending-replay (c ∷ cs) w = sending-replay cs (apply c w) ∙ sending-apply c w
 
 -- ---- a block sent, or none
 
@@ -185,7 +149,7 @@ module _ (t : ℕ) (h : Host) (l : Lent) where
             ap (λ (x : Out). x .sending) out-call
             ∙ pick-map (λ (x : Out). x .sending) (callSends t h l) (sentOut o) o
             ∙ ap (λ (m : ℕ). pick (callSends t h l) (record { start = start; len = m }) (h .audio .sending)) rest;
-        words = ap (λ (v : World). v .sending) (call-changes t h l) ∙ sending-replay (changesOf t h l) w;
+        words = microframe-words h t l;
         sent =
             ap (λ (x : Out). x .sent) out-call
             ∙ pick-map (λ (x : Out). x .sent) (callSends t h l) (sentOut o) o
@@ -206,8 +170,8 @@ module _ (t : ℕ) (h : Host) (l : Lent) where
 -- received ring, which are the last 48,000 with those of the run's good blocks (870-896), and the endpoint's descriptors retired (870)
 pub record CallInput (t : ℕ) (h : Host) (l : Lent) : Type 0 where
   pub frames :
-      receivedFrames (step h (microframe t l)) (framed t h l .received)
-      ≡ pick (callReads t h l) (lastOf 48000 (receivedFrames h (l .received) ++ framesRead (inBytes (atInput (worldOf h l))))) (receivedFrames h (l .received))
+      toTake (step h (microframe t l)) (framed t h l .received)
+      ≡ pick (callReads t h l) (lastOf 48000 (toTake h (l .received) ++ framesRead (inBytes (atInput (worldOf h l))))) (toTake h (l .received))
   pub retired : audioInRetired (changesOf t h l) ≡ pick (callReads t h l) 1 0
   -- where the input step is reached its changes stand in the call's list, whole
   pub placed : reachesInput t h l ≡ true → Placed (λ w. changesOf t h l) (worldOf h l) inputs (atInput (worldOf h l))

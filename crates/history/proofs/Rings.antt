@@ -118,7 +118,7 @@ microframe-words h t l = by (eqb (frameNumber h l) 0)
 
 -- where it sends a block the first seven frames leave, or all if fewer wait; otherwise none does
 pub microframe-takes : (h : Host) (t : ℕ) (l : Lent)
-    → toSend (step h (microframe t l)) (l .sending) ≡ drop (pick (eqb (frameNumber h l) 0 && sendsAt t (worldOf h l)) BLOCK-FRAMES 0) (toSend h (l .sending))
+    → toSend (step h (microframe t l)) (l .sending) ≡ drop (pick (eqb (frameNumber h l) 0 && sendsAt t (worldOf h l)) 7 0) (toSend h (l .sending))
 unfolding step framed
 microframe-takes h t l = by (eqb (frameNumber h l) 0) refl
   where

@@ -10,7 +10,6 @@ use Rattle.model.specs.Microframe as M
 use Rattle.model.specs.Reach as R
 use Rattle.model.specs.Reach.{atInput, atOutput, inputReady, outputReady}
 use Rattle.model.specs.Marks.{audioRetired}
-use Rattle.model.specs.Ring.{contents}
 use Rattle.usbhost.specs.declared.Host.{Host}
 use Rattle.usbhost.specs.Frame.{Lent, worldOf, frameNumber}
 use Rattle.history.specs.Calls.{Call, microframe, midiSend, serialSend, frameGive, frameTake, deviceRead, deviceWrite, step}
@@ -57,10 +56,6 @@ callsRetire input h [] = 0
 callsRetire input h (c ∷ cs) = callRetires input h c + callsRetire input (step h c) cs
 
 -- ---- what the record tells
-
--- the frames in the received ring, oldest first
-abbrev pub receivedFrames : Host → List ℕ → List (List ℕ)
-receivedFrames h ring = contents ring (h .audio .received .start) (h .audio .received .len)
 
 -- n descriptors retired on the audio output endpoint since `new`: seven frames sent for each, and the stream counter, which wraps
 pub record SevenEach (h : Host) (n : ℕ) : Type 0 where
