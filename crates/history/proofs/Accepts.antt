@@ -1,25 +1,27 @@
--- What every list of calls from a new host meets: it is refused nothing that document 01 lets pass.
-use Prim.Native.Nat.{ℕ, zero, suc, _+_, _/_, _^_, _≤_, _<_}
+-- What every list of calls from a new host meets: its record stays in bounds, every call gets the number that is due, and so it is refused nothing that
+-- document 01 lets pass.
+use Prim.Native.Nat.{ℕ, zero, suc, _+_, _*_, _/_, _^_, _≤_, _<_}
 use mathlib.Core.Path.{_≡_, refl, ap, sym, subst, _∙_}
-use mathlib.Core.Bool.{Bool, true, false, not, _||_}
+use mathlib.Core.Bool.{Bool, true, false, not, _&&_, _||_}
 use mathlib.Core.List.{List, [], _∷_}
 use native.Mathlib.Omega.{arith}
-use borrow.Author.Tests.{leb-true, lt-ltb, ltb-true}
+use borrow.Author.Tests.{eqb-true, leb-true, lt-ltb, ltb-true}
 use lib.Dec.{eqb, leb, ltb, lit<}
 use lib.ListN.{length, replicate, length-replicate}
 use lib.Seq.{length-sets}
 use Rattle.bits.specs.Pick.{pick}
+use Rattle.bits.proofs.Tests.{and-first, and-second}
 use Rattle.bus.specs.Memory.{memory}
 use Rattle.bus.specs.Sized.{isPower, isSized}
 use Rattle.usbdev.specs.Access.{fits, writeSized}
 use Rattle.midi.specs.Packer.{packetsOf, roomFor}
 use Rattle.config.specs.Config.{Bytes}
 use Rattle.record.specs.declared.Settings.{Settings}
-use Rattle.record.specs.Change.{WORDS, left}
+use Rattle.record.specs.Change.{FRAMES, WORDS, left}
 use Rattle.model.specs.Microframe as M
-use Rattle.bits.proofs.Tests.{and-first, and-second}
-use Rattle.bounds.specs.Bounds.{MOST, receivedOk, sendingOk}
+use Rattle.bounds.specs.Bounds.{MOST, areasOk, receivedOk, sendingOk}
 use Rattle.kept.proofs.Shape.{Shape, shape-kept}
+use Rattle.kept.proofs.Rings.{sending-kept}
 use Rattle.kept.proofs.Setups.{Entry}
 use Rattle.kept.proofs.Whole.{Bounded, bounds-kept, lasts, areas-fit}
 use Rattle.usbhost.specs.declared.Host.{Host}
@@ -27,25 +29,31 @@ use Rattle.usbhost.specs.declared.Created.{Created}
 use Rattle.usbhost.specs.Host.{stateOf, settled, noSettings, newHost, created}
 use Rattle.usbhost.specs.Calls as C
 use Rattle.usbhost.specs.Calls.{unless, fewSpans, bounded, sendingLength, midiNumber, midiQueued, midiSent, serialNumber, serialQueued, serialSent, giveNumber, frameGiven, given, takeNumber, holdsFrame, frameTaken, takenFrame, accessNumber, registersOf, withFlag, deviceWritten}
-use Rattle.usbhost.specs.Frame.{Lent, worldOf, hostIn, lengthsOk, boundsOk, frameNumber, framed}
+use Rattle.usbhost.specs.Frame.{Lent, worldOf, hostIn, lengthsOk, areaLengths, boundsOk, frameNumber, framed}
 use Rattle.usbhost.proofs.Laws.{same-bounds}
+use Rattle.usbhost.proofs.Frame.{Accepted, accepted-tests}
 use Rattle.usbhost.proofs.Kept.{Kept, midi-kept, serial-kept, give-kept, take-kept, write-kept, new-bounded, new-received, new-sending, new-few}
-use Rattle.history.specs.Calls.{Call, microframe, midiSend, serialSend, frameGive, frameTake, deviceRead, deviceWrite, step}
-use Rattle.history.specs.Accepts.{numberOf, dueNumber, fine, RightAreas, RightCall, AllRight, framesOf, framesIn, AtEach, Accepts, Due}
+use Rattle.history.specs.Calls.{Call, microframe, midiSend, serialSend, frameGive, frameTake, deviceRead, deviceWrite, step, after}
+use Rattle.history.specs.Accepts.{numberOf, lengthNumber, laterNumber, dueNumber, fine, BytesLent, BytesCall, RingCall, AllCalls, framesOf, framesIn, WithinBounds, AtEach, Due, Accepts}
+use Rattle.history.proofs.History.{by-test}
 
--- ---- what every call keeps, with a sending ring of k words throughout
+-- ---- what every call keeps, whatever its lengths: the bounds of number 5 that no area bounds, and what those of the areas come from
 
-record Sound (k : ℕ) (h : Host) : Type 0 where
+record Sound (h : Host) : Type 0 where
   few : fewSpans h ≡ true
   bounds : bounded h ≡ true
   received : receivedOk (stateOf h) ≡ true
-  sending : sendingOk (stateOf h) k ≡ true
   setups-length : length (h .setups) ≡ 2056
   setups-bytes : Bytes (h .setups)
   midi-length : length (h .midi) ≡ 4096
   serial-length : length (h .serial) ≡ 4096
   config : h .lengths .config ≤ 65535
   second : h .control .second < 2 ^ 32
+
+-- the configuration and the reply lie in any areas of the right lengths
+sound-areas : (h : Host) → Sound h → (reply config : ℕ) → 65535 ≤ reply → 65535 ≤ config → areasOk (stateOf h) reply config ≡ true
+sound-areas h s reply config long wide =
+    areas-fit (stateOf h) (h .packer) (h .setups) reply config (s .bounds) (s .second) (s .config) long wide
 
 -- ---- calls but the microframe
 
@@ -96,11 +104,11 @@ write-rests h page off size v =
     (record { setups = refl; midi = refl; serial = refl; config = refl; second = refl; uf = refl })
 
 -- the record after a call that counts at most n microframes
-record After (k n : ℕ) (h g : Host) : Type 0 where
-  sound : Sound k g
+record After (n : ℕ) (h g : Host) : Type 0 where
+  sound : Sound g
   uf : g .port .uf ≤ h .port .uf + n
 
-sound-kept : (k : ℕ) (h g : Host) → Kept k h g → Rests h g → Sound k h → After k 0 h g
+sound-kept : (k : ℕ) (h g : Host) → Kept k h g → Rests h g → Sound h → After 0 h g
 sound-kept k h g p r s =
     record {
       sound =
@@ -108,7 +116,6 @@ sound-kept k h g p r s =
             few = ap (λ (c : Settings). leb (c .spans) 16) (p .settings) ∙ s .few;
             bounds = p .bounds (s .bounds);
             received = p .received (s .received);
-            sending = p .sending (s .sending);
             setups-length = ap length (r .setups) ∙ s .setups-length;
             setups-bytes = subst Bytes (sym (r .setups)) (s .setups-bytes);
             midi-length = r .midi ∙ s .midi-length;
@@ -121,122 +128,171 @@ sound-kept k h g p r s =
 
 -- ---- the microframe
 
-module _ (k : ℕ) (h : Host) (l : Lent) (s : Sound k h) (a : RightAreas k l) where
-  -- reply and configuration area
-  long-reply : 65535 ≤ length (l .reply)
-  unfolding lengthsOk
-  long-reply = leb-true 65535 (length (l .reply)) (and-first (leb 65535 (length (l .reply))) _ (a .areas))
+-- reply and configuration area of the right lengths
+long-reply : (l : Lent) → areaLengths l ≡ true → 65535 ≤ length (l .reply)
+unfolding lengthsOk
+long-reply l e = leb-true 65535 (length (l .reply)) (and-first (leb 65535 (length (l .reply))) _ e)
 
-  long-config : 65535 ≤ length (l .config)
-  unfolding lengthsOk
-  long-config =
-      leb-true 65535 (length (l .config))
-      (and-first (leb 65535 (length (l .config))) _ (and-second (leb 65535 (length (l .reply))) _ (a .areas)))
+long-config : (l : Lent) → areaLengths l ≡ true → 65535 ≤ length (l .config)
+unfolding lengthsOk
+long-config l e =
+    leb-true 65535 (length (l .config))
+    (and-first (leb 65535 (length (l .config))) _ (and-second (leb 65535 (length (l .reply))) _ e))
 
-  sound-bounded : Bounded (worldOf h l)
-  sound-bounded =
+-- an accepted one: its lengths are right and its bounds met by its own tests
+module _ (h : Host) (l : Lent) (s : Sound h) (b : BytesLent l) (a : Accepted h l) where
+  accepted-bounded : Bounded (worldOf h l)
+  unfolding boundsOk
+  accepted-bounded =
+      let areas = and-second (bounded h) _ (a .bounds) in
+      let rings = and-second (areasOk (stateOf h) (length (l .reply)) (length (l .config))) _ areas in
       record {
         record-bounds = s .bounds;
-        areas =
-            areas-fit (stateOf h) (h .packer) (h .setups) (length (l .reply)) (length (l .config)) (s .bounds) (s .second) (s .config) long-reply
-            long-config;
+        areas = and-first (areasOk (stateOf h) (length (l .reply)) (length (l .config))) _ areas;
         received = s .received;
-        sending = ap (λ (n : ℕ). sendingOk (stateOf h) n) (a .sending) ∙ s .sending;
+        sending = and-second (receivedOk (stateOf h)) _ rings;
         second = s .second;
       }
 
-  frame-due : frameNumber h l ≡ unless 6 (ltb (h .port .uf) MOST) 0
-  unfolding frameNumber boundsOk
-  frame-due =
-      let b = sound-bounded in
-      simp (a .windows, a .areas, s .few, s .bounds, b .areas, b .received, b .sending)
-
-  sound-entry : h .port .uf < MOST → Entry (worldOf h l)
-  sound-entry before =
+  accepted-entry : Entry (worldOf h l)
+  accepted-entry =
       record {
-        uf = before;
+        uf = ltb-true (h .port .uf) MOST (a .before);
         setups-length = s .setups-length;
-        reply-length = long-reply;
-        config-length = long-config;
-        memory-bytes = record { dynamic = a .dynamic-bytes; sram = a .static-bytes; page = a .page-bytes };
+        reply-length = long-reply l (a .lengths);
+        config-length = long-config l (a .lengths);
+        memory-bytes = record { dynamic = b .dynamic; sram = b .sram; page = b .page };
         setups-bytes = s .setups-bytes;
-        reply-bytes = a .reply-bytes;
+        reply-bytes = b .reply;
       }
 
-  -- an accepted one
-  sound-left : (t : ℕ) → h .port .uf < MOST → After k 1 h (hostIn (left (M.microframe t) (worldOf h l)))
-  sound-left t before =
+  sound-left : (t : ℕ) → After 1 h (hostIn (left (M.microframe t) (worldOf h l)))
+  sound-left t =
       let w = worldOf h l in
       let v = left (M.microframe t) w in
-      let e = sound-entry before in
       let shape = shape-kept t w in
-      let b = bounds-kept t w e sound-bounded in
-      let z = lasts t w e sound-bounded (omega (arith, s .midi-length)) (omega (arith, s .serial-length)) in
-      let ring : length (v .sending) ≡ k = ap (λ (x : Shape). x .sending) shape ∙ a .sending in
+      let next = bounds-kept t w accepted-entry accepted-bounded in
+      let z = lasts t w accepted-entry accepted-bounded (omega (arith, s .midi-length)) (omega (arith, s .serial-length)) in
       record {
         sound =
             record {
               few = ap (λ (x : Shape). leb (x .settings .spans) 16) shape ∙ s .few;
-              bounds = same-bounds (v .state) (v .settings) (v .packer) (v .setups) (v .midi) (v .serial) (v .device) ∙ b .record-bounds;
-              received = b .received;
-              sending = sym (ap (λ (n : ℕ). sendingOk (v .state) n) ring) ∙ b .sending;
+              bounds = same-bounds (v .state) (v .settings) (v .packer) (v .setups) (v .midi) (v .serial) (v .device) ∙ next .record-bounds;
+              received = next .received;
               setups-length = z .arrays .setups ∙ s .setups-length;
               setups-bytes = z .setups-bytes;
               midi-length = z .arrays .midi ∙ s .midi-length;
               serial-length = z .arrays .serial ∙ s .serial-length;
               config = z .config (s .config);
-              second = b .second;
+              second = next .second;
             };
         uf = omega (arith, z .number);
       }
 
-  by-count : (t : ℕ) (b : Bool) → ltb (h .port .uf) MOST ≡ b → After k 1 h (hostIn (pick (eqb (unless 6 b 0) 0) (left (M.microframe t) (worldOf h l)) (worldOf h l)))
-  by-count t true e = sound-left t (ltb-true (h .port .uf) MOST e)
-  by-count t false e = record { sound = s; uf = omega arith }
-
-  sound-frame : (t : ℕ) → After k 1 h (step h (microframe t l))
-  unfolding step framed
-  sound-frame t = rw frame-due (by-count t (ltb (h .port .uf) MOST) refl)
+-- and a refused one changes nothing
+sound-frame : (h : Host) (l : Lent) (t : ℕ) → Sound h → BytesLent l → After 1 h (step h (microframe t l))
+unfolding step framed
+sound-frame h l t s b =
+    by-test (λ x. After 1 h (hostIn (pick x (left (M.microframe t) (worldOf h l)) (worldOf h l)))) (eqb (frameNumber h l) 0)
+    (λ ok. sound-left h l s b (accepted-tests h l (eqb-true (frameNumber h l) 0 ok)) t)
+    (λ no. record { sound = s; uf = omega arith })
 
 -- ---- any call
 
-module _ (k : ℕ) (ring : sendingLength k ≡ true) (h : Host) (s : Sound k h) where
-  sound-step : (c : Call) → RightCall k c → After k (framesOf c) h (step h c)
-  unfolding step RightCall framesOf C.deviceRead
-  sound-step (microframe t l) a = sound-frame k h l s a t
-  sound-step (midiSend bs) a = sound-kept k h _ (midi-kept k h bs) (midi-rests h bs) s
-  sound-step (serialSend bs) a = sound-kept k h _ (serial-kept k h bs) (serial-rests h bs) s
-  sound-step (frameGive f sending) a =
-      sound-kept k h _ (subst (λ (m : ℕ). Kept m h (given h f sending .host)) (a .1) (give-kept h f sending)) (give-rests h f sending) s
-  sound-step (frameTake received) a = sound-kept k h _ (take-kept k h received) (take-rests h received) s
-  sound-step (deviceRead page off size) a = record { sound = s; uf = omega arith }
-  sound-step (deviceWrite page off size v) a = sound-kept k h _ (write-kept k h page off size v) (write-rests h page off size v) s
+sound-step : (h : Host) → Sound h → (c : Call) → BytesCall c → After (framesOf c) h (step h c)
+unfolding step BytesCall framesOf C.deviceRead
+sound-step h s (microframe t l) b = sound-frame h l t s b
+sound-step h s (midiSend bs) b = sound-kept 0 h _ (midi-kept 0 h bs) (midi-rests h bs) s
+sound-step h s (serialSend bs) b = sound-kept 0 h _ (serial-kept 0 h bs) (serial-rests h bs) s
+sound-step h s (frameGive f sending) b = sound-kept (length sending) h _ (give-kept h f sending) (give-rests h f sending) s
+sound-step h s (frameTake received) b = sound-kept 0 h _ (take-kept 0 h received) (take-rests h received) s
+sound-step h s (deviceRead page off size) b = record { sound = s; uf = omega arith }
+sound-step h s (deviceWrite page off size v) b = sound-kept 0 h _ (write-kept 0 h page off size v) (write-rests h page off size v) s
 
-  access-due : (len off size : ℕ) → len ≡ 4096 → accessNumber h len off size ≡ unless 4 (fits off size) 0
+-- ---- the sending ring, of k words in every call of the right lengths
+
+module _ (k : ℕ) (h : Host) (s : sendingOk (stateOf h) k ≡ true) where
+  ring-frame : (t : ℕ) (l : Lent) → RingCall k (microframe t l) → sendingOk (stateOf (step h (microframe t l))) k ≡ true
+  unfolding step framed RingCall lengthNumber
+  ring-frame t l r =
+      by-test (λ x. sendingOk (stateOf (hostIn (pick x (left (M.microframe t) (worldOf h l)) (worldOf h l)))) k ≡ true) (eqb (frameNumber h l) 0)
+      (λ ok.
+      let a = accepted-tests h l (eqb-true (frameNumber h l) 0 ok) in
+      let e = r (simp (a .sized, a .lengths)) in
+      sym (ap (λ (n : ℕ). sendingOk (left (M.microframe t) (worldOf h l) .state) n) e)
+      ∙ sending-kept t (worldOf h l) (ap (λ (n : ℕ). sendingOk (stateOf h) n) e ∙ s))
+      (λ no. s)
+
+  ring-give : (f sending : List ℕ) → RingCall k (frameGive f sending) → sendingOk (stateOf (given h f sending .host)) k ≡ true
+  unfolding given giveNumber RingCall lengthNumber
+  ring-give f sending r = by-lengths (sendingLength (length sending) && eqb (length f) WORDS) refl
+    where
+      by-lengths : (b : Bool) → (sendingLength (length sending) && eqb (length f) WORDS) ≡ b → sendingOk (stateOf (given h f sending .host)) k ≡ true
+      by-lengths true e =
+          let m = r (simp e) in
+          subst (λ (n : ℕ). sendingOk (stateOf (given h f sending .host)) n ≡ true) m
+          (give-kept h f sending .sending (ap (λ (n : ℕ). sendingOk (stateOf h) n) m ∙ s))
+      by-lengths false e = rw e s
+
+  ring-step : (c : Call) → RingCall k c → sendingOk (stateOf (step h c)) k ≡ true
+  unfolding step C.deviceRead
+  ring-step (microframe t l) r = ring-frame t l r
+  ring-step (midiSend bs) r = midi-kept k h bs .sending s
+  ring-step (serialSend bs) r = serial-kept k h bs .sending s
+  ring-step (frameGive f sending) r = ring-give f sending r
+  ring-step (frameTake received) r = take-kept k h received .sending s
+  ring-step (deviceRead page off size) r = s
+  ring-step (deviceWrite page off size v) r = write-kept k h page off size v .sending s
+
+-- ---- the number that is due
+
+-- the lengths decide first, and behind right ones what follows
+lengths-first : (a b : Bool) (x y : ℕ) → (a ≡ true → b ≡ true → x ≡ y)
+    → unless 1 a (unless 2 b x) ≡ pick (eqb (unless 1 a (unless 2 b 0)) 0) y (unless 1 a (unless 2 b 0))
+lengths-first true true x y f = f refl refl
+lengths-first true false x y f = refl
+lengths-first false b x y f = refl
+
+module _ (k : ℕ) (h : Host) (s : Sound h) (ring : sendingOk (stateOf h) k ≡ true) where
+  frame-due : (t : ℕ) (l : Lent) → RingCall k (microframe t l) → numberOf h (microframe t l) ≡ dueNumber h (microframe t l)
+  unfolding numberOf dueNumber lengthNumber laterNumber RingCall frameNumber boundsOk
+  frame-due t l r =
+      lengths-first (isSized (l .memory)) (areaLengths l) _ _ (λ e f.
+      let areas = sound-areas h s (length (l .reply)) (length (l .config)) (long-reply l f) (long-config l f) in
+      simp (s .few, s .bounds, areas, s .received, r (simp (e, f)), ring))
+
+  access-due : (len off size : ℕ) → accessNumber h len off size ≡ pick (eqb (unless 1 (eqb len 4096) 0) 0) (unless 4 (fits off size) 0) (unless 1 (eqb len 4096) 0)
   unfolding accessNumber
-  access-due len off size whole = simp (whole, s .few, s .bounds)
+  access-due len off size = lengths-first (eqb len 4096) true _ _ (λ e f. simp (s .few, s .bounds))
 
-  number-due : (c : Call) → RightCall k c → numberOf h c ≡ dueNumber h c
-  unfolding numberOf dueNumber RightCall midiNumber serialNumber giveNumber takeNumber
-  number-due (microframe t l) a = frame-due k h l s a
-  number-due (midiSend bs) a = simp (s .few, s .bounds)
-  number-due (serialSend bs) a = simp (s .few, s .bounds)
-  number-due (frameGive f sending) a = simp (a .0, a .1, ring, s .few, s .bounds, s .sending)
-  number-due (frameTake received) a = simp (a, s .few, s .bounds, s .received)
-  number-due (deviceRead page off size) a = access-due (length page) off size a
-  number-due (deviceWrite page off size v) a = access-due (length page) off size a
+  number-due : (c : Call) → RingCall k c → numberOf h c ≡ dueNumber h c
+  unfolding numberOf dueNumber lengthNumber laterNumber RingCall midiNumber serialNumber giveNumber takeNumber
+  number-due (microframe t l) r = frame-due t l r
+  number-due (midiSend bs) r = simp (s .few, s .bounds)
+  number-due (serialSend bs) r = simp (s .few, s .bounds)
+  number-due (frameGive f sending) r =
+      lengths-first true (sendingLength (length sending) && eqb (length f) WORDS) _ _ (λ e g. simp (s .few, s .bounds, r (simp g), ring))
+  number-due (frameTake received) r = lengths-first true (eqb (length received) (FRAMES * WORDS)) _ _ (λ e g. simp (s .few, s .bounds, s .received))
+  number-due (deviceRead page off size) r = access-due (length page) off size
+  number-due (deviceWrite page off size v) r = access-due (length page) off size
 
 -- ---- every list of calls
 
--- what holds of a right call on a sound record, with at most m microframes in all, holds of each call of a list
-module _ (k m : ℕ) (ring : sendingLength k ≡ true) (P : Host → Call → Type 0)
-    (holds : (h : Host) (c : Call) → Sound k h → RightCall k c → h .port .uf + framesOf c ≤ m → P h c) where
-  at-each : (h : Host) (cs : List Call) → Sound k h → AllRight k cs → h .port .uf + framesIn cs ≤ m → AtEach P h cs
-  unfolding AtEach AllRight framesIn
-  at-each h [] s a n = tt
-  at-each h (c ∷ cs) s a n =
-      let next = sound-step k ring h s c (a .0) in
-      (holds h c s (a .0) (omega arith), at-each (step h c) cs (next .sound) (a .1) (omega (arith, next .uf)))
+after-sound : (h : Host) (cs : List Call) → Sound h → AllCalls BytesCall cs → Sound (after h cs)
+unfolding after AllCalls
+after-sound h [] s b = s
+after-sound h (c ∷ cs) s b = after-sound (step h c) cs (sound-step h s c (b .0) .sound) (b .1)
+
+-- what holds of a call on a sound record with such a ring, with at most m microframes in all, holds of each call of a list
+module _ (k m : ℕ) (P : Host → Call → Type 0)
+    (holds : (h : Host) (c : Call) → Sound h → sendingOk (stateOf h) k ≡ true → RingCall k c → h .port .uf + framesOf c ≤ m → P h c) where
+  at-each : (h : Host) (cs : List Call) → Sound h → sendingOk (stateOf h) k ≡ true → AllCalls BytesCall cs → AllCalls (RingCall k) cs
+      → h .port .uf + framesIn cs ≤ m → AtEach P h cs
+  unfolding AtEach AllCalls framesIn
+  at-each h [] s o b r n = tt
+  at-each h (c ∷ cs) s o b r n =
+      let next = sound-step h s c (b .0) in
+      (holds h c s o (r .0) (omega arith), at-each (step h c) cs (next .sound) (ring-step k h o c (r .0)) (b .1) (r .1) (omega (arith, next .uf)))
 
 -- ---- a new host
 
@@ -245,14 +301,13 @@ zero-bytes zero i = lit< tt
 zero-bytes (suc n) zero = lit< tt
 zero-bytes (suc n) (suc i) = zero-bytes n i
 
-sound-new : (k : ℕ) → sendingLength k ≡ true → (c : Settings) → fewSpans (newHost c) ≡ true → Sound k (newHost c)
-unfolding newHost sendingLength
-sound-new k ring c few =
+sound-new : (c : Settings) → fewSpans (newHost c) ≡ true → Sound (newHost c)
+unfolding newHost
+sound-new c few =
     record {
       few = few;
       bounds = new-bounded c;
       received = new-received c;
-      sending = new-sending c k (omega (arith, leb-true 84 k (and-first (leb 84 k) _ ring)));
       setups-length = length-replicate {A = ℕ} 2056 0;
       setups-bytes = zero-bytes 2056;
       midi-length = length-replicate {A = ℕ} 4096 0;
@@ -264,21 +319,29 @@ sound-new k ring c few =
 -- whatever `new` answers, refused or not, its host is a new one
 of-created : (P : Host → Type 0) (c : Settings) → ((s : Settings) → P (newHost s)) → P (created c .host)
 unfolding created
-of-created P c f = by-test (leb (c .spans) 16)
+of-created P c f = by-spans (leb (c .spans) 16)
   where
-    by-test : (b : Bool) → P (pick {A = Created} b (record { refusal = 0; host = newHost (settled c) }) (record { refusal = 3; host = newHost noSettings }) .host)
-    by-test true = f (settled c)
-    by-test false = f noSettings
+    by-spans : (b : Bool) → P (pick {A = Created} b (record { refusal = 0; host = newHost (settled c) }) (record { refusal = 3; host = newHost noSettings }) .host)
+    by-spans true = f (settled c)
+    by-spans false = f noSettings
+
+sound-created : (c : Settings) → Sound (created c .host)
+sound-created c = of-created (λ h. fewSpans h ≡ true → Sound h) c sound-new (new-few c)
+
+ring-created : (c : Settings) (k : ℕ) → sendingLength k ≡ true → sendingOk (stateOf (created c .host)) k ≡ true
+unfolding sendingLength
+ring-created c k ring =
+    of-created (λ h. sendingOk (stateOf h) k ≡ true) c (λ x. new-sending x k (omega (arith, leb-true 84 k (and-first (leb 84 k) _ ring))))
 
 -- from `new`
-from-new : (c : Settings) (k m : ℕ) (ring : sendingLength k ≡ true) (P : Host → Call → Type 0)
-    → ((h : Host) (c : Call) → Sound k h → RightCall k c → h .port .uf + framesOf c ≤ m → P h c)
-    → (cs : List Call) → AllRight k cs → framesIn cs ≤ m → AtEach P (created c .host) cs
-from-new c k m ring P holds cs a n =
-    at-each k m ring P holds (created c .host) cs (of-created (λ h. fewSpans h ≡ true → Sound k h) c (sound-new k ring) (new-few c)) a
+from-new : (c : Settings) (k m : ℕ) → sendingLength k ≡ true → (P : Host → Call → Type 0)
+    → ((h : Host) (c : Call) → Sound h → sendingOk (stateOf h) k ≡ true → RingCall k c → h .port .uf + framesOf c ≤ m → P h c)
+    → (cs : List Call) → AllCalls BytesCall cs → AllCalls (RingCall k) cs → framesIn cs ≤ m → AtEach P (created c .host) cs
+from-new c k m ring P holds cs b r n =
+    at-each k m P holds (created c .host) cs (sound-created c) (ring-created c k ring) b r
     (of-created (λ h. h .port .uf + framesIn cs ≤ m) c (λ s. unfold newHost in omega arith))
 
--- ---- the number that is due is fine
+-- ---- the number that is due of a call of the right lengths is fine
 
 seven-fine : (b : Bool) → (eqb (unless 7 b 0) 0 || eqb (unless 7 b 0) 7) ≡ true
 seven-fine true = refl
@@ -288,28 +351,41 @@ four-fine : (b : Bool) → (eqb (unless 4 b 0) 0 || not b) ≡ true
 four-fine true = refl
 four-fine false = refl
 
-due-fine : (h : Host) (c : Call) → h .port .uf + framesOf c ≤ MOST → fine c (dueNumber h c) ≡ true
-unfolding fine dueNumber framesOf
-due-fine h (microframe t l) n = simp (lt-ltb (h .port .uf) MOST (omega arith))
-due-fine h (midiSend bs) n = seven-fine (roomFor (h .packer) bs (h .lengths .midi))
-due-fine h (serialSend bs) n = seven-fine (leb (h .lengths .serial + length bs) 4096)
-due-fine h (frameGive f sending) n = seven-fine (ltb (h .audio .sending .len) (length sending / WORDS))
-due-fine h (frameTake received) n = refl
-due-fine h (deviceRead page off size) n = four-fine (fits off size)
-due-fine h (deviceWrite page off size v) n = four-fine (fits off size)
+later-fine : (h : Host) (c : Call) → h .port .uf + framesOf c ≤ MOST → fine c (laterNumber h c) ≡ true
+unfolding fine laterNumber framesOf
+later-fine h (microframe t l) n = simp (lt-ltb (h .port .uf) MOST (omega arith))
+later-fine h (midiSend bs) n = seven-fine (roomFor (h .packer) bs (h .lengths .midi))
+later-fine h (serialSend bs) n = seven-fine (leb (h .lengths .serial + length bs) 4096)
+later-fine h (frameGive f sending) n = seven-fine (ltb (h .audio .sending .len) (length sending / WORDS))
+later-fine h (frameTake received) n = refl
+later-fine h (deviceRead page off size) n = four-fine (fits off size)
+later-fine h (deviceWrite page off size v) n = four-fine (fits off size)
+
+due-fine : (h : Host) (c : Call) → h .port .uf + framesOf c ≤ MOST → lengthNumber c ≡ 0 → fine c (dueNumber h c) ≡ true
+unfolding dueNumber
+due-fine h c n e = rw e (later-fine h c n)
 
 -- ---- the claims
 
--- from `new`, with areas of the right lengths and one length of the sending ring: every call gets the number that is due
-pub numbers-due : (c : Settings) (k : ℕ) (cs : List Call) → sendingLength k ≡ true → AllRight k cs → Due (created c .host) cs
-numbers-due c k cs ring a =
-    from-new c k (framesIn cs) ring (λ h x. numberOf h x ≡ dueNumber h x) (λ h x s r n. number-due k ring h s x r) cs a (omega arith)
+-- from `new`, with bytes in memory and reply areas and whatever else is lent, refused calls or not: the record meets every bound that no area bounds
+pub record-bounded : (c : Settings) (cs : List Call) → AllCalls BytesCall cs → WithinBounds (after (created c .host) cs)
+record-bounded c cs b =
+    let h = after (created c .host) cs in
+    let s = after-sound (created c .host) cs (sound-created c) b in
+    record { spans = s .few; bounds = s .bounds; received = s .received; areas = sound-areas h s }
 
--- and with fewer than 2^40 microframes before each: no microframe, no frame taken and no device access that fits is refused, and sends and
--- frames given are refused with 7 alone
-pub accepts : (c : Settings) (k : ℕ) (cs : List Call) → sendingLength k ≡ true → AllRight k cs → framesIn cs ≤ MOST → Accepts (created c .host) cs
-accepts c k cs ring a n =
-    from-new c k MOST ring (λ h x. fine x (numberOf h x) ≡ true) (λ h x s r m. ap (fine x) (number-due k ring h s x r) ∙ due-fine h x m) cs a n
+-- and with one length of the sending ring in the calls of the right lengths: every call gets the number that is due
+pub numbers-due : (c : Settings) (k : ℕ) (cs : List Call) → sendingLength k ≡ true → AllCalls BytesCall cs → AllCalls (RingCall k) cs → Due (created c .host) cs
+numbers-due c k cs ring b r =
+    from-new c k (framesIn cs) ring (λ h x. numberOf h x ≡ dueNumber h x) (λ h x s o q n. number-due k h s o x q) cs b r (omega arith)
+
+-- and with fewer than 2^40 microframes before each: of the calls of the right lengths no microframe, no frame taken and no device access that fits is
+-- refused, and sends and frames given are refused with 7 alone
+pub accepts : (c : Settings) (k : ℕ) (cs : List Call) → sendingLength k ≡ true → AllCalls BytesCall cs → AllCalls (RingCall k) cs → framesIn cs ≤ MOST
+    → Accepts (created c .host) cs
+accepts c k cs ring b r n =
+    from-new c k MOST ring (λ h x. lengthNumber x ≡ 0 → fine x (numberOf h x) ≡ true)
+    (λ h x s o q m e. ap (fine x) (number-due k h s o x q) ∙ due-fine h x m e) cs b r n
 
 -- ---- such areas can be had: zeros, of any right lengths
 
@@ -324,20 +400,22 @@ zeros dynamic sram page reply config receive received sending =
       sending = replicate sending 0;
     }
 
-zeros-fit : (d m p a b c e k : ℕ) → isPower d ≡ true → m ≡ 65536 → p ≡ 4096 → lengthsOk a b c e k ≡ true → RightAreas k (zeros d m p a b c e k)
-unfolding zeros isSized
+-- what a microframe of the right lengths has
+pub record RightFrame (k : ℕ) (l : Lent) : Type 0 where
+  pub lengths : (t : ℕ) → lengthNumber (microframe t l) ≡ 0
+  pub ring : length (l .sending) ≡ k
+  pub bytes : BytesLent l
+
+zeros-fit : (d m p a b c e k : ℕ) → isPower d ≡ true → m ≡ 65536 → p ≡ 4096 → lengthsOk a b c e k ≡ true → RightFrame k (zeros d m p a b c e k)
+unfolding zeros isSized lengthNumber
 zeros-fit d m p a b c e k power static page areas =
     record {
-      windows = simp (length-replicate {A = ℕ}, power, static, page);
-      areas = simp (length-replicate {A = ℕ}, areas);
-      sending = length-replicate {A = ℕ} k 0;
-      dynamic-bytes = zero-bytes d;
-      static-bytes = zero-bytes m;
-      page-bytes = zero-bytes p;
-      reply-bytes = zero-bytes a;
+      lengths = λ t. simp (length-replicate {A = ℕ}, power, static, page, areas);
+      ring = length-replicate {A = ℕ} k 0;
+      bytes = record { dynamic = zero-bytes d; sram = zero-bytes m; page = zero-bytes p; reply = zero-bytes a };
     }
 
 -- the shortest
-pub zeros-right : RightAreas 84 (zeros 4096 65536 4096 65535 65535 196608 576000 84)
+pub zeros-right : RightFrame 84 (zeros 4096 65536 4096 65535 65535 196608 576000 84)
 unfolding isPower lengthsOk sendingLength
 zeros-right = zeros-fit 4096 65536 4096 65535 65535 196608 576000 84 refl refl refl refl

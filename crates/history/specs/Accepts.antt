@@ -1,20 +1,23 @@
--- What every list of calls from `new` meets (document 01, "Numbers of refusal"): with areas of the right lengths, one length of the sending
--- ring and fewer than 2^40 microframes before each, no microframe, no frame taken and no device access that fits is refused, and sends and
--- frames given are refused with 7 alone.
-use Prim.Native.Nat.{ℕ, _+_, _*_, _/_}
-use mathlib.Core.Bool.{Bool, true, not, _||_}
+-- What every list of calls from `new` meets (document 01, "Numbers of refusal"), whatever the calls are lent but numbers that are no bytes: the record
+-- stays in the bounds of number 5, and every call gets the number that is due. So with areas of the right lengths, one length of the sending ring and
+-- fewer than 2^40 microframes before each, no microframe, no frame taken and no device access that fits is refused, and sends and frames given are
+-- refused with 7 alone.
+use Prim.Native.Nat.{ℕ, _+_, _*_, _/_, _≤_}
+use mathlib.Core.Bool.{Bool, true, not, _&&_, _||_}
 use mathlib.Core.List.{List, [], _∷_}
 use mathlib.Core.Path.{_≡_}
 use lib.Dec.{eqb, leb, ltb}
 use lib.ListN.{length}
+use Rattle.bits.specs.Pick.{pick}
 use Rattle.bus.specs.Sized.{isSized}
 use Rattle.usbdev.specs.Access.{fits}
 use Rattle.midi.specs.Packer.{roomFor}
 use Rattle.config.specs.Config.{Bytes}
 use Rattle.record.specs.Change.{FRAMES, WORDS}
-use Rattle.bounds.specs.Bounds.{MOST}
+use Rattle.bounds.specs.Bounds.{MOST, areasOk, receivedOk}
 use Rattle.usbhost.specs.declared.Host.{Host}
-use Rattle.usbhost.specs.Calls.{unless, midiNumber, serialNumber, giveNumber, takeNumber, accessNumber}
+use Rattle.usbhost.specs.Host.{stateOf}
+use Rattle.usbhost.specs.Calls.{unless, fewSpans, bounded, sendingLength, midiNumber, serialNumber, giveNumber, takeNumber, accessNumber}
 use Rattle.usbhost.specs.Frame.{Lent, areaLengths, frameNumber}
 use Rattle.history.specs.Calls.{Call, microframe, midiSend, serialSend, frameGive, frameTake, deviceRead, deviceWrite, step}
 
@@ -30,16 +33,30 @@ numberOf h (frameTake received) = takeNumber h received
 numberOf h (deviceRead page off size) = accessNumber h (length page) off size
 numberOf h (deviceWrite page off size v) = accessNumber h (length page) off size
 
--- 7 exactly where what is held and all that the call adds exceed the space, 6 exactly after 2^40 microframes, 4 exactly where an access does
--- not fit, and otherwise 0
+-- by the lengths of what a call is lent alone: 1 where a window's is wrong, 2 where an area's or a frame's is, and otherwise 0
+unfoldable pub lengthNumber : Call → ℕ
+lengthNumber (microframe t l) = unless 1 (isSized (l .memory)) (unless 2 (areaLengths l) 0)
+lengthNumber (midiSend bs) = 0
+lengthNumber (serialSend bs) = 0
+lengthNumber (frameGive f sending) = unless 2 (sendingLength (length sending) && eqb (length f) WORDS) 0
+lengthNumber (frameTake received) = unless 2 (eqb (length received) (FRAMES * WORDS)) 0
+lengthNumber (deviceRead page off size) = unless 1 (eqb (length page) 4096) 0
+lengthNumber (deviceWrite page off size v) = unless 1 (eqb (length page) 4096) 0
+
+-- of a call whose lengths are right: 4 exactly where an access does not fit, 6 exactly after 2^40 microframes, 7 exactly where what is held and all
+-- that the call adds exceed the space, and otherwise 0
+unfoldable pub laterNumber : Host → Call → ℕ
+laterNumber h (microframe t l) = unless 6 (ltb (h .port .uf) MOST) 0
+laterNumber h (midiSend bs) = unless 7 (roomFor (h .packer) bs (h .lengths .midi)) 0
+laterNumber h (serialSend bs) = unless 7 (leb (h .lengths .serial + length bs) 4096) 0
+laterNumber h (frameGive f sending) = unless 7 (ltb (h .audio .sending .len) (length sending / WORDS)) 0
+laterNumber h (frameTake received) = 0
+laterNumber h (deviceRead page off size) = unless 4 (fits off size) 0
+laterNumber h (deviceWrite page off size v) = unless 4 (fits off size) 0
+
+-- the whole number: 3 and 5 are never due
 unfoldable pub dueNumber : Host → Call → ℕ
-dueNumber h (microframe t l) = unless 6 (ltb (h .port .uf) MOST) 0
-dueNumber h (midiSend bs) = unless 7 (roomFor (h .packer) bs (h .lengths .midi)) 0
-dueNumber h (serialSend bs) = unless 7 (leb (h .lengths .serial + length bs) 4096) 0
-dueNumber h (frameGive f sending) = unless 7 (ltb (h .audio .sending .len) (length sending / WORDS)) 0
-dueNumber h (frameTake received) = 0
-dueNumber h (deviceRead page off size) = unless 4 (fits off size) 0
-dueNumber h (deviceWrite page off size v) = unless 4 (fits off size) 0
+dueNumber h c = pick (eqb (lengthNumber c) 0) (laterNumber h c) (lengthNumber c)
 
 -- 0, or 7 of a send and of a frame given; an access that does not fit may be refused
 unfoldable pub fine : Call → ℕ → Bool
@@ -51,32 +68,39 @@ fine (frameTake received) n = eqb n 0
 fine (deviceRead page off size) n = eqb n 0 || not (fits off size)
 fine (deviceWrite page off size v) n = eqb n 0 || not (fits off size)
 
--- ---- areas of the right lengths; k: the words of the sending ring, in every call
+-- ---- what is asked of a call
 
--- of a microframe; the numbers in memory and in the reply area are bytes, as in any slice of u8
-pub record RightAreas (k : ℕ) (l : Lent) : Type 0 where
-  pub windows : isSized (l .memory) ≡ true
-  pub areas : areaLengths l ≡ true
-  pub sending : length (l .sending) ≡ k
-  pub dynamic-bytes : Bytes (l .memory .dynamic)
-  pub static-bytes : Bytes (l .memory .sram)
-  pub page-bytes : Bytes (l .memory .page)
-  pub reply-bytes : Bytes (l .reply)
+-- the numbers lent in memory and in the reply area are bytes, as in any slice of u8
+pub record BytesLent (l : Lent) : Type 0 where
+  pub dynamic : Bytes (l .memory .dynamic)
+  pub sram : Bytes (l .memory .sram)
+  pub page : Bytes (l .memory .page)
+  pub reply : Bytes (l .reply)
 
--- of any call; an access may lie anywhere
-unfoldable pub RightCall : ℕ → Call → Type 0
-RightCall k (microframe t l) = RightAreas k l
-RightCall k (midiSend bs) = Unit {0}
-RightCall k (serialSend bs) = Unit {0}
-RightCall k (frameGive f sending) = (length f ≡ WORDS) × (length sending ≡ k)
-RightCall k (frameTake received) = length received ≡ FRAMES * WORDS
-RightCall k (deviceRead page off size) = length page ≡ 4096
-RightCall k (deviceWrite page off size v) = length page ≡ 4096
+unfoldable pub BytesCall : Call → Type 0
+BytesCall (microframe t l) = BytesLent l
+BytesCall (midiSend bs) = Unit {0}
+BytesCall (serialSend bs) = Unit {0}
+BytesCall (frameGive f sending) = Unit {0}
+BytesCall (frameTake received) = Unit {0}
+BytesCall (deviceRead page off size) = Unit {0}
+BytesCall (deviceWrite page off size v) = Unit {0}
+
+-- a sending ring of k words; one in a call of wrong lengths is not looked at. A ring of another length may not hold the start or the frames that the
+-- record has of it, which is number 5
+unfoldable pub RingCall : ℕ → Call → Type 0
+RingCall k (microframe t l) = lengthNumber (microframe t l) ≡ 0 → length (l .sending) ≡ k
+RingCall k (midiSend bs) = Unit {0}
+RingCall k (serialSend bs) = Unit {0}
+RingCall k (frameGive f sending) = lengthNumber (frameGive f sending) ≡ 0 → length sending ≡ k
+RingCall k (frameTake received) = Unit {0}
+RingCall k (deviceRead page off size) = Unit {0}
+RingCall k (deviceWrite page off size v) = Unit {0}
 
 -- of all calls of a list
-unfoldable pub AllRight : ℕ → List Call → Type 0
-AllRight k [] = Unit {0}
-AllRight k (c ∷ cs) = RightCall k c × AllRight k cs
+unfoldable pub AllCalls : (Call → Type 0) → List Call → Type 0
+AllCalls P [] = Unit {0}
+AllCalls P (c ∷ cs) = P c × AllCalls P cs
 
 -- ---- how many microframes a list has
 
@@ -97,15 +121,23 @@ framesIn (c ∷ cs) = framesOf c + framesIn cs
 
 -- ---- the claims
 
+-- numbers 3 and 5 but for the sending ring, whose bound its lent words are: the record, the received ring, and the configuration and the reply in any
+-- areas of 65,535 bytes or more
+pub record WithinBounds (h : Host) : Type 0 where
+  pub spans : fewSpans h ≡ true
+  pub bounds : bounded h ≡ true
+  pub received : receivedOk (stateOf h) ≡ true
+  pub areas : (reply config : ℕ) → 65535 ≤ reply → 65535 ≤ config → areasOk (stateOf h) reply config ≡ true
+
 -- of every call of a list, each on the record that the ones before it left
 unfoldable pub AtEach : (Host → Call → Type 0) → Host → List Call → Type 0
 AtEach P h [] = Unit {0}
 AtEach P h (c ∷ cs) = P h c × AtEach P (step h c) cs
 
--- every call gets a fine number
-abbrev pub Accepts : Host → List Call → Type 0
-Accepts = AtEach (λ h c. fine c (numberOf h c) ≡ true)
-
--- and the one that is due
+-- every call gets the number that is due
 abbrev pub Due : Host → List Call → Type 0
 Due = AtEach (λ h c. numberOf h c ≡ dueNumber h c)
+
+-- and one of the right lengths a fine one
+abbrev pub Accepts : Host → List Call → Type 0
+Accepts = AtEach (λ h c. lengthNumber c ≡ 0 → fine c (numberOf h c) ≡ true)
