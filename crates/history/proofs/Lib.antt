@@ -5,5 +5,6 @@ pub mod Rings
 pub mod OneCall
 pub mod Retired
 pub mod Accepts
+pub mod Owned
 pub mod Contracts
 pub mod Parts
