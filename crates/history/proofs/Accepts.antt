@@ -2,11 +2,12 @@
 -- document 01 lets pass.
 use Prim.Native.Nat.{ℕ, zero, suc, _+_, _*_, _/_, _^_, _≤_, _<_}
 use mathlib.Core.Path.{_≡_, refl, ap, sym, subst, _∙_}
-use mathlib.Core.Bool.{Bool, true, false, not, _&&_, _||_}
+use mathlib.Core.Bool.{Bool, true, false, _&&_, _||_}
 use mathlib.Core.List.{List, [], _∷_}
+use native.Mathlib.Numerals.{add-one}
 use native.Mathlib.Omega.{arith}
 use borrow.Author.Tests.{eqb-true, leb-true, lt-ltb, ltb-true}
-use lib.Dec.{eqb, leb, ltb, lit<}
+use lib.Dec.{eqb, leb, lit<}
 use lib.ListN.{length, replicate, length-replicate}
 use lib.Seq.{length-sets}
 use Rattle.bits.specs.Pick.{pick}
@@ -14,7 +15,8 @@ use Rattle.bits.proofs.Tests.{and-first, and-second}
 use Rattle.bus.specs.Memory.{memory}
 use Rattle.bus.specs.Sized.{isPower, isSized}
 use Rattle.usbdev.specs.Access.{fits, writeSized}
-use Rattle.midi.specs.Packer.{packetsOf, roomFor}
+use Rattle.midi.specs.Packer.{packetsOf}
+use Rattle.midi.proofs.Laws.{packets-size}
 use Rattle.config.specs.Config.{Bytes}
 use Rattle.record.specs.declared.Settings.{Settings}
 use Rattle.record.specs.Change.{FRAMES, WORDS, left}
@@ -34,8 +36,9 @@ use Rattle.usbhost.proofs.Laws.{same-bounds}
 use Rattle.usbhost.proofs.Frame.{Accepted, accepted-tests}
 use Rattle.usbhost.proofs.Kept.{Kept, midi-kept, serial-kept, give-kept, take-kept, write-kept, new-bounded, new-received, new-sending, new-few}
 use Rattle.history.specs.Calls.{Call, microframe, midiSend, serialSend, frameGive, frameTake, deviceRead, deviceWrite, step, after}
-use Rattle.history.specs.Accepts.{numberOf, lengthNumber, laterNumber, dueNumber, fine, BytesLent, BytesCall, RingCall, AllCalls, framesOf, framesIn, WithinBounds, AtEach, Due, Accepts}
+use Rattle.history.specs.Accepts.{numberOf, inputNumber, stateNumber, dueNumber, fine, BytesLent, BytesCall, RightAreas, RightInput, RingCall, AllCalls, framesOf, framesIn, WithinBounds, AtEach, Due, Accepts}
 use Rattle.history.proofs.History.{by-test}
+use Rattle.history.proofs.Input.{areas-right, input-right, right-input}
 
 -- ---- what every call keeps, whatever its lengths: the bounds of number 5 that no area bounds, and what those of the areas come from
 
@@ -128,17 +131,6 @@ sound-kept k h g p r s =
 
 -- ---- the microframe
 
--- reply and configuration area of the right lengths
-long-reply : (l : Lent) → areaLengths l ≡ true → 65535 ≤ length (l .reply)
-unfolding lengthsOk
-long-reply l e = leb-true 65535 (length (l .reply)) (and-first (leb 65535 (length (l .reply))) _ e)
-
-long-config : (l : Lent) → areaLengths l ≡ true → 65535 ≤ length (l .config)
-unfolding lengthsOk
-long-config l e =
-    leb-true 65535 (length (l .config))
-    (and-first (leb 65535 (length (l .config))) _ (and-second (leb 65535 (length (l .reply))) _ e))
-
 -- an accepted one: its lengths are right and its bounds met by its own tests
 module _ (h : Host) (l : Lent) (s : Sound h) (b : BytesLent l) (a : Accepted h l) where
   accepted-bounded : Bounded (worldOf h l)
@@ -156,11 +148,12 @@ module _ (h : Host) (l : Lent) (s : Sound h) (b : BytesLent l) (a : Accepted h l
 
   accepted-entry : Entry (worldOf h l)
   accepted-entry =
+      let right = areas-right l (a .sized) (a .lengths) in
       record {
         uf = ltb-true (h .port .uf) MOST (a .before);
         setups-length = s .setups-length;
-        reply-length = long-reply l (a .lengths);
-        config-length = long-config l (a .lengths);
+        reply-length = right .reply;
+        config-length = right .config;
         memory-bytes = record { dynamic = b .dynamic; sram = b .sram; page = b .page };
         setups-bytes = s .setups-bytes;
         reply-bytes = b .reply;
@@ -209,27 +202,27 @@ sound-step h s (frameTake received) b = sound-kept 0 h _ (take-kept 0 h received
 sound-step h s (deviceRead page off size) b = record { sound = s; uf = omega arith }
 sound-step h s (deviceWrite page off size v) b = sound-kept 0 h _ (write-kept 0 h page off size v) (write-rests h page off size v) s
 
--- ---- the sending ring, of k words in every call of the right lengths
+-- ---- the sending ring, of k words in every call of right input
 
 module _ (k : ℕ) (h : Host) (s : sendingOk (stateOf h) k ≡ true) where
   ring-frame : (t : ℕ) (l : Lent) → RingCall k (microframe t l) → sendingOk (stateOf (step h (microframe t l))) k ≡ true
-  unfolding step framed RingCall lengthNumber
+  unfolding step framed RingCall
   ring-frame t l r =
       by-test (λ x. sendingOk (stateOf (hostIn (pick x (left (M.microframe t) (worldOf h l)) (worldOf h l)))) k ≡ true) (eqb (frameNumber h l) 0)
       (λ ok.
       let a = accepted-tests h l (eqb-true (frameNumber h l) 0 ok) in
-      let e = r (simp (a .sized, a .lengths)) in
+      let e = r (areas-right l (a .sized) (a .lengths)) in
       sym (ap (λ (n : ℕ). sendingOk (left (M.microframe t) (worldOf h l) .state) n) e)
       ∙ sending-kept t (worldOf h l) (ap (λ (n : ℕ). sendingOk (stateOf h) n) e ∙ s))
       (λ no. s)
 
   ring-give : (f sending : List ℕ) → RingCall k (frameGive f sending) → sendingOk (stateOf (given h f sending .host)) k ≡ true
-  unfolding given giveNumber RingCall lengthNumber
+  unfolding given giveNumber RingCall inputNumber
   ring-give f sending r = by-lengths (sendingLength (length sending) && eqb (length f) WORDS) refl
     where
       by-lengths : (b : Bool) → (sendingLength (length sending) && eqb (length f) WORDS) ≡ b → sendingOk (stateOf (given h f sending .host)) k ≡ true
       by-lengths true e =
-          let m = r (simp e) in
+          let m = r (input-right (frameGive f sending) (simp e)) in
           subst (λ (n : ℕ). sendingOk (stateOf (given h f sending .host)) n ≡ true) m
           (give-kept h f sending .sending (ap (λ (n : ℕ). sendingOk (stateOf h) n) m ∙ s))
       by-lengths false e = rw e s
@@ -253,25 +246,34 @@ lengths-first true true x y f = f refl refl
 lengths-first true false x y f = refl
 lengths-first false b x y f = refl
 
+-- an access asks nothing of the state
+input-alone : (a b : Bool) → unless 1 a (unless 4 b 0) ≡ pick (eqb (unless 1 a (unless 4 b 0)) 0) 0 (unless 1 a (unless 4 b 0))
+input-alone true true = refl
+input-alone true false = refl
+input-alone false b = refl
+
 module _ (k : ℕ) (h : Host) (s : Sound h) (ring : sendingOk (stateOf h) k ≡ true) where
   frame-due : (t : ℕ) (l : Lent) → RingCall k (microframe t l) → numberOf h (microframe t l) ≡ dueNumber h (microframe t l)
-  unfolding numberOf dueNumber lengthNumber laterNumber RingCall frameNumber boundsOk
+  unfolding numberOf dueNumber inputNumber stateNumber RingCall frameNumber boundsOk
   frame-due t l r =
       lengths-first (isSized (l .memory)) (areaLengths l) _ _ (λ e f.
-      let areas = sound-areas h s (length (l .reply)) (length (l .config)) (long-reply l f) (long-config l f) in
-      simp (s .few, s .bounds, areas, s .received, r (simp (e, f)), ring))
+      let right = areas-right l e f in
+      let areas = sound-areas h s (length (l .reply)) (length (l .config)) (right .reply) (right .config) in
+      simp (s .few, s .bounds, areas, s .received, r right, ring))
 
-  access-due : (len off size : ℕ) → accessNumber h len off size ≡ pick (eqb (unless 1 (eqb len 4096) 0) 0) (unless 4 (fits off size) 0) (unless 1 (eqb len 4096) 0)
+  access-due : (len off size : ℕ) → accessNumber h len off size ≡ pick (eqb (unless 1 (eqb len 4096) (unless 4 (fits off size) 0)) 0) 0 (unless 1 (eqb len 4096) (unless 4 (fits off size) 0))
   unfolding accessNumber
-  access-due len off size = lengths-first (eqb len 4096) true _ _ (λ e f. simp (s .few, s .bounds))
+  access-due len off size =
+      let own : accessNumber h len off size ≡ unless 1 (eqb len 4096) (unless 4 (fits off size) 0) = simp (s .few, s .bounds) in
+      own ∙ input-alone (eqb len 4096) (fits off size)
 
   number-due : (c : Call) → RingCall k c → numberOf h c ≡ dueNumber h c
-  unfolding numberOf dueNumber lengthNumber laterNumber RingCall midiNumber serialNumber giveNumber takeNumber
+  unfolding numberOf dueNumber inputNumber stateNumber RingCall midiNumber serialNumber giveNumber takeNumber
   number-due (microframe t l) r = frame-due t l r
-  number-due (midiSend bs) r = simp (s .few, s .bounds)
+  number-due (midiSend bs) r = simp (s .few, s .bounds, packets-size 0 (h .packer) bs)
   number-due (serialSend bs) r = simp (s .few, s .bounds)
   number-due (frameGive f sending) r =
-      lengths-first true (sendingLength (length sending) && eqb (length f) WORDS) _ _ (λ e g. simp (s .few, s .bounds, r (simp g), ring))
+      lengths-first true (sendingLength (length sending) && eqb (length f) WORDS) _ _ (λ e g. simp (s .few, s .bounds, r (input-right (frameGive f sending) (simp g)), ring, add-one))
   number-due (frameTake received) r = lengths-first true (eqb (length received) (FRAMES * WORDS)) _ _ (λ e g. simp (s .few, s .bounds, s .received))
   number-due (deviceRead page off size) r = access-due (length page) off size
   number-due (deviceWrite page off size v) r = access-due (length page) off size
@@ -341,29 +343,25 @@ from-new c k m ring P holds cs b r n =
     at-each k m P holds (created c .host) cs (sound-created c) (ring-created c k ring) b r
     (of-created (λ h. h .port .uf + framesIn cs ≤ m) c (λ s. unfold newHost in omega arith))
 
--- ---- the number that is due of a call of the right lengths is fine
+-- ---- the number that is due of a call of right input is fine
 
 seven-fine : (b : Bool) → (eqb (unless 7 b 0) 0 || eqb (unless 7 b 0) 7) ≡ true
 seven-fine true = refl
 seven-fine false = refl
 
-four-fine : (b : Bool) → (eqb (unless 4 b 0) 0 || not b) ≡ true
-four-fine true = refl
-four-fine false = refl
+state-fine : (h : Host) (c : Call) → h .port .uf + framesOf c ≤ MOST → fine c (stateNumber h c) ≡ true
+unfolding fine stateNumber framesOf
+state-fine h (microframe t l) n = simp (lt-ltb (h .port .uf) MOST (omega arith))
+state-fine h (midiSend bs) n = seven-fine (leb (h .lengths .midi + length (packetsOf 0 (h .packer) bs)) 4096)
+state-fine h (serialSend bs) n = seven-fine (leb (h .lengths .serial + length bs) 4096)
+state-fine h (frameGive f sending) n = seven-fine (leb (h .audio .sending .len + 1) (length sending / 12))
+state-fine h (frameTake received) n = refl
+state-fine h (deviceRead page off size) n = refl
+state-fine h (deviceWrite page off size v) n = refl
 
-later-fine : (h : Host) (c : Call) → h .port .uf + framesOf c ≤ MOST → fine c (laterNumber h c) ≡ true
-unfolding fine laterNumber framesOf
-later-fine h (microframe t l) n = simp (lt-ltb (h .port .uf) MOST (omega arith))
-later-fine h (midiSend bs) n = seven-fine (roomFor (h .packer) bs (h .lengths .midi))
-later-fine h (serialSend bs) n = seven-fine (leb (h .lengths .serial + length bs) 4096)
-later-fine h (frameGive f sending) n = seven-fine (ltb (h .audio .sending .len) (length sending / WORDS))
-later-fine h (frameTake received) n = refl
-later-fine h (deviceRead page off size) n = four-fine (fits off size)
-later-fine h (deviceWrite page off size v) n = four-fine (fits off size)
-
-due-fine : (h : Host) (c : Call) → h .port .uf + framesOf c ≤ MOST → lengthNumber c ≡ 0 → fine c (dueNumber h c) ≡ true
+due-fine : (h : Host) (c : Call) → h .port .uf + framesOf c ≤ MOST → RightInput c → fine c (dueNumber h c) ≡ true
 unfolding dueNumber
-due-fine h c n e = rw e (later-fine h c n)
+due-fine h c n r = rw (right-input c r) (state-fine h c n)
 
 -- ---- the claims
 
@@ -374,17 +372,17 @@ record-bounded c cs b =
     let s = after-sound (created c .host) cs (sound-created c) b in
     record { spans = s .few; bounds = s .bounds; received = s .received; areas = sound-areas h s }
 
--- and with one length of the sending ring in the calls of the right lengths: every call gets the number that is due
+-- and with one length of the sending ring in the calls of right input: every call gets the number that is due
 pub numbers-due : (c : Settings) (k : ℕ) (cs : List Call) → sendingLength k ≡ true → AllCalls BytesCall cs → AllCalls (RingCall k) cs → Due (created c .host) cs
 numbers-due c k cs ring b r =
     from-new c k (framesIn cs) ring (λ h x. numberOf h x ≡ dueNumber h x) (λ h x s o q n. number-due k h s o x q) cs b r (omega arith)
 
--- and with fewer than 2^40 microframes before each: of the calls of the right lengths no microframe, no frame taken and no device access that fits is
--- refused, and sends and frames given are refused with 7 alone
+-- and with fewer than 2^40 microframes before each: of the calls of right input no microframe, no frame taken and no device access is refused, and sends
+-- and frames given are refused with 7 alone
 pub accepts : (c : Settings) (k : ℕ) (cs : List Call) → sendingLength k ≡ true → AllCalls BytesCall cs → AllCalls (RingCall k) cs → framesIn cs ≤ MOST
     → Accepts (created c .host) cs
 accepts c k cs ring b r n =
-    from-new c k MOST ring (λ h x. lengthNumber x ≡ 0 → fine x (numberOf h x) ≡ true)
+    from-new c k MOST ring (λ h x. RightInput x → fine x (numberOf h x) ≡ true)
     (λ h x s o q m e. ap (fine x) (number-due k h s o x q) ∙ due-fine h x m e) cs b r n
 
 -- ---- such areas can be had: zeros, of any right lengths
@@ -400,22 +398,16 @@ zeros dynamic sram page reply config receive received sending =
       sending = replicate sending 0;
     }
 
--- what a microframe of the right lengths has
-pub record RightFrame (k : ℕ) (l : Lent) : Type 0 where
-  pub lengths : (t : ℕ) → lengthNumber (microframe t l) ≡ 0
-  pub ring : length (l .sending) ≡ k
-  pub bytes : BytesLent l
+zeros-right : (d m p a b c e k : ℕ) → isPower d ≡ true → m ≡ 65536 → p ≡ 4096 → lengthsOk a b c e k ≡ true → RightAreas (zeros d m p a b c e k)
+unfolding zeros isSized
+zeros-right d m p a b c e k power static page areas =
+    areas-right (zeros d m p a b c e k) (simp (length-replicate {A = ℕ}, power, static, page)) (simp (length-replicate {A = ℕ}, areas))
 
-zeros-fit : (d m p a b c e k : ℕ) → isPower d ≡ true → m ≡ 65536 → p ≡ 4096 → lengthsOk a b c e k ≡ true → RightFrame k (zeros d m p a b c e k)
-unfolding zeros isSized lengthNumber
-zeros-fit d m p a b c e k power static page areas =
-    record {
-      lengths = λ t. simp (length-replicate {A = ℕ}, power, static, page, areas);
-      ring = length-replicate {A = ℕ} k 0;
-      bytes = record { dynamic = zero-bytes d; sram = zero-bytes m; page = zero-bytes p; reply = zero-bytes a };
-    }
+pub zeros-bytes : (d m p a b c e k : ℕ) → BytesLent (zeros d m p a b c e k)
+unfolding zeros
+zeros-bytes d m p a b c e k = record { dynamic = zero-bytes d; sram = zero-bytes m; page = zero-bytes p; reply = zero-bytes a }
 
 -- the shortest
-pub zeros-right : RightFrame 84 (zeros 4096 65536 4096 65535 65535 196608 576000 84)
+pub shortest-right : RightAreas (zeros 4096 65536 4096 65535 65535 196608 576000 84)
 unfolding isPower lengthsOk sendingLength
-zeros-right = zeros-fit 4096 65536 4096 65535 65535 196608 576000 84 refl refl refl refl
+shortest-right = zeros-right 4096 65536 4096 65535 65535 196608 576000 84 refl refl refl refl

@@ -4,6 +4,7 @@ pub mod Table
 pub mod Rings
 pub mod OneCall
 pub mod Retired
+pub mod Input
 pub mod Accepts
 pub mod Owned
 pub mod Contracts

@@ -1,20 +1,20 @@
--- What every list of calls from `new` meets (document 01, "Numbers of refusal"), whatever the calls are lent but numbers that are no bytes: the record
--- stays in the bounds of number 5, and every call gets the number that is due. So with areas of the right lengths, one length of the sending ring and
--- fewer than 2^40 microframes before each, no microframe, no frame taken and no device access that fits is refused, and sends and frames given are
--- refused with 7 alone.
-use Prim.Native.Nat.{ℕ, _+_, _*_, _/_, _≤_}
-use mathlib.Core.Bool.{Bool, true, not, _&&_, _||_}
+-- What every list of calls from `new` meets (document 01, "Numbers of refusal"), whatever the calls bring but numbers in memory that are no bytes: the
+-- record stays in the bounds of number 5, and every call gets the number that is due. So with right input, one length of the sending ring and fewer than
+-- 2^40 microframes before each, no microframe, no frame taken and no device access is refused, and sends and frames given are refused with 7 alone.
+use Prim.Native.Nat.{ℕ, _+_, _*_, _/_, _%_, _^_, _≤_}
+use mathlib.Core.Bool.{Bool, true, _&&_, _||_}
 use mathlib.Core.List.{List, [], _∷_}
+use mathlib.Core.Logic.{_⊎_}
 use mathlib.Core.Path.{_≡_}
 use lib.Dec.{eqb, leb, ltb}
 use lib.ListN.{length}
 use Rattle.bits.specs.Pick.{pick}
-use Rattle.bus.specs.Sized.{isSized}
+use Rattle.bus.specs.Sized.{Sized, isSized}
 use Rattle.usbdev.specs.Access.{fits}
-use Rattle.midi.specs.Packer.{roomFor}
+use Rattle.midi.specs.Packer.{packetsOf}
 use Rattle.config.specs.Config.{Bytes}
 use Rattle.record.specs.Change.{FRAMES, WORDS}
-use Rattle.bounds.specs.Bounds.{MOST, areasOk, receivedOk}
+use Rattle.bounds.specs.Bounds.{areasOk, receivedOk}
 use Rattle.usbhost.specs.declared.Host.{Host}
 use Rattle.usbhost.specs.Host.{stateOf}
 use Rattle.usbhost.specs.Calls.{unless, fewSpans, bounded, sendingLength, midiNumber, serialNumber, giveNumber, takeNumber, accessNumber}
@@ -33,40 +33,40 @@ numberOf h (frameTake received) = takeNumber h received
 numberOf h (deviceRead page off size) = accessNumber h (length page) off size
 numberOf h (deviceWrite page off size v) = accessNumber h (length page) off size
 
--- by the lengths of what a call is lent alone: 1 where a window's is wrong, 2 where an area's or a frame's is, and otherwise 0
-unfoldable pub lengthNumber : Call → ℕ
-lengthNumber (microframe t l) = unless 1 (isSized (l .memory)) (unless 2 (areaLengths l) 0)
-lengthNumber (midiSend bs) = 0
-lengthNumber (serialSend bs) = 0
-lengthNumber (frameGive f sending) = unless 2 (sendingLength (length sending) && eqb (length f) WORDS) 0
-lengthNumber (frameTake received) = unless 2 (eqb (length received) (FRAMES * WORDS)) 0
-lengthNumber (deviceRead page off size) = unless 1 (eqb (length page) 4096) 0
-lengthNumber (deviceWrite page off size v) = unless 1 (eqb (length page) 4096) 0
+-- from the input alone (document 01, numbers 1, 2 and 4): 1 where a window has the wrong length, 2 where an area or a frame has, 4 where an access does
+-- not fit, and otherwise 0
+unfoldable pub inputNumber : Call → ℕ
+inputNumber (microframe t l) = unless 1 (isSized (l .memory)) (unless 2 (areaLengths l) 0)
+inputNumber (midiSend bs) = 0
+inputNumber (serialSend bs) = 0
+inputNumber (frameGive f sending) = unless 2 (sendingLength (length sending) && eqb (length f) WORDS) 0
+inputNumber (frameTake received) = unless 2 (eqb (length received) (FRAMES * WORDS)) 0
+inputNumber (deviceRead page off size) = unless 1 (eqb (length page) 4096) (unless 4 (fits off size) 0)
+inputNumber (deviceWrite page off size v) = unless 1 (eqb (length page) 4096) (unless 4 (fits off size) 0)
 
--- of a call whose lengths are right: 4 exactly where an access does not fit, 6 exactly after 2^40 microframes, 7 exactly where what is held and all
--- that the call adds exceed the space, and otherwise 0
-unfoldable pub laterNumber : Host → Call → ℕ
-laterNumber h (microframe t l) = unless 6 (ltb (h .port .uf) MOST) 0
-laterNumber h (midiSend bs) = unless 7 (roomFor (h .packer) bs (h .lengths .midi)) 0
-laterNumber h (serialSend bs) = unless 7 (leb (h .lengths .serial + length bs) 4096) 0
-laterNumber h (frameGive f sending) = unless 7 (ltb (h .audio .sending .len) (length sending / WORDS)) 0
-laterNumber h (frameTake received) = 0
-laterNumber h (deviceRead page off size) = unless 4 (fits off size) 0
-laterNumber h (deviceWrite page off size v) = unless 4 (fits off size) 0
+-- from the state: 6 exactly after 2^40 microframes, 7 exactly where what is held and all that the call adds exceed the space, and otherwise 0
+unfoldable pub stateNumber : Host → Call → ℕ
+stateNumber h (microframe t l) = unless 6 (ltb (h .port .uf) (2 ^ 40)) 0
+stateNumber h (midiSend bs) = unless 7 (leb (h .lengths .midi + length (packetsOf 0 (h .packer) bs)) 4096) 0
+stateNumber h (serialSend bs) = unless 7 (leb (h .lengths .serial + length bs) 4096) 0
+stateNumber h (frameGive f sending) = unless 7 (leb (h .audio .sending .len + 1) (length sending / 12)) 0
+stateNumber h (frameTake received) = 0
+stateNumber h (deviceRead page off size) = 0
+stateNumber h (deviceWrite page off size v) = 0
 
--- the whole number: 3 and 5 are never due
+-- lower numbers win; 3 and 5 are never due
 unfoldable pub dueNumber : Host → Call → ℕ
-dueNumber h c = pick (eqb (lengthNumber c) 0) (laterNumber h c) (lengthNumber c)
+dueNumber h c = pick (eqb (inputNumber c) 0) (stateNumber h c) (inputNumber c)
 
--- 0, or 7 of a send and of a frame given; an access that does not fit may be refused
+-- 0, or 7 of a send and of a frame given
 unfoldable pub fine : Call → ℕ → Bool
 fine (microframe t l) n = eqb n 0
 fine (midiSend bs) n = eqb n 0 || eqb n 7
 fine (serialSend bs) n = eqb n 0 || eqb n 7
 fine (frameGive f sending) n = eqb n 0 || eqb n 7
 fine (frameTake received) n = eqb n 0
-fine (deviceRead page off size) n = eqb n 0 || not (fits off size)
-fine (deviceWrite page off size v) n = eqb n 0 || not (fits off size)
+fine (deviceRead page off size) n = eqb n 0
+fine (deviceWrite page off size v) n = eqb n 0
 
 -- ---- what is asked of a call
 
@@ -86,13 +86,41 @@ BytesCall (frameTake received) = Unit {0}
 BytesCall (deviceRead page off size) = Unit {0}
 BytesCall (deviceWrite page off size v) = Unit {0}
 
--- a sending ring of k words; one in a call of wrong lengths is not looked at. A ring of another length may not hold the start or the frames that the
+-- a right input, as facts (document 01, numbers 1, 2 and 4): a sending ring, what a microframe is lent, an access, and any call
+pub record RightRing (n : ℕ) : Type 0 where
+  pub least : 84 ≤ n
+  pub most : n ≤ 576000
+  pub frames : n % 12 ≡ 0
+
+pub record RightAreas (l : Lent) : Type 0 where
+  pub windows : Sized (l .memory)
+  pub reply : 65535 ≤ length (l .reply)
+  pub config : 65535 ≤ length (l .config)
+  pub receive : 196608 ≤ length (l .receive)
+  pub received : length (l .received) ≡ 576000
+  pub sending : RightRing (length (l .sending))
+
+pub record RightAccess (off size : ℕ) : Type 0 where
+  pub width : (size ≡ 1) ⊎ ((size ≡ 2) ⊎ (size ≡ 4))
+  pub aligned : off % size ≡ 0
+  pub inside : off + size ≤ 4096
+
+unfoldable pub RightInput : Call → Type 0
+RightInput (microframe t l) = RightAreas l
+RightInput (midiSend bs) = Unit {0}
+RightInput (serialSend bs) = Unit {0}
+RightInput (frameGive f sending) = RightRing (length sending) × (length f ≡ 12)
+RightInput (frameTake received) = length received ≡ 576000
+RightInput (deviceRead page off size) = (length page ≡ 4096) × RightAccess off size
+RightInput (deviceWrite page off size v) = (length page ≡ 4096) × RightAccess off size
+
+-- a sending ring of k words; one in a call of wrong input is not looked at. A ring of another length may not hold the start or the frames that the
 -- record has of it, which is number 5
 unfoldable pub RingCall : ℕ → Call → Type 0
-RingCall k (microframe t l) = lengthNumber (microframe t l) ≡ 0 → length (l .sending) ≡ k
+RingCall k (microframe t l) = RightAreas l → length (l .sending) ≡ k
 RingCall k (midiSend bs) = Unit {0}
 RingCall k (serialSend bs) = Unit {0}
-RingCall k (frameGive f sending) = lengthNumber (frameGive f sending) ≡ 0 → length sending ≡ k
+RingCall k (frameGive f sending) = RightInput (frameGive f sending) → length sending ≡ k
 RingCall k (frameTake received) = Unit {0}
 RingCall k (deviceRead page off size) = Unit {0}
 RingCall k (deviceWrite page off size v) = Unit {0}
@@ -138,6 +166,6 @@ AtEach P h (c ∷ cs) = P h c × AtEach P (step h c) cs
 abbrev pub Due : Host → List Call → Type 0
 Due = AtEach (λ h c. numberOf h c ≡ dueNumber h c)
 
--- and one of the right lengths a fine one
+-- and one of right input a fine one
 abbrev pub Accepts : Host → List Call → Type 0
-Accepts = AtEach (λ h c. lengthNumber c ≡ 0 → fine c (numberOf h c) ≡ true)
+Accepts = AtEach (λ h c. RightInput c → fine c (numberOf h c) ≡ true)
