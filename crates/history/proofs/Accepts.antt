@@ -28,17 +28,31 @@ use Rattle.kept.proofs.Setups.{Entry}
 use Rattle.kept.proofs.Whole.{Bounded, bounds-kept, lasts, areas-fit}
 use Rattle.usbhost.specs.declared.Host.{Host}
 use Rattle.usbhost.specs.declared.Created.{Created}
+use Rattle.usbhost.specs.declared.Framed.{Framed}
+use Rattle.usbhost.specs.declared.Taken.{Taken}
 use Rattle.usbhost.specs.Host.{stateOf, settled, noSettings, newHost, created}
 use Rattle.usbhost.specs.Calls as C
 use Rattle.usbhost.specs.Calls.{unless, fewSpans, bounded, sendingLength, midiNumber, midiQueued, midiSent, serialNumber, serialQueued, serialSent, giveNumber, frameGiven, given, takeNumber, holdsFrame, frameTaken, takenFrame, accessNumber, registersOf, withFlag, deviceWritten}
-use Rattle.usbhost.specs.Frame.{Lent, worldOf, hostIn, lengthsOk, areaLengths, boundsOk, frameNumber, framed}
+use Rattle.usbhost.specs.Frame.{Lent, worldOf, hostIn, lengthsOk, areaLengths, boundsOk, frameNumber, framed, frameAnswer}
 use Rattle.usbhost.proofs.Laws.{same-bounds}
-use Rattle.usbhost.proofs.Frame.{Accepted, accepted-tests}
-use Rattle.usbhost.proofs.Kept.{Kept, midi-kept, serial-kept, give-kept, take-kept, write-kept, new-bounded, new-received, new-sending, new-few}
+use Rattle.usbhost.proofs.Frame.{Accepted, accepted-tests, frame-refused}
+use Rattle.usbhost.proofs.Kept.{Kept, midi-kept, serial-kept, give-kept, take-kept, write-kept, midi-refused, serial-refused, give-refused, take-refused, write-refused, new-bounded, new-received, new-sending, new-few}
 use Rattle.history.specs.Calls.{Call, microframe, midiSend, serialSend, frameGive, frameTake, deviceRead, deviceWrite, step, after}
 use Rattle.history.specs.Accepts.{numberOf, inputNumber, stateNumber, dueNumber, fine, BytesLent, BytesCall, RightAreas, RightInput, RingCall, AllCalls, framesOf, framesIn, WithinBounds, AtEach, Due, Accepts}
 use Rattle.history.proofs.History.{by-test}
 use Rattle.history.proofs.Input.{areas-right, input-right, right-input}
+
+-- ---- a refused call changes nothing
+
+pub refused-stays : (h : Host) (c : Call) → (numberOf h c ≡ 0 → ⊥) → step h c ≡ h
+unfolding step numberOf frameAnswer midiSent serialSent given takenFrame C.deviceRead deviceWritten
+refused-stays h (microframe t l) m = ap (λ (x : Framed). x .host) (frame-refused t h l m)
+refused-stays h (midiSend bs) m = midi-refused h bs m
+refused-stays h (serialSend bs) m = serial-refused h bs m
+refused-stays h (frameGive f sending) m = give-refused h f sending m
+refused-stays h (frameTake received) m = ap (λ (x : Taken). x .host) (take-refused h received m)
+refused-stays h (deviceRead page off size) m = refl
+refused-stays h (deviceWrite page off size v) m = write-refused h page off size v m
 
 -- ---- what every call keeps, whatever its lengths: the bounds of number 5 that no area bounds, and what those of the areas come from
 
