@@ -119,12 +119,10 @@ block-good bs xs b ys is = (
 -- word c of some bytes is the big-endian word of bytes 4 c to 4 c + 3
 pub word-at : (bs : List ℕ) (c : ℕ) → c < 12 → getD (wordsOf bs) c 0 ≡ bigEndian bs (4 * c)
 unfolding word
-word-at bs c h =
-    getD-tabulate 12 (λ k. word (getD bs (4 * k) 0) (getD bs (4 * k + 1) 0) (getD bs (4 * k + 2) 0) (getD bs (4 * k + 3) 0)) c 0 h
+word-at bs c h = getD-tabulate 12 _ c 0 h
 
 pub words-twelve : (bs : List ℕ) → length (wordsOf bs) ≡ 12
-words-twelve bs =
-    length-tabulate 12 (λ k. word (getD bs (4 * k) 0) (getD bs (4 * k + 1) 0) (getD bs (4 * k + 2) 0) (getD bs (4 * k + 3) 0))
+words-twelve bs = length-tabulate 12 _
 
 -- a byte of a part
 part-byte : (n o k : ℕ) (bs : List ℕ) → k < n → getD (take n (drop o bs)) k 0 ≡ getD bs (o + k) 0

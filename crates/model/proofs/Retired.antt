@@ -76,13 +76,13 @@ token-address n = omega (arith, and-high n 27 5)
 pub token-read : (n : ℕ) (m : Memory) → tokenOf n m ≡ peek32 m (tokenAddress n)
 token-read n m = ap (peek32 m) (token-address n)
 
-retiring-first : (qh n tok moved bit : ℕ) (b : Bus) → retiring qh n tok moved bit b ≡ word (after (descriptor n) 4) (tokenAfter tok moved) ∷ drop 1 (retiring qh n tok moved bit b)
+retiring-first : (qh n tok moved k : ℕ) (b : Bus) → retiring qh n tok moved k b ≡ word (after (descriptor n) 4) (tokenAfter tok moved) ∷ drop 1 (retiring qh n tok moved k b)
 unfolding retiring closing andThen putting
-retiring-first qh n tok moved bit b = refl
+retiring-first qh n tok moved k b = refl
 
-finishing-first : (qh n tok moved bit : ℕ) (b : Bus) → finishing qh n tok moved bit b ≡ word (after (descriptor n) 4) (tokenAfter tok moved) ∷ drop 1 (finishing qh n tok moved bit b)
+finishing-first : (qh n tok moved k : ℕ) (b : Bus) → finishing qh n tok moved k b ≡ word (after (descriptor n) 4) (tokenAfter tok moved) ∷ drop 1 (finishing qh n tok moved k b)
 unfolding finishing retiring closing andThen putting
-finishing-first qh n tok moved bit b = refl
+finishing-first qh n tok moved k b = refl
 
 -- a list that begins so
 retires-by : (n tok moved : ℕ) (sent ss : List Store) → ss ≡ word (after (descriptor n) 4) (tokenAfter tok moved) ∷ drop 1 ss → Retires n tok moved sent (sent ++ ss)

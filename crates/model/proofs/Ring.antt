@@ -11,13 +11,13 @@ use lib.ListN.{length, take, drop, length-append, length-drop}
 use lib.Seq.{sets, length-sets, drop-append-le, drop-drop}
 use Rattle.bits.specs.Pick.{pick}
 use Rattle.bus.specs.Steps.{replay, replay-append}
-use Rattle.transfer.specs.Transfer.{tabulate}
 use Rattle.record.specs.Record.{wrapped, «in_frames», «bad_blocks»}
 use Rattle.record.specs.Change.{Change, count, credit, frame, FRAMES, WORDS, ringed, ringedPlace}
 use Rattle.model.specs.Audio.{BLOCK-FRAMES, wordsOf, good}
 use Rattle.model.specs.Ring.{frameIn, contents, InOrder, framesFrom, framesOfBlock, framesOfBlocks, lastOf, blockChanges, blocksChanges}
 use Rattle.model.proofs.Received.{Kept, keptBy, keptOn}
 use Rattle.model.proofs.OldestFirst.{ring-length, ring-oldest, ring-appends}
+use Rattle.model.proofs.Blocks.{words-twelve}
 
 -- ---- lists
 
@@ -117,17 +117,13 @@ adds-both xs ys k k₁ k₂ p q =
 
 -- ---- lists of changes
 
-length-words : (bs : List ℕ) → length (wordsOf bs) ≡ WORDS
-unfolding tabulate
-length-words bs = refl
-
 -- frames of a block, one behind the other
 adds-from : (n i : ℕ) (b : List ℕ) (k : Kept) → InOrder (k .ring) (k .place) → Adds (framesFrom n i b) k (replay keptOn (map frame (framesFrom n i b)) k)
 unfolding framesFrom
 adds-from zero i b k o = adds-none k o
 adds-from (suc n) i b k o =
     let f = wordsOf (take 48 (drop (32 + 48 * i) b)) in
-    let first = adds-frame k f (length-words (take 48 (drop (32 + 48 * i) b))) o in
+    let first = adds-frame k f (words-twelve (take 48 (drop (32 + 48 * i) b))) o in
     adds-both (f ∷ []) (framesFrom n (suc i) b) k (keptOn (frame f) k) _ first (adds-from n (suc i) b (keptOn (frame f) k) (first .order))
 
 -- what becomes of a block, and of some
