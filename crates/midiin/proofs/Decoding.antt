@@ -15,14 +15,9 @@ use Rattle.transfer.specs.Transfer.{bytesIn, bytesFrom}
 use Rattle.transfer.proofs.Laws.{length-bytesIn, from-in}
 use Rattle.midi.specs.Packer.{byteCount}
 use Rattle.bits.proofs.Lists.{sets-append}
-use Rattle.midi.proofs.Table.{every-in}
 use Rattle.model.specs.Streams.{decoded}
+use Rattle.model.proofs.Decoded.{count-few}
 use Rattle.midiin.specs.Promises.{Decodes}
-
--- a packet has three bytes at most
-pub count-few : (x : ℕ) → byteCount (x % 16) ≤ 3
-unfolding byteCount
-count-few x = leb-true (byteCount (x % 16)) 3 (every-in (λ c. leb (byteCount c) 3) 0 16 refl (x % 16) (omega arith) (omega arith))
 
 pub decoded-few : (n : ℕ) (bs : List ℕ) → length (decoded n bs) ≤ 3 * n
 unfolding decoded

@@ -3,7 +3,8 @@ use mathlib.Core.Path.{_≡_, refl}
 use Prim.Native.Nat.{suc, _+_}
 use native.Mathlib.Omega.{arith}
 use lib.ListN.{length-set}
-use Rattle.midiin.proofs.Decoding.{count-few, one-packet}
+use Rattle.model.proofs.Decoded.{count-few}
+use Rattle.midiin.proofs.Decoding.{one-packet}
 use borrow.Author.Needs.{needs}
 use Rattle.midiin.proofs.decode_packet.Statement.{statement}
 use Rattle.midiin.proofs.decode_packet.Tie as tie
