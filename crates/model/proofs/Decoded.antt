@@ -1,18 +1,25 @@
 -- What MIDI packets from the device hold, by the indices of their bytes (USB MIDI 1.0, section 4 and table 4-1; usbhost.rs 797-806).
 use Prim.Native.Nat.{ℕ, zero, suc, _+_, _*_, _/_, _%_, _≤_, _<_}
 use mathlib.Core.Path.{_≡_, refl, ap, ap₂, sym, subst, _∙_}
-use mathlib.Core.List.{List, [], _∷_, _++_, map, foldr, flatMap}
+use mathlib.Core.Bool.{Bool, true, false}
+use mathlib.Core.List.{List, [], _∷_, _++_, append-assoc, append-nil, map, foldr, flatMap}
 use native.Mathlib.Omega.{arith}
 use borrow.Author.Tests.{leb-true}
 use lib.Dec.{leb}
 use lib.ListN.{length, getD, take, drop, replicate, length-append, length-drop}
 use lib.Seq.{ext-getD, length-take-le, getD-take, getD-drop, drop-drop}
+use Rattle.bits.specs.Pick.{pick}
+use Rattle.bus.specs.Steps.{replay, replay-append, andThen, choose}
 use Rattle.transfer.specs.Transfer.{tabulate}
 use Rattle.transfer.proofs.Laws.{length-tabulate, getD-tabulate, tabulate-same}
 use Rattle.midi.specs.Packer.{byteCount}
 use Rattle.midi.proofs.Table.{every-in}
-use Rattle.model.specs.Streams.{decoded}
-use Rattle.model.specs.Index.{bytesOfPacket}
+use Rattle.dtd.specs.Dtd.{endpoint, Run, runDtds}
+use Rattle.record.specs.Record.{«midi_dtds»}
+use Rattle.record.specs.World.{World, busOf}
+use Rattle.record.specs.Change.{Change, count, received, apply, nothing, one, runs, ranStores}
+use Rattle.model.specs.Streams.{brought, decoded, reads}
+use Rattle.model.specs.Index.{bytesOfPacket, oneRead}
 
 -- ---- how many bytes a packet holds, by its code (table 4-1; 799-804)
 
@@ -86,3 +93,42 @@ counts (suc n) bs f =
 pub decoded-length : (n : ℕ) (bs : List ℕ) → 4 * n ≤ length bs
     → length (decoded n bs) ≡ foldr _+_ 0 (tabulate n (λ i. byteCount (getD bs (4 * i) 0 % 16)))
 decoded-length n bs h = ap length (decoded-bytes n bs h) ∙ counts n bs (λ i. i)
+
+-- ---- a read of the MIDI endpoint (791-807)
+
+-- what a read counts and gives, bs being its bytes
+abbrev got : List ℕ → List Change
+got bs = count «midi_dtds» 1 ∷ received bs ∷ []
+
+-- a read with its run as it is
+abbrev readBy : ℕ → World → Run → List Change
+readBy n w r =
+    let own = ranStores (endpoint 1 true) r in
+    let bs = decoded (length (r .bytes) / 4) (r .bytes) in
+    own ++ pick (brought r) (got bs ++ reads n (replay apply (got bs) (replay apply own w))) []
+
+reads-open : (n : ℕ) (w : World) → reads (suc n) w ≡ readBy n w (runDtds (endpoint 1 true) [] (busOf w))
+unfolding reads runs one andThen choose nothing
+reads-open n w = refl
+
+module _ (n : ℕ) (w : World) (r : Run) (is : r ≡ runDtds (endpoint 1 true) [] (busOf w)) where
+  -- one that brought a byte or a completion, and then the reads that are left
+  pub read-received : brought r ≡ true → reads (suc n) w ≡ oneRead r ++ reads n (replay apply (oneRead r) w)
+  read-received h =
+      let own = ranStores (endpoint 1 true) r in
+      let bs = flatMap (bytesOfPacket (r .bytes)) (tabulate (length (r .bytes) / 4) (λ i. i)) in
+      reads-open n w
+      ∙ ap (readBy n w) (sym is)
+      ∙ ap₂ (λ (t : Bool) (l : List ℕ). own ++ pick t (got l ++ reads n (replay apply (got l) (replay apply own w))) []) h (decoded-run (r .bytes))
+      ∙ ap (λ (v : World). own ++ (got bs ++ reads n v)) (sym (replay-append apply own (got bs) w))
+      ∙ sym (append-assoc own (got bs) (reads n (replay apply (own ++ got bs) w)))
+
+  -- any other ends them
+  pub read-none : brought r ≡ false → reads (suc n) w ≡ ranStores (endpoint 1 true) r
+  read-none h =
+      let own = ranStores (endpoint 1 true) r in
+      let bs = decoded (length (r .bytes) / 4) (r .bytes) in
+      reads-open n w
+      ∙ ap (readBy n w) (sym is)
+      ∙ ap (λ (t : Bool). own ++ pick t (got bs ++ reads n (replay apply (got bs) (replay apply own w))) []) h
+      ∙ append-nil own
