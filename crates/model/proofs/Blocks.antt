@@ -59,7 +59,7 @@ count-fuel (suc n) (x ∷ bs) h =
     let rest = drop 368 (x ∷ bs) in
     omega (arith, count-fuel n rest (omega (arith, length-drop 368 (x ∷ bs))), length-drop 368 (x ∷ bs))
 
--- as many as there are beginnings of 368 bytes
+-- how many: the run's length over 368, rounded up
 pub blocks-count : (bs : List ℕ) → length (blocksOf bs) ≡ (length bs + 367) / 368
 blocks-count bs = count-fuel (length bs) bs (omega arith)
 

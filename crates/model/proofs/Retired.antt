@@ -165,8 +165,8 @@ active-bit : (e : Endpoint) (m : Memory) → nextActive e m ≡ true → tokenOf
 unfolding nextActive
 active-bit e m h = bit-seven (tokenOf (nextDtd e m) m) (and-second (not (terminates (nextDtd e m))) _ h)
 
--- the changes of the step g, with the World x at it, stand in the microframe's list, whole: what it changes first, the data sent, and then the store that retires
--- the endpoint's next descriptor, with the bytes moved off its total
+-- the changes of the step g, with the World x at it, stand in the microframe's list, whole: what it changes first, the data sent, and then the store
+-- that retires the endpoint's next descriptor, which was active, with the bytes moved off its total
 pub record Retired (t : ℕ) (w : World) (g : Step) (x : World) (e : Endpoint) (first : List Change) (sent : List Store) (moved : ℕ) : Type 0 where
   pub placed : Placed (microframe t) w g x
   pub was : tokenOf (nextDtd e (x .memory)) (x .memory) / 2 ^ 7 % 2 ≡ 1
@@ -207,6 +207,7 @@ input-retired t w e r =
     retired-by t w inputs x audioIn [] [] (inStores x) (length (inBytes x)) _ (placed-input t w e) r (inputs-changes x r)
     (subst (λ (n : ℕ). Retires (inPointer x) (inToken x) n [] (inStores x)) same (input-retires x))
 
+-- so that none are left
 pub input-left : (t : ℕ) (w : World) (p : Retired t w inputs (atInput w) audioIn [] [] (length (inBytes (atInput w)))) → p .value / 2 ^ 16 % 2 ^ 15 ≡ 0
 input-left t w p = omega (arith, p .token .total, input-moved (atInput w))
 
