@@ -19,3 +19,6 @@ pub mod Waking
 pub mod Blocks
 pub mod Decoded
 pub mod Retired
+pub mod Progress
+pub mod Words
+pub mod Resetting

@@ -11,3 +11,4 @@ pub mod Ring
 pub mod Index
 pub mod Retired
 pub mod SentBlock
+pub mod Progress
