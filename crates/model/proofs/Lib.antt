@@ -20,5 +20,9 @@ pub mod Blocks
 pub mod Decoded
 pub mod Retired
 pub mod Progress
+pub mod Same
 pub mod Words
 pub mod Resetting
+pub mod Flagged
+pub mod Transferring
+pub mod Requests
