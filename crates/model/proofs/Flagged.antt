@@ -1,14 +1,14 @@
 -- A run that flags a completion retired a descriptor whose interrupt bit was set (usbhost.rs 547-603).
 use Prim.Native.Nat.{ℕ, zero, suc}
 use mathlib.Core.Path.{_≡_, refl, sym, ap, _∙_}
-use mathlib.Core.Bool.{Bool, true, false, _||_}
+use mathlib.Core.Bool.{Bool, true, false, not, _||_}
 use mathlib.Core.List.{List, [], _++_, append-assoc}
 use lib.ListN.{drop}
 use Rattle.bits.specs.Pick.{pick}
-use Rattle.bits.proofs.Tests.{false-true}
+use Rattle.bits.proofs.Tests.{false-true, and-first, and-second, not-true}
 use Rattle.bus.specs.Steps.{exec}
 use Rattle.bus.specs.Stores.{Bus, Store, store, stored, stored-append}
-use Rattle.dtd.specs.Dtd.{Endpoint, Run, ended, joined, turns, most, settled, runDtds, primed, queueHead, nextDtd, terminates, isActive, interrupts, tokenOf, moves, turning, following}
+use Rattle.dtd.specs.Dtd.{Endpoint, endpoint, Run, ended, joined, turns, most, settled, runDtds, primed, queueHead, nextDtd, nextActive, terminates, isActive, interrupts, tokenOf, moves, turning, following}
 
 -- stores ss from the bus b on have in them those of one descriptor of the queue head qh, which was there, active, and asked for an interrupt
 pub record Interrupted (e : Endpoint) (qh : ℕ) (b : Bus) (ss : List Store) : Type 0 where
@@ -93,3 +93,18 @@ run-flags e bs b = by (primed e (b .memory .page))
     by : (x : Bool) → pick x (settled e b run) (ended 1) .done ≡ true → Interrupted e (queueHead e (b .memory .page)) b (pick x (settled e b run) (ended 1) .stores)
     by true d = interrupted-before e (queueHead e (b .memory .page)) b (run .stores) _ (turns-flags (most e) e (queueHead e (b .memory .page)) (nextDtd e (b .memory)) bs b d)
     by false d = absurd (false-true d)
+
+-- and one whose first descriptor asks for an interrupt flags a completion
+turns-answers : (k : ℕ) (e : Endpoint) (qh n : ℕ) (bs : List ℕ) (b : Bus) → terminates n ≡ false → isActive (tokenOf n (b .memory)) ≡ true → interrupts (tokenOf n (b .memory)) ≡ true
+    → turns (suc k) e qh n bs b .done ≡ true
+unfolding turns joined
+turns-answers k e qh n bs b x y i = simp (x, y, i)
+
+pub run-answers : (input : Bool) (bs : List ℕ) (b : Bus) → primed (endpoint 0 input) (b .memory .page) ≡ true → nextActive (endpoint 0 input) (b .memory) ≡ true
+    → interrupts (tokenOf (nextDtd (endpoint 0 input) (b .memory)) (b .memory)) ≡ true → runDtds (endpoint 0 input) bs b .done ≡ true
+unfolding runDtds settled nextActive
+run-answers input bs b p a i =
+    let e = endpoint 0 input in
+    let n = nextDtd e (b .memory) in
+    ap (λ (x : Bool). pick x (settled e b (turns 64 e (queueHead e (b .memory .page)) n bs b)) (ended 1) .done) p
+    ∙ turns-answers 63 e (queueHead e (b .memory .page)) n bs b (not-true (terminates n) (and-first (not (terminates n)) _ a)) (and-second (not (terminates n)) _ a) i

@@ -40,16 +40,16 @@ use Rattle.record.specs.World.{World, busOf}
 use Rattle.record.specs.Change.{Change, lost, phase, count, control, popped, drained, apply, Step, left, _then_, nothing, if, when, one, here, onBus, onPage, runs, ranStores}
 use Rattle.record.proofs.Laws.{replay-bus}
 use Rattle.model.specs.Phases.{now, changing, suspends, leaves, startsFrame, dropsRequest}
-use Rattle.model.specs.Control.{begun, posted, posts, enumerating, configured, inStatus, timedOut, toStatus, keepsReply, dataIn, dataOut, dataStage, keepsDevice, asksWhole, chooses, configures, takesConfiguration, finishes, statusOut, endsBy, statusEnds, statusStage, stalled, unstalls, dataThenStatus, stages, requests, controls}
+use Rattle.model.specs.Control.{begun, posted, posts, enumerating, configured, wLength, inStatus, timedOut, toStatus, keepsReply, dataIn, dataOut, dataStage, keepsDevice, asksWhole, chooses, configures, takesConfiguration, finishes, statusOut, endsBy, statusEnds, statusStage, stalled, unstalls, dataThenStatus, stages, requests, controls}
 use Rattle.model.specs.Microframe.{rsSet, goneAt, asleepAt, streaming, opens, enumerates, transfers, talks, atPhase, byPhase, frameOf, microframe}
 use Rattle.model.specs.Reach.{toPhase, phaseBy}
-use Rattle.model.specs.Progress.{Present, GoesOn, Posts, Runs, takesData, statusOf}
+use Rattle.model.specs.Progress.{Present, GoesOn, Posts, Runs, takesData, statusOf, atControl, Answers}
 use Rattle.model.proofs.Fields.{fields-then, keeps-bus, keeps-page, keeps-one, left-runs, ranWorld}
 use Rattle.model.proofs.Placed.{Placed, placed-first, placed-second, placed-true, placed-false, placed-here}
 use Rattle.model.proofs.Progress.{Stand, standBy, standOf, stands, if-true, if-false, when-true, when-false, keeps-frame, there, opened, stand-there, frame-in, stays-running}
 use Rattle.model.proofs.Same.{Same, same-then, same-if, same-nothing, same-pick, same-here, same-one, same-bus, same-page, same-ran, same-runs}
 use Rattle.model.proofs.Words.{Alike, alike-then, alike-phase, alike-frame, word-back}
-use Rattle.model.proofs.Flagged.{Interrupted, run-flags}
+use Rattle.model.proofs.Flagged.{Interrupted, run-flags, run-answers}
 use Rattle.model.proofs.Transferring.{Untouched, keeps-transfers}
 
 -- ---- a setup is posted (625-645)
@@ -338,6 +338,11 @@ pick-off b x y e = ap (λ (c : Bool). pick c x y) e
 pick-on : {A : Type 0} (b : Bool) (x y : A) → b ≡ true → pick b x y ≡ x
 pick-on b x y e = ap (λ (c : Bool). pick c x y) e
 
+-- a completion of the status run ends it
+stages-end : (stack : Bool) (v : World) → inStatusAt (atStatus v) ≡ true → statusRun (atStatus v) .done ≡ true → briefOf (left (stages stack) v) ≡ off (requestOf v)
+stages-end stack v s d =
+    ap briefOf (left-stages stack v ∙ pick-on (inStatusAt (atStatus v)) _ _ s) ∙ status-ends stack (atStatus v) d ∙ ap off (request-status v)
+
 -- a request in time stays, or its status run flags a completion and it is over
 stages-run : (stack : Bool) (v : World) → late (requestOf v) ≡ false
     → (requestOf (left (stages stack) v) ≡ requestOf v) ⊎ ((inStatusAt (atStatus v) ≡ true) × ((statusRun (atStatus v) .done ≡ true) × (briefOf (left (stages stack) v) ≡ off (requestOf v))))
@@ -348,8 +353,7 @@ stages-run stack v l = by (inStatusAt (atStatus v)) (statusRun (atStatus v) .don
 
     by : (s d : Bool) → inStatusAt (atStatus v) ≡ s → statusRun (atStatus v) .done ≡ d
         → (requestOf (left (stages stack) v) ≡ requestOf v) ⊎ ((inStatusAt (atStatus v) ≡ true) × ((statusRun (atStatus v) .done ≡ true) × (briefOf (left (stages stack) v) ≡ off (requestOf v))))
-    by true true s d =
-        inr (s, (d, ap briefOf (left-stages stack v ∙ pick-on (inStatusAt (atStatus v)) _ _ s) ∙ status-ends stack (atStatus v) d ∙ ap off (request-status v)))
+    by true true s d = inr (s, (d, stages-end stack v s d))
     by true false s d =
         inl (ap requestOf (left-stages stack v ∙ pick-on (inStatusAt (atStatus v)) _ _ s) ∙ status-runs stack (atStatus v) in-time d ∙ request-status v)
     by false d s e =
@@ -368,6 +372,30 @@ stages-late stack v l = by (inStatusAt (atStatus v)) refl
         ap briefOf (left-stages stack v ∙ pick-off (inStatusAt (atStatus v)) _ _ s ∙ when-true timedOut dropsRequest (atStatus v) too-late)
         ∙ drops (atStatus v)
         ∙ ap off (request-status v)
+
+-- a request in its status stage, or without data, is at its status stage with the memory as it stands at control
+record AtOnce (v : World) : Type 0 where
+  status : inStatusAt (atStatus v) ≡ true
+  bus : busOf (atStatus v) ≡ busOf v
+
+at-once : (v : World) → (v .state .control .stage ≡ Status) ⊎ (v .state .control .second / 65536 ≡ 0) → AtOnce v
+unfolding dataStage toStatus one apply
+at-once v (inl s) =
+    let is : inStatusAt v ≡ true = ap inStatus s in
+    record { status = ap (λ (b : Bool). inStatusAt (pick b v (left dataStage v))) is ∙ is; bus = ap (λ (b : Bool). busOf (pick b v (left dataStage v))) is }
+at-once v (inr z) = by (inStatusAt v) refl
+  where
+    straight : left dataStage v ≡ left toStatus v
+    straight = if-true (λ w. eqb (wLength (w .state .control)) 0) toStatus _ v (ap (λ (n : ℕ). eqb n 0) z)
+
+    by : (b : Bool) → inStatusAt v ≡ b → AtOnce v
+    by true e =
+        record { status = ap (λ (b : Bool). inStatusAt (pick b v (left dataStage v))) e ∙ e; bus = ap (λ (b : Bool). busOf (pick b v (left dataStage v))) e }
+    by false e =
+        record {
+          status = ap (λ (b : Bool). inStatusAt (pick b v (left dataStage v))) e ∙ ap inStatusAt straight;
+          bus = ap (λ (b : Bool). busOf (pick b v (left dataStage v))) e ∙ ap busOf straight;
+        }
 
 -- ---- where the status run stands in the list
 
@@ -610,13 +638,16 @@ module _ (t : ℕ) (w : World) (p : Present t w) (e : w .state .phase ≡ Enumer
               },
             )
 
+        -- the status endpoint is the one that the setup says
+        way : statusEndpoint (atStatus asked .state .control) ≡ statusOf (w .state .control)
+        way =
+            ap (λ (k : Request). endpoint 0 (not (any (k .first) 0x80 && not (eqb (k .second / 2 ^ 16) 0)))) (request-status asked ∙ request-asked)
+            ∙ ap (λ (b : Bool). endpoint 0 (not b)) (takes-data (w .state .control))
+
         -- the status run flagged a completion
         flagged : inStatusAt (atStatus asked) ≡ true → statusRun (atStatus asked) .done ≡ true → Completed t w
         flagged s d =
             let at = atStatus asked in
-            let way : statusEndpoint (at .state .control) ≡ statusOf (w .state .control) =
-            ap (λ (k : Request). endpoint 0 (not (any (k .first) 0x80 && not (eqb (k .second / 2 ^ 16) 0)))) (request-status asked ∙ request-asked)
-            ∙ ap (λ (b : Bool). endpoint 0 (not b)) (takes-data (w .state .control)) in
             record {
               at = at;
               stage = is-status (at .state .control .stage) s;
@@ -627,6 +658,20 @@ module _ (t : ℕ) (w : World) (p : Present t w) (e : w .state .phase ≡ Enumer
                   subst (λ (x : Endpoint). Interrupted x (queueHead x (at .memory .page)) (busOf at) (runDtds x [] (busOf at) .stores)) way
                   (run-flags (statusEndpoint (at .state .control)) [] (busOf at) d);
             }
+
+        ends-at-once : (w .state .control .stage ≡ Status) ⊎ (w .state .control .second / 65536 ≡ 0) → Answers (statusOf (w .state .control)) (asked .memory)
+            → GoesOn Enumerate w (left (microframe t) w) × (left (microframe t) w .state .control .on ≡ false)
+        ends-at-once c a =
+            let now-at = at-once asked (at-asked c) in
+            let done : statusRun (atStatus asked) .done ≡ true =
+            ap (λ (x : Endpoint). runDtds x [] (busOf (atStatus asked)) .done) way
+            ∙ ap (λ (b : S.Bus). runDtds (statusOf (w .state .control)) [] b .done) (now-at .bus)
+            ∙ run-answers (not (takesData (w .state .control))) [] (busOf asked) (a .prime) (a .active) (a .interrupt) in
+            ended (left (stages stack) asked) controls-stages (stages-end stack asked (now-at .status) done)
+          where
+            at-asked : (w .state .control .stage ≡ Status) ⊎ (w .state .control .second / 65536 ≡ 0) → (asked .state .control .stage ≡ Status) ⊎ (asked .state .control .second / 65536 ≡ 0)
+            at-asked (inl x) = inl (ap (λ (k : Stand). k .control .stage) asked-stand ∙ x)
+            at-asked (inr x) = inr (ap (λ (k : Stand). k .control .second / 65536) asked-stand ∙ x)
 
         in-time : w .state .control .t0 ≤ w .state .port .uf → w .state .port .uf + 1 ≤ w .state .control .t0 + 16000
             → GoesOn Enumerate w (left (microframe t) w) × (Runs w (left (microframe t) w) ⊎ (Completed t w × (left (microframe t) w .state .control .on ≡ false)))
@@ -684,6 +729,13 @@ pub request-runs : (t : ℕ) (w : World) → Present t w → w .state .phase ≡
     → w .state .control .t0 ≤ w .state .port .uf → w .state .port .uf + 1 ≤ w .state .control .t0 + 16000
     → GoesOn Enumerate w (left (microframe t) w) × (Runs w (left (microframe t) w) ⊎ (Completed t w × (left (microframe t) w .state .control .on ≡ false)))
 request-runs t w p e rs on h free begun due = in-time t w p e rs on h free begun due
+
+-- one in its status stage, or without data, whose status endpoint answers at control with a completion, is over
+pub request-ends : (t : ℕ) (w : World) → Present t w → w .state .phase ≡ Enumerate → rsSet w ≡ true → w .state .control .on ≡ true
+    → length (w .memory .page) ≡ 4096 → any (wordAt (w .memory .page) EPCR0) 0x10001 ≡ false
+    → (w .state .control .stage ≡ Status) ⊎ (w .state .control .second / 65536 ≡ 0) → Answers (statusOf (w .state .control)) (atControl w .memory)
+    → GoesOn Enumerate w (left (microframe t) w) × (left (microframe t) w .state .control .on ≡ false)
+request-ends t w p e rs on h free c a = ends-at-once t w p e rs on h free c a
 
 -- one whose endpoint is stalled is over
 pub request-stalls : (t : ℕ) (w : World) → Present t w → w .state .phase ≡ Enumerate → rsSet w ≡ true → w .state .control .on ≡ true

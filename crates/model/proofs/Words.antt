@@ -5,19 +5,19 @@ use mathlib.Core.Bool.{Bool, true, false, _&&_}
 use mathlib.Core.List.{List, [], _∷_, _++_}
 use mathlib.Core.Logic.{_⊎_, inl, inr}
 use native.Mathlib.Omega.{arith}
-use lib.Dec.{ltb}
+use lib.Dec.{eqb, ltb}
 use lib.ListN.{length, getD, set, length-set}
 use lib.Seq.{getD-set-same, getD-set-other}
 use Rattle.bits.specs.Pick.{pick, pick-both}
 use Rattle.bits.specs.Word as W
 use Rattle.bits.specs.Word.{any, clear}
-use Rattle.bits.proofs.Bit.{any-set-other}
+use Rattle.bits.proofs.Bit.{bit, any-bit, any-set-other}
 use Rattle.bus.specs.Memory.{word}
 use Rattle.bus.specs.Words.{wordAt, wordPut}
 use Rattle.bus.specs.Steps.{replay, exec, andThen, replay-append, exec-then, exec-choose}
 use Rattle.bus.specs.Stores as S
 use Rattle.bus.proofs.Registers.{length-put, word-apart}
-use Rattle.usbdev.specs.Offsets.{USBSTS, EPCR0}
+use Rattle.usbdev.specs.Offsets.{USBCMD, USBSTS, EPCR0}
 use Rattle.usbdev.specs.Registers as R
 use Rattle.usbdev.specs.Registers.{Registers, registers, PageStore, put, irq, store, PageStep, lifted, setting, following, raising}
 use Rattle.usbdev.proofs.Laws.{Inside, on-bus}
@@ -43,6 +43,22 @@ alike-self p h = record { long = h; uri = refl; stall = refl }
 
 pub alike-then : {p q r : List ℕ} → Alike p q → Alike q r → Alike p r
 alike-then x y = record { long = y .long; uri = y .uri ∙ x .uri; stall = y .stall ∙ x .stall }
+
+-- ---- two tests of registers, by the byte that has the bit (a page is big-endian)
+
+-- USBCMD is at 0x140: RS is bit 0 of byte 0x143
+pub rs-byte : (p : List ℕ) → any (wordAt p USBCMD) 1 ≡ eqb (getD p 0x143 0 % 2) 1
+unfolding bit wordAt word
+rs-byte p =
+    let same : bit 0 (wordAt p USBCMD) ≡ getD p 0x143 0 % 2 = omega arith in
+    any-bit 0 (wordAt p USBCMD) ∙ ap (λ (x : ℕ). eqb x 1) same
+
+-- USBSTS is at 0x144: URI is bit 6 of byte 0x147
+pub uri-byte : (p : List ℕ) → any (wordAt p USBSTS) 0x40 ≡ eqb (getD p 0x147 0 / 64 % 2) 1
+unfolding bit wordAt word
+uri-byte p =
+    let same : bit 6 (wordAt p USBSTS) ≡ getD p 0x147 0 / 64 % 2 = omega arith in
+    any-bit 6 (wordAt p USBSTS) ∙ ap (λ (x : ℕ). eqb x 1) same
 
 -- ---- stores on the page
 

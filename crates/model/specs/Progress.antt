@@ -7,16 +7,19 @@ use mathlib.Core.List.{List, [], _∷_, _++_}
 use lib.Dec.{eqb, ltb}
 use lib.ListN.{length, getD}
 use Rattle.bits.specs.Word.{any}
+use Rattle.bus.specs.Memory.{Memory}
 use Rattle.bus.specs.Words.{wordAt}
 use Rattle.usbdev.specs.Offsets.{EPSETUPSR}
-use Rattle.dtd.specs.Dtd.{Endpoint, endpoint}
+use Rattle.dtd.specs.Dtd.{Endpoint, endpoint, primed, nextActive, nextDtd, tokenOf, interrupts}
 use Rattle.record.specs.declared.Phase.{Phase}
 use Rattle.record.specs.declared.Phase.the-variants.{Enumerate}
 use Rattle.record.specs.declared.Stage.the-variants.{Data}
 use Rattle.record.specs.declared.Control.{Control}
 use Rattle.record.specs.World.{World}
-use Rattle.record.specs.Change.{waiting}
-use Rattle.model.specs.Microframe.{goneAt, asleepAt}
+use Rattle.record.specs.Change.{waiting, left}
+use Rattle.model.specs.Phases.{startsFrame}
+use Rattle.model.specs.Microframe.{rsSet, goneAt, asleepAt}
+use Rattle.model.specs.Reach.{phaseBy}
 
 -- the host is there: not gone (384), not suspended (412), and not just back, since its gone mark was clear (386-387); counts end at 2^40 (number 5)
 pub record Present (t : ℕ) (w : World) : Type 0 where
@@ -79,3 +82,13 @@ takesData c = eqb (c .first / 128 % 2) 1 && ltb 0 (c .second / 65536)
 -- 687; USB 2.0, 8.5.3: the status stage goes the other way than the data, and to the host where there is none
 abbrev pub statusOf : Control → Endpoint
 statusOf c = endpoint 0 (not (takesData c))
+
+-- the World at control (496) of a host in Enumerate or Stream
+abbrev pub atControl : World → World
+atControl w = left startsFrame (phaseBy (rsSet w) w)
+
+-- an endpoint is primed, and its next descriptor is there, active and asks for an interrupt
+pub record Answers (e : Endpoint) (m : Memory) : Type 0 where
+  pub prime : primed e (m .page) ≡ true
+  pub active : nextActive e m ≡ true
+  pub interrupt : interrupts (tokenOf (nextDtd e m) m) ≡ true
