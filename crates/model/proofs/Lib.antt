@@ -22,6 +22,7 @@ pub mod Retired
 pub mod Progress
 pub mod Same
 pub mod Words
+pub mod Starting
 pub mod Resetting
 pub mod Flagged
 pub mod Transferring

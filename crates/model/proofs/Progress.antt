@@ -148,7 +148,7 @@ keeps-ticks : Keeps stands ticks
 unfolding ticks
 keeps-ticks = search keeps-rules depth 8
 
-keeps-resumes : Keeps stands (suspends false)
+pub keeps-resumes : Keeps stands (suspends false)
 unfolding suspends
 keeps-resumes = search keeps-rules
 
@@ -157,11 +157,11 @@ unfolding startsFrame
 keeps-frame = search keeps-rules
 
 -- timers or none
-stand-ticks : (c : Settings) (w : World) → standOf (left (when (λ v. c .«midi_in») ticks) (left counts w)) ≡ next (standOf w)
+pub stand-ticks : (c : Settings) (w : World) → standOf (left (when (λ v. c .«midi_in») ticks) (left counts w)) ≡ next (standOf w)
 stand-ticks c w = keeps-if stands _ ticks nothing keeps-ticks (keeps-nothing stands) (left counts w) ∙ stand-counts w
 
 -- 374-407: the host was not gone: nothing comes back
-stand-opens : (c : Settings) (w : World) → w .state .port .gone ≡ false → standOf (left (opens c false) w) ≡ next (standOf w)
+pub stand-opens : (c : Settings) (w : World) → w .state .port .gone ≡ false → standOf (left (opens c false) w) ≡ next (standOf w)
 unfolding opens cable
 stand-opens c w e =
     let u = left (when (λ v. c .«midi_in») ticks) (left counts w) in
