@@ -149,7 +149,7 @@ stand-ended v = refl
 
 stand-configured : (v : World) → v .state .phase ≡ Enumerate → standOf (left configured v) ≡ streamingStand (standOf v)
 unfolding configured
-stand-configured v e = ap standOf (when-true (λ w. enumerating (w .state .phase)) _ v (ap enumerating e)) ∙ stand-ended v
+stand-configured v e = ap standOf (when-true _ _ v (ap enumerating e)) ∙ stand-ended v
 
 -- ---- a request that runs (649-700): what its stages leave of it
 

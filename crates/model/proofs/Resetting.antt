@@ -11,7 +11,7 @@ use lib.ListN.{length, take, drop, length-append}
 use lib.Seq.{sets, sets-eq, take-at, length-take-le}
 use borrow.Author.Tests.{lt-ltb, le-ltb}
 use Rattle.bits.specs.Word.{any}
-use Rattle.bits.proofs.Tests.{and-false}
+use Rattle.bits.proofs.Tests.{and-both, and-false}
 use Rattle.bus.specs.Words.{wordAt}
 use Rattle.bus.specs.Steps.{andThen}
 use Rattle.usbdev.specs.Offsets.{USBSTS}
@@ -20,7 +20,7 @@ use Rattle.record.specs.declared.Phase.the-variants.{Vbus, Reset, Enumerate}
 use Rattle.record.specs.Record.{wrapped}
 use Rattle.record.specs.World.{World}
 use Rattle.record.specs.Change.{queued, apply, left, one}
-use Rattle.model.specs.Phases.{longer, enters, powers, firstSetups, resets}
+use Rattle.model.specs.Phases.{enters, powers, firstSetups, resets}
 use Rattle.model.specs.Microframe.{rsSet, microframe}
 use Rattle.model.specs.Reach.{deviceLeft}
 use Rattle.model.specs.Progress.{Present, Begins, GoesOn, Asks}
@@ -50,17 +50,25 @@ stand-enters q v = refl
 
 -- ---- the bus reset (459-468)
 
-stand-powers : (rs : Bool) (v : World) → (rs && longer 400 v) ≡ true → standOf (left (powers rs) v) ≡ entered Reset (standOf v)
+stand-powers : (rs : Bool) (v : World) → rs ≡ true → late 400 (standOf v) ≡ true → standOf (left (powers rs) v) ≡ entered Reset (standOf v)
 unfolding powers
-stand-powers rs v e =
-    ap standOf (when-true (λ w. rs && longer 400 w) _ v e)
+stand-powers rs v r l =
+    ap standOf (when-true _ _ v (and-both rs _ r l))
     ∙ fields-then stands _ _ v ∙ stand-enters Reset _ ∙ ap (entered Reset) (keeps-page stands _ v)
 
-waits-powers : (rs : Bool) (v : World) → (rs && longer 400 v) ≡ false → left (powers rs) v ≡ v
+off-powers : (rs : Bool) (v : World) → rs ≡ false → left (powers rs) v ≡ v
 unfolding powers
-waits-powers rs v e = when-false (λ w. rs && longer 400 w) _ v e
+off-powers rs v r = when-false _ _ v (ap (λ (b : Bool). b && late 400 (standOf v)) r)
+
+early-powers : (rs : Bool) (v : World) → late 400 (standOf v) ≡ false → left (powers rs) v ≡ v
+unfolding powers
+early-powers rs v l = when-false _ _ v (ap (λ (b : Bool). rs && b) l ∙ and-false rs)
 
 -- ---- the end of the reset (469-487)
+
+-- bit 6 of USBSTS
+abbrev uri : World → Bool
+uri v = any (wordAt (v .memory .page) USBSTS) 0x40
 
 -- four setups behind those that wait
 abbrev asking : Stand → Stand
@@ -70,19 +78,20 @@ stand-queued : (v : World) → standOf (left (one (λ w. queued firstSetups)) v)
 unfolding one apply
 stand-queued v = refl
 
-abbrev resetOver : World → Bool
-resetOver w = longer 80 w && not (any (wordAt (w .memory .page) USBSTS) 0x40)
-
-stand-resets : (v : World) → resetOver v ≡ true → standOf (left resets v) ≡ asking (entered Enumerate (standOf v))
+stand-resets : (v : World) → late 80 (standOf v) ≡ true → uri v ≡ false → standOf (left resets v) ≡ asking (entered Enumerate (standOf v))
 unfolding resets
-stand-resets v e =
-    ap standOf (when-true resetOver _ v e)
+stand-resets v l u =
+    ap standOf (when-true _ _ v (and-both (late 80 (standOf v)) _ l (ap not u)))
     ∙ fields-then stands _ _ v ∙ fields-then stands _ _ _ ∙ stand-queued _
     ∙ ap asking (stand-enters Enumerate _ ∙ ap (entered Enumerate) (keeps-page stands _ v))
 
-waits-resets : (v : World) → resetOver v ≡ false → left resets v ≡ v
+early-resets : (v : World) → late 80 (standOf v) ≡ false → left resets v ≡ v
 unfolding resets
-waits-resets v e = when-false resetOver _ v e
+early-resets v l = when-false _ _ v (ap (λ (b : Bool). b && not (uri v)) l)
+
+held-resets : (v : World) → uri v ≡ true → left resets v ≡ v
+unfolding resets
+held-resets v u = when-false _ _ v (ap (λ (b : Bool). late 80 (standOf v) && not b) u ∙ and-false (late 80 (standOf v)))
 
 -- ---- the setups as they stand in the queue
 
@@ -100,8 +109,8 @@ module _ (t : ℕ) (w : World) (p : Present t w) (stayed : deviceLeft t w ≡ fa
   counts-there : wrapped (w .state .port .uf + 1) ≡ w .state .port .uf + 1
   counts-there = let few = p .few in omega arith
 
-  longer-there : (n : ℕ) → longer n (there t w p) ≡ ltb (wrapped (w .state .port .t + n)) (wrapped (w .state .port .uf + 1))
-  longer-there n = ap (late n) (stand-there t w p stayed)
+  late-there : (n : ℕ) → late n (standOf (there t w p)) ≡ ltb (wrapped (w .state .port .t + n)) (wrapped (w .state .port .uf + 1))
+  late-there n = ap (late n) (stand-there t w p stayed)
 
   begins : (q : Phase) (w′ : World) (k : Stand) → standOf w′ ≡ k → k .phase ≡ q → k .uf ≡ opened t w p .uf → k .t ≡ opened t w p .uf → Begins q w w′
   begins q w′ k e x y z =
@@ -127,24 +136,20 @@ vbus-resets t w p e rs due =
     let stayed = stays-running t w rs in
     begins t w p stayed Reset (left (microframe t) w) (entered Reset (opened t w p))
     (ap standOf (frame-in t w p stayed Vbus e)
-    ∙ stand-powers (rsSet w) (there t w p) (both rs (longer-there t w p stayed 400 ∙ is-late 400 (w .state .port .t) (w .state .port .uf) (p .few) due))
+    ∙ stand-powers (rsSet w) (there t w p) rs (late-there t w p stayed 400 ∙ is-late 400 (w .state .port .t) (w .state .port .uf) (p .few) due)
     ∙ ap (entered Reset) (stand-there t w p stayed))
     refl refl refl
-  where
-    both : {a b : Bool} → a ≡ true → b ≡ true → (a && b) ≡ true
-    both {a} {b} x y = ap (λ (z : Bool). z && b) x ∙ y
 
 -- with RS clear, or before that, it waits on
 pub vbus-waits : (t : ℕ) (w : World) → Present t w → deviceLeft t w ≡ false → w .state .phase ≡ Vbus → w .state .port .t ≤ w .state .port .uf
     → (rsSet w ≡ false) ⊎ (w .state .port .uf + 1 ≤ w .state .port .t + 400) → GoesOn Vbus w (left (microframe t) w)
-vbus-waits t w p stayed e h c =
-    goes-on t w p stayed Vbus e (frame-in t w p stayed Vbus e ∙ waits-powers (rsSet w) (there t w p) (off c))
+vbus-waits t w p stayed e h c = goes-on t w p stayed Vbus e (frame-in t w p stayed Vbus e ∙ waits c)
   where
-    off : (rsSet w ≡ false) ⊎ (w .state .port .uf + 1 ≤ w .state .port .t + 400) → (rsSet w && longer 400 (there t w p)) ≡ false
-    off (inl x) = ap (λ (z : Bool). z && longer 400 (there t w p)) x
-    off (inr x) =
-        ap (λ (z : Bool). rsSet w && z) (longer-there t w p stayed 400 ∙ is-early 400 (w .state .port .t) (w .state .port .uf) (omega arith) (p .few) h x)
-        ∙ and-false (rsSet w)
+    waits : (rsSet w ≡ false) ⊎ (w .state .port .uf + 1 ≤ w .state .port .t + 400) → left (powers (rsSet w)) (there t w p) ≡ there t w p
+    waits (inl x) = off-powers (rsSet w) (there t w p) x
+    waits (inr x) =
+        early-powers (rsSet w) (there t w p)
+        (late-there t w p stayed 400 ∙ is-early 400 (w .state .port .t) (w .state .port .uf) (omega arith) (p .few) h x)
 
 -- more than 80 microframes after the bus reset, URI clear at entry: the port is enabled, and four setups wait; RS is not asked for
 pub reset-enumerates : (t : ℕ) (w : World) → Present t w → deviceLeft t w ≡ false → w .state .phase ≡ Reset → w .state .port .t + 80 < w .state .port .uf + 1
@@ -155,26 +160,21 @@ reset-enumerates t w p stayed e due h clear = (
   record { waits = ap (λ (s : Stand). s .waiting) stand; bytes = λ room. ap (λ (s : Stand). take (8 * s .waiting) (s .queue)) stand ∙ taken (w .setups) (w .state .lengths .setups) room },
 )
   where
-    both : {a b : Bool} → a ≡ true → b ≡ false → (a && not b) ≡ true
-    both {a} {b} x y = ap (λ (z : Bool). z && not b) x ∙ ap not y
-
     stand : standOf (left (microframe t) w) ≡ asking (entered Enumerate (opened t w p))
     stand =
         ap standOf (frame-in t w p stayed Reset e)
         ∙ stand-resets (there t w p)
-        (both (longer-there t w p stayed 80 ∙ is-late 80 (w .state .port .t) (w .state .port .uf) (p .few) due) (alike-phase (rsSet w) w h .uri ∙ clear))
+        (late-there t w p stayed 80 ∙ is-late 80 (w .state .port .t) (w .state .port .uf) (p .few) due) (alike-phase (rsSet w) w h .uri ∙ clear)
         ∙ ap (λ (k : Stand). asking (entered Enumerate k)) (stand-there t w p stayed)
 
 -- URI still set, or before that, it waits on
 pub reset-waits : (t : ℕ) (w : World) → Present t w → deviceLeft t w ≡ false → w .state .phase ≡ Reset → w .state .port .t ≤ w .state .port .uf
     → length (w .memory .page) ≡ 4096 → (any (wordAt (w .memory .page) USBSTS) 0x40 ≡ true) ⊎ (w .state .port .uf + 1 ≤ w .state .port .t + 80)
     → GoesOn Reset w (left (microframe t) w)
-reset-waits t w p stayed e h page c =
-    goes-on t w p stayed Reset e (frame-in t w p stayed Reset e ∙ waits-resets (there t w p) (off c))
+reset-waits t w p stayed e h page c = goes-on t w p stayed Reset e (frame-in t w p stayed Reset e ∙ waits c)
   where
-    off : (any (wordAt (w .memory .page) USBSTS) 0x40 ≡ true) ⊎ (w .state .port .uf + 1 ≤ w .state .port .t + 80) → resetOver (there t w p) ≡ false
-    off (inl x) =
-        ap (λ (z : Bool). longer 80 (there t w p) && not z) (alike-phase (rsSet w) w page .uri ∙ x) ∙ and-false (longer 80 (there t w p))
-    off (inr x) =
-        ap (λ (z : Bool). z && not (any (wordAt (there t w p .memory .page) USBSTS) 0x40))
-        (longer-there t w p stayed 80 ∙ is-early 80 (w .state .port .t) (w .state .port .uf) (omega arith) (p .few) h x)
+    waits : (any (wordAt (w .memory .page) USBSTS) 0x40 ≡ true) ⊎ (w .state .port .uf + 1 ≤ w .state .port .t + 80) → left resets (there t w p) ≡ there t w p
+    waits (inl x) = held-resets (there t w p) (alike-phase (rsSet w) w page .uri ∙ x)
+    waits (inr x) =
+        early-resets (there t w p)
+        (late-there t w p stayed 80 ∙ is-early 80 (w .state .port .t) (w .state .port .uf) (omega arith) (p .few) h x)
