@@ -43,7 +43,7 @@ use Rattle.model.specs.Phases.{now, changing, suspends, leaves, startsFr
 use Rattle.model.specs.Control.{begun, posted, posts, enumerating, configured, wLength, inStatus, timedOut, toStatus, keepsReply, dataIn, dataOut, dataStage, keepsDevice, asksWhole, chooses, configures, takesConfiguration, finishes, statusOut, endsBy, statusEnds, statusStage, stalled, unstalls, dataThenStatus, stages, requests, controls}
 use Rattle.model.specs.Microframe.{rsSet, goneAt, asleepAt, streaming, opens, enumerates, transfers, talks, atPhase, byPhase, frameOf, microframe}
 use Rattle.model.specs.Reach.{toPhase, phaseBy}
-use Rattle.model.specs.Progress.{Present, GoesOn, Posts, Runs, takesData, statusOf, atControl, Answers}
+use Rattle.model.specs.Progress.{Present, GoesOn, Posts, RunsOn, takesData, statusOf, atControl, Answers}
 use Rattle.model.proofs.Fields.{fields-then, keeps-bus, keeps-page, keeps-one, left-runs, ranWorld}
 use Rattle.model.proofs.Placed.{Placed, placed-first, placed-second, placed-true, placed-false, placed-here}
 use Rattle.model.proofs.Progress.{Stand, standBy, standOf, stands, if-true, if-false, when-true, when-false, keeps-frame, there, opened, stand-there, frame-in, stays-running}
@@ -618,7 +618,7 @@ module _ (t : ℕ) (w : World) (p : Present t w) (e : w .state .phase ≡ Enumer
         controls-stages = controls-requests ∙ if-false stalled unstalls (stages stack) asked (stalled-asked ∙ free)
 
         -- one that is as it was
-        unchanged : requestOf (left (stages stack) asked) ≡ requestOf asked → GoesOn Enumerate w (left (microframe t) w) × Runs w (left (microframe t) w)
+        unchanged : requestOf (left (stages stack) asked) ≡ requestOf asked → GoesOn Enumerate w (left (microframe t) w) × RunsOn w (left (microframe t) w)
         unchanged r =
             let all = r ∙ request-asked in
             let same = alone (left (stages stack) asked) controls-stages (ap (λ (k : Request). k .phase) all ∙ e) in
@@ -674,14 +674,14 @@ module _ (t : ℕ) (w : World) (p : Present t w) (e : w .state .phase ≡ Enumer
             at-asked (inr x) = inr (ap (λ (k : Stand). k .control .second / 65536) asked-stand ∙ x)
 
         in-time : w .state .control .t0 ≤ w .state .port .uf → w .state .port .uf + 1 ≤ w .state .control .t0 + 16000
-            → GoesOn Enumerate w (left (microframe t) w) × (Runs w (left (microframe t) w) ⊎ (Completed t w × (left (microframe t) w .state .control .on ≡ false)))
+            → GoesOn Enumerate w (left (microframe t) w) × (RunsOn w (left (microframe t) w) ⊎ (Completed t w × (left (microframe t) w .state .control .on ≡ false)))
         in-time begun due = by (stages-run stack asked (ap late request-asked ∙ le-ltb (wrapped (w .state .control .t0 + 16000)) (wrapped (w .state .port .uf + 1)) early))
           where
             early : wrapped (w .state .port .uf + 1) ≤ wrapped (w .state .control .t0 + 16000)
             early = let few = p .few in omega arith
 
             by : (requestOf (left (stages stack) asked) ≡ requestOf asked) ⊎ ((inStatusAt (atStatus asked) ≡ true) × ((statusRun (atStatus asked) .done ≡ true) × (briefOf (left (stages stack) asked) ≡ off (requestOf asked))))
-                → GoesOn Enumerate w (left (microframe t) w) × (Runs w (left (microframe t) w) ⊎ (Completed t w × (left (microframe t) w .state .control .on ≡ false)))
+                → GoesOn Enumerate w (left (microframe t) w) × (RunsOn w (left (microframe t) w) ⊎ (Completed t w × (left (microframe t) w .state .control .on ≡ false)))
             by (inl r) = let x = unchanged r in (x .0, inl (x .1))
             by (inr r) = let x = ended (left (stages stack) asked) controls-stages (r .1 .1) in (x .0, inr (flagged (r .0) (r .1 .0), x .1))
 
@@ -727,7 +727,7 @@ setup-posted t w p e rs idle some = subst (Posts w) (sym (microframe-posts t w p
 pub request-runs : (t : ℕ) (w : World) → Present t w → w .state .phase ≡ Enumerate → rsSet w ≡ true → w .state .control .on ≡ true
     → length (w .memory .page) ≡ 4096 → any (wordAt (w .memory .page) EPCR0) 0x10001 ≡ false
     → w .state .control .t0 ≤ w .state .port .uf → w .state .port .uf + 1 ≤ w .state .control .t0 + 16000
-    → GoesOn Enumerate w (left (microframe t) w) × (Runs w (left (microframe t) w) ⊎ (Completed t w × (left (microframe t) w .state .control .on ≡ false)))
+    → GoesOn Enumerate w (left (microframe t) w) × (RunsOn w (left (microframe t) w) ⊎ (Completed t w × (left (microframe t) w .state .control .on ≡ false)))
 request-runs t w p e rs on h free begun due = in-time t w p e rs on h free begun due
 
 -- one in its status stage, or without data, whose status endpoint answers at control with a completion, is over

@@ -25,9 +25,9 @@ use Rattle.record.specs.Change.{Change, bus, Step}
 use Rattle.model.specs.Audio.{audioIn, audioOut, blockOf, inputs, streamOut}
 use Rattle.model.specs.Microframe.{microframe}
 use Rattle.model.specs.Reach.{reachesInput, reachesOutput, atInput, atOutput, inputReady, outputReady}
-use Rattle.model.specs.Claims.{sendsAt, outPointer, outToken, outMoved, blockStores}
+use Rattle.model.specs.Claims.{blockFirst, sendsAt, outPointer, outToken, outMoved, blockStores}
 use Rattle.model.specs.Ring.{inPointer, inToken, inMoved, inBytes, inStores}
-use Rattle.model.specs.Retired.{TokenRetired, tokenAddress, Retires, blockData, blockFirst}
+use Rattle.model.specs.Retired.{TokenRetired, tokenAddress, StoresToken, blockData}
 use Rattle.model.proofs.Placed.{Placed}
 use Rattle.model.proofs.OneBlock.{one-block}
 use Rattle.model.proofs.InputStep.{placed-input, inputs-changes}
@@ -85,7 +85,7 @@ unfolding finishing retiring closing andThen putting
 finishing-first qh n tok moved k b = refl
 
 -- a list that begins so
-retires-by : (n tok moved : ℕ) (sent ss : List Store) → ss ≡ word (after (descriptor n) 4) (tokenAfter tok moved) ∷ drop 1 ss → Retires n tok moved sent (sent ++ ss)
+retires-by : (n tok moved : ℕ) (sent ss : List Store) → ss ≡ word (after (descriptor n) 4) (tokenAfter tok moved) ∷ drop 1 ss → StoresToken n tok moved sent (sent ++ ss)
 retires-by n tok moved sent ss e =
     record {
       value = tokenAfter tok moved;
@@ -96,7 +96,7 @@ retires-by n tok moved sent ss e =
 
 -- every descriptor of every run, in either direction, endpoint 0's too
 pub turning-retires : (e : Endpoint) (qh n : ℕ) (bs : List ℕ) (b : Bus)
-    → Retires n (tokenOf n (b .memory)) (moves e (tokenOf n (b .memory)) bs) (dataOut e n (tokenOf n (b .memory)) bs b) (turning e qh n bs b)
+    → StoresToken n (tokenOf n (b .memory)) (moves e (tokenOf n (b .memory)) bs) (dataOut e n (tokenOf n (b .memory)) bs b) (turning e qh n bs b)
 unfolding turning andThen
 turning-retires e qh n bs b =
     retires-by n (tokenOf n (b .memory)) (moves e (tokenOf n (b .memory)) bs) (dataOut e n (tokenOf n (b .memory)) bs b) _
@@ -104,17 +104,17 @@ turning-retires e qh n bs b =
 
 -- the run of any other endpoint whose next descriptor is active
 pub run-retires : (e : Endpoint) (bs : List ℕ) (b : Bus) → most e ≡ 1 → (qh n tok : ℕ) → IsActive e (b .memory) qh n tok
-    → Retires n tok (moves e tok bs) (dataOut e n tok bs b) (runDtds e bs b .stores)
+    → StoresToken n tok (moves e tok bs) (dataOut e n tok bs b) (runDtds e bs b .stores)
 unfolding andThen
 run-retires e bs b one qh n tok is =
-    subst (Retires n tok (moves e tok bs) (dataOut e n tok bs b)) (sym (active-stores e bs b one qh n tok is))
+    subst (StoresToken n tok (moves e tok bs) (dataOut e n tok bs b)) (sym (active-stores e bs b one qh n tok is))
     (retires-by n tok (moves e tok bs) (dataOut e n tok bs b) _ (finishing-first qh n tok (moves e tok bs) (bitOf e) _))
 
 -- a descriptor of the audio input and of the audio output endpoint
-input-retires : (x : World) → Retires (inPointer x) (inToken x) (inMoved x) [] (inStores x)
+input-retires : (x : World) → StoresToken (inPointer x) (inToken x) (inMoved x) [] (inStores x)
 input-retires x = retires-by (inPointer x) (inToken x) (inMoved x) [] (inStores x) (finishing-first _ (inPointer x) (inToken x) (inMoved x) (bitOf audioIn) (busOf x))
 
-output-retires : (x : World) → Retires (outPointer x) (outToken x) (outMoved x) (blockData x) (blockStores x (busOf x))
+output-retires : (x : World) → StoresToken (outPointer x) (outToken x) (outMoved x) (blockData x) (blockStores x (busOf x))
 unfolding andThen
 output-retires x = retires-by (outPointer x) (outToken x) (outMoved x) (blockData x) _ (finishing-first _ (outPointer x) (outToken x) (outMoved x) (bitOf audioOut) _)
 
@@ -179,7 +179,7 @@ module _ (t : ℕ) (w : World) (g : Step) (x : World) (e : Endpoint) (first : Li
     (placed : Placed (microframe t) w g x)
     (ready : (primed e (x .memory .page) && nextActive e (x .memory)) ≡ true)
     (is : g x ≡ first ++ (map bus ss ++ tail))
-    (r : Retires (nextDtd e (x .memory)) (tokenOf (nextDtd e (x .memory)) (x .memory)) moved sent ss) where
+    (r : StoresToken (nextDtd e (x .memory)) (tokenOf (nextDtd e (x .memory)) (x .memory)) moved sent ss) where
   retired-by : Retired t w g x e first sent moved
   retired-by =
       let s = word (tokenAddress (nextDtd e (x .memory))) (r .value) in
@@ -205,7 +205,7 @@ input-retired t w e r =
     let x = atInput w in
     let same : inMoved x ≡ length (inBytes x) = sym (length-bytesIn (x .memory) (pointers (x .memory) (descriptor (inPointer x))) (inMoved x)) in
     retired-by t w inputs x audioIn [] [] (inStores x) (length (inBytes x)) _ (placed-input t w e) r (inputs-changes x r)
-    (subst (λ (n : ℕ). Retires (inPointer x) (inToken x) n [] (inStores x)) same (input-retires x))
+    (subst (λ (n : ℕ). StoresToken (inPointer x) (inToken x) n [] (inStores x)) same (input-retires x))
 
 -- so that none are left
 pub input-left : (t : ℕ) (w : World) (p : Retired t w inputs (atInput w) audioIn [] [] (length (inBytes (atInput w)))) → p .value / 2 ^ 16 % 2 ^ 15 ≡ 0
@@ -220,4 +220,4 @@ output-retired t w e =
     let b = one-block t w e in
     let same : outMoved x ≡ length (blockData x) = sym (stores-count (pointers (x .memory) (descriptor (outPointer x))) (blockOf x) 0 (outMoved x)) in
     retired-by t w streamOut x audioOut (blockFirst x) (blockData x) (blockStores x (busOf x)) (length (blockData x)) _ (b .placed) (and-first (outputReady x) _ (and-second (reachesOutput t w) _ e)) (b .changes)
-    (subst (λ (n : ℕ). Retires (outPointer x) (outToken x) n (blockData x) (blockStores x (busOf x))) same (output-retires x))
+    (subst (λ (n : ℕ). StoresToken (outPointer x) (outToken x) n (blockData x) (blockStores x (busOf x))) same (output-retires x))

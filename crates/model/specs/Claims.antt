@@ -38,14 +38,20 @@ blockStores x =
     S._then_ (sending (pointers (x .memory) (descriptor (outPointer x))) (blockOf x) (outMoved x))
     (finishing (queueHead audioOut (x .memory .page)) (outPointer x) (outToken x) (outMoved x) (bitOf audioOut))
 
--- 932-951: all that the output step changes then, in order
-abbrev pub oneBlock : World → List Change
-oneBlock x =
+-- 932-947: what the output step changes before it stores
+abbrev pub blockFirst : World → List Change
+blockFirst x =
     counter ((x .state .audio .counter + BLOCK-FRAMES) % 2 ^ 16)
     ∷ count «out_underruns» (BLOCK-FRAMES - x .state .audio .sending .len)
     ∷ taken (min BLOCK-FRAMES (x .state .audio .sending .len))
     ∷ credit (x .state .audio .credit - BLOCK-FRAMES)
-    ∷ (map bus (blockStores x (busOf x))
+    ∷ []
+
+-- 932-951: all that the output step changes then, in order
+abbrev pub oneBlock : World → List Change
+oneBlock x =
+    blockFirst x
+    ++ (map bus (blockStores x (busOf x))
     ++ (ran audioOut 1 (outMoved x)
     ∷ lost (droppedBy (blockStores x (busOf x)))
     ∷ count «out_transfers» 1

@@ -67,7 +67,7 @@ pub record Posts (w w′ : World) : Type 0 where
   pub flagged : length (w .memory .page) ≡ 4096 → any (wordAt (w′ .memory .page) EPSETUPSR) 1 ≡ true
 
 -- the request that ran runs still: only its stage and the bytes that came may be others
-pub record Runs (w w′ : World) : Type 0 where
+pub record RunsOn (w w′ : World) : Type 0 where
   pub on : w′ .state .control .on ≡ true
   pub first : w′ .state .control .first ≡ w .state .control .first
   pub second : w′ .state .control .second ≡ w .state .control .second

@@ -1,15 +1,13 @@
 -- What "retired" means, in the bits of a descriptor's token (document 01, "Queue head and dTD"; usbhost.rs 584-585; MCF5441x Reference Manual,
 -- USB OTG: dTD token).
-use Prim.Native.Nat.{ℕ, _+_, _-_, _*_, _/_, _%_, _^_, min}
+use Prim.Native.Nat.{ℕ, _+_, _-_, _*_, _/_, _%_, _^_}
 use mathlib.Core.Path.{_≡_}
-use mathlib.Core.List.{List, [], _∷_, _++_}
+use mathlib.Core.List.{List, _∷_, _++_}
 use Rattle.bus.specs.Stores.{Store, word}
 use Rattle.transfer.specs.Transfer.{pointers, sending}
 use Rattle.dtd.specs.Dtd.{descriptor}
-use Rattle.record.specs.Record.{«out_underruns»}
 use Rattle.record.specs.World.{World, busOf}
-use Rattle.record.specs.Change.{Change, count, credit, counter, taken}
-use Rattle.model.specs.Audio.{BLOCK-FRAMES, blockOf}
+use Rattle.model.specs.Audio.{blockOf}
 use Rattle.model.specs.Claims.{outPointer, outMoved}
 
 -- v is the token tok once so many bytes of its total (bits 16 to 30) have moved: its status (bits 0 to 7), of which bit 7 is active, is clear,
@@ -26,7 +24,7 @@ abbrev pub tokenAddress : ℕ → ℕ
 tokenAddress n = n / 2 ^ 5 % 2 ^ 27 * 2 ^ 5 + 4
 
 -- stores that retire the descriptor that the pointer n names, whose token was tok: behind the data sent, the first is to its token
-pub record Retires (n tok moved : ℕ) (sent ss : List Store) : Type 0 where
+pub record StoresToken (n tok moved : ℕ) (sent ss : List Store) : Type 0 where
   pub value : ℕ
   pub rest : List Store
   pub stores : ss ≡ sent ++ (word (tokenAddress n) value ∷ rest)
@@ -35,12 +33,3 @@ pub record Retires (n tok moved : ℕ) (sent ss : List Store) : Type 0 where
 -- 579-581: the data of a block, at the addresses of its descriptor
 abbrev pub blockData : World → List Store
 blockData x = sending (pointers (x .memory) (descriptor (outPointer x))) (blockOf x) (outMoved x) (busOf x)
-
--- 932-947: what the output step changes before it stores
-abbrev pub blockFirst : World → List Change
-blockFirst x =
-    counter ((x .state .audio .counter + BLOCK-FRAMES) % 2 ^ 16)
-    ∷ count «out_underruns» (BLOCK-FRAMES - x .state .audio .sending .len)
-    ∷ taken (min BLOCK-FRAMES (x .state .audio .sending .len))
-    ∷ credit (x .state .audio .credit - BLOCK-FRAMES)
-    ∷ []
