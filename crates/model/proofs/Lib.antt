@@ -27,3 +27,5 @@ pub mod Resetting
 pub mod Flagged
 pub mod Transferring
 pub mod Requests
+pub mod Spans
+pub mod PortMarks

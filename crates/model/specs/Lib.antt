@@ -12,3 +12,4 @@ pub mod Index
 pub mod Retired
 pub mod SentBlock
 pub mod Progress
+pub mod PortMarks

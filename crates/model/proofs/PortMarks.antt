@@ -1,0 +1,615 @@
+-- The port's marks in a microframe: gone, suspended and RS seen set, and beside them the count of microframes without MIDI: what each change does
+-- to them, which steps leave them, and what the whole microframe makes of them.
+use Prim.Native.Nat.{ℕ, zero, suc, _+_, _%_, _^_}
+use mathlib.Core.Path.{_≡_, refl, ap, sym, _∙_}
+use mathlib.Core.Bool.{Bool, true, false, not, _&&_, _||_}
+use mathlib.Core.List.{List, [], _∷_}
+use mathlib.Core.Logic.{_↔_}
+use Rattle.bits.specs.Pick.{pick, pick-eq, pick-same}
+use Rattle.bits.proofs.Tests.{and-first, and-second, and-both, or-case, or-second}
+use Rattle.dtd.specs.Dtd.{Run}
+use Rattle.config.specs.Config.{Choice}
+use Rattle.record.specs.declared.Phase.{Phase}
+use Rattle.record.specs.declared.Phase.the-variants.{Idle, Vbus, Reset, Enumerate, Stream}
+use Rattle.record.specs.declared.Settings.{Settings}
+use Rattle.record.specs.Record.{wrapped, counted, Counter, microframes, «in_transfers», «out_transfers», «in_frames», «out_frames», «bad_blocks», «midi_dtds», «midi_asleep», «out_underruns», «midi_packets_out», «vendor_in_bytes», restarts, enumerations}
+use Rattle.record.specs.World.{World}
+use Rattle.record.specs.Change.{Change, bus, ran, lost, count, uf, phase, started, gone, suspended, wasRunning, credit, budget, counter, block, timers, control, queued, popped, pushed, cleared, reply, device, config, forgot, midi, serial, received, frame, taken, apply, Step, left, _then_, nothing, when, one, here}
+use Rattle.model.specs.Phases.{within, counts, ticks, dropsRequest, forgets, unplugging, returns, cable, sleeps, suspends, enters, departs, leaves, idles, powers, resets, startsFrame}
+use Rattle.model.specs.Control.{toStatus, posted, posts, configured, keepsReply, dataStage, asksWhole, chooses, configures, finishes, statusEnds, statusStage, unstalls, stages, controls}
+use Rattle.model.specs.Streams.{naks, reads, midiIn, drainsSerial, serialStep, drainsMidi, midiOut, readsVendor}
+use Rattle.model.specs.Audio.{addsBudget, clearsBudget, keepsFrames, keepsGood, keepsBlock, keepsBlocks, keepsRun, inputs, streamIn, sendsBlock, unprimes, streamOut, streams}
+use Rattle.model.specs.Microframe.{rsSet, goneAt, asleepAt, streaming, opens, enumerates, others, transfers, talks, atPhase, byPhase, frameOf, microframe}
+use Rattle.model.specs.Reach.{streamsIn, toPhase, phaseBy, outputBy, reachesOutput}
+use Rattle.model.specs.PortMarks.{InGone, InSuspend, RunBit, NoMidi, cableOut, busSuspended, midiSleeps}
+use Rattle.model.proofs.Fields.{Fields, Keeps, fields-then, fields-if, keeps-then, keeps-if, keeps-nothing, keeps-one, keeps-bus, keeps-page, keeps-runs, keeps-here}
+use Rattle.model.proofs.OneBlock.{talking, getsTo, gets-closed}
+use Rattle.model.proofs.History.{four}
+use Rattle.model.proofs.Spans.{within-between, gone-spans, suspend-span, run-bit}
+
+pub record PortMarks : Type 0 where
+  pub gone : Bool
+  pub suspended : Bool
+  pub running : Bool
+  pub asleep : ℕ
+
+abbrev pub marksBy : Bool → Bool → Bool → ℕ → PortMarks
+marksBy g s r n = record { gone = g; suspended = s; running = r; asleep = n }
+
+abbrev pub marksOf : World → PortMarks
+marksOf w = marksBy (w .state .port .gone) (w .state .port .suspended) (w .state .port .«was_running») (w .state .stats .«midi_asleep»)
+
+abbrev asleepOn : Counter → ℕ → ℕ → ℕ
+asleepOn microframes n k = k
+asleepOn «in_transfers» n k = k
+asleepOn «out_transfers» n k = k
+asleepOn «in_frames» n k = k
+asleepOn «out_frames» n k = k
+asleepOn «bad_blocks» n k = k
+asleepOn «midi_dtds» n k = k
+asleepOn «midi_asleep» n k = wrapped (k + n)
+asleepOn «out_underruns» n k = k
+asleepOn «midi_packets_out» n k = k
+asleepOn «vendor_in_bytes» n k = k
+asleepOn restarts n k = k
+asleepOn enumerations n k = k
+
+abbrev pub marksOn : Change → PortMarks → PortMarks
+marksOn (bus s) k = k
+marksOn (ran e r n) k = k
+marksOn (lost n) k = k
+marksOn (count c n) k = marksBy (k .gone) (k .suspended) (k .running) (asleepOn c n (k .asleep))
+marksOn (uf n) k = k
+marksOn (phase p) k = k
+marksOn (started n) k = k
+marksOn (gone b) k = marksBy b (k .suspended) (k .running) (k .asleep)
+marksOn (suspended b) k = marksBy (k .gone) b (k .running) (k .asleep)
+marksOn (wasRunning b) k = marksBy (k .gone) (k .suspended) b (k .asleep)
+marksOn (credit n) k = k
+marksOn (budget n) k = k
+marksOn (counter n) k = k
+marksOn (block n m) k = k
+marksOn (timers ts) k = k
+marksOn (control c) k = k
+marksOn (queued bs) k = k
+marksOn popped k = k
+marksOn (pushed bs) k = k
+marksOn cleared k = k
+marksOn (reply n bs) k = k
+marksOn (device bs) k = k
+marksOn (config bs) k = k
+marksOn forgot k = k
+marksOn (midi n) k = k
+marksOn (serial n) k = k
+marksOn (received bs) k = k
+marksOn (frame f) k = k
+marksOn (taken n) k = k
+
+marks-count : (c : Counter) (n : ℕ) (w : World) → marksOf (apply (count c n) w) ≡ marksOn (count c n) (marksOf w)
+unfolding apply counted
+marks-count microframes n w = refl
+marks-count «in_transfers» n w = refl
+marks-count «out_transfers» n w = refl
+marks-count «in_frames» n w = refl
+marks-count «out_frames» n w = refl
+marks-count «bad_blocks» n w = refl
+marks-count «midi_dtds» n w = refl
+marks-count «midi_asleep» n w = refl
+marks-count «out_underruns» n w = refl
+marks-count «midi_packets_out» n w = refl
+marks-count «vendor_in_bytes» n w = refl
+marks-count restarts n w = refl
+marks-count enumerations n w = refl
+
+pub marks-apply : (c : Change) (w : World) → marksOf (apply c w) ≡ marksOn c (marksOf w)
+unfolding apply
+marks-apply (bus s) w = refl
+marks-apply (ran e r n) w = refl
+marks-apply (lost n) w = refl
+marks-apply (count c n) w = marks-count c n w
+marks-apply (uf n) w = refl
+marks-apply (phase p) w = refl
+marks-apply (started n) w = refl
+marks-apply (gone b) w = refl
+marks-apply (suspended b) w = refl
+marks-apply (wasRunning b) w = refl
+marks-apply (credit n) w = refl
+marks-apply (budget n) w = refl
+marks-apply (counter n) w = refl
+marks-apply (block n m) w = refl
+marks-apply (timers ts) w = refl
+marks-apply (control c) w = refl
+marks-apply (queued bs) w = refl
+marks-apply popped w = refl
+marks-apply (pushed bs) w = refl
+marks-apply cleared w = refl
+marks-apply (reply n bs) w = refl
+marks-apply (device bs) w = refl
+marks-apply (config bs) w = refl
+marks-apply forgot w = refl
+marks-apply (midi n) w = refl
+marks-apply (serial n) w = refl
+marks-apply (received bs) w = refl
+marks-apply (frame f) w = refl
+marks-apply (taken n) w = refl
+
+abbrev pub marks : Fields PortMarks
+marks =
+    record {
+      of = marksOf;
+      on = marksOn;
+      applies = marks-apply;
+      stores = λ s k. refl;
+      marks = λ e n m k. refl;
+      drops = λ n k. refl;
+    }
+
+-- ---- from the choice by phase on no step changes them but the MIDI step in its sleep span
+
+keeps-pick : (t : Bool) (f g : Step) → Keeps marks f → Keeps marks g → Keeps marks (pick t f g)
+keeps-pick true f g p q = p
+keeps-pick false f g p q = q
+
+ruleset still = (keeps-then, keeps-if, keeps-nothing, keeps-one, keeps-bus, keeps-page, keeps-runs, keeps-here, keeps-pick)
+
+still-counts : Keeps marks counts
+unfolding counts
+still-counts = search still
+
+still-ticks : Keeps marks ticks
+unfolding ticks
+still-ticks = search still depth 8
+
+still-drops : Keeps marks dropsRequest
+unfolding dropsRequest
+still-drops = search still
+
+still-forgets : Keeps marks forgets
+unfolding forgets
+still-forgets = search (still, still-drops) depth 12
+
+still-enters : (p : Phase) → Keeps marks (enters p)
+unfolding enters
+still-enters p = search still depth 8
+
+still-idles : Keeps marks idles
+unfolding idles
+still-idles = search (still, still-enters)
+
+still-powers : (rs : Bool) → Keeps marks (powers rs)
+unfolding powers
+still-powers rs = search (still, still-enters)
+
+still-resets : Keeps marks resets
+unfolding resets
+still-resets = search (still, still-enters) depth 8
+
+still-frame : Keeps marks startsFrame
+unfolding startsFrame
+still-frame = search still
+
+still-status : Keeps marks toStatus
+unfolding toStatus
+still-status = search still
+
+still-posted : (qh first second : ℕ) → Keeps marks (posted qh first second)
+unfolding posted
+still-posted qh first second = search still depth 12
+
+still-posts : Keeps marks posts
+unfolding posts
+still-posts = search (still, still-posted)
+
+still-configured : Keeps marks configured
+unfolding configured
+still-configured = search still depth 8
+
+still-reply : (r : Run) → Keeps marks (keepsReply r)
+unfolding keepsReply
+still-reply r = search (still, still-status) depth 8
+
+still-data : Keeps marks dataStage
+unfolding dataStage
+still-data = search (still, still-status, still-reply) depth 8
+
+still-whole : Keeps marks asksWhole
+unfolding asksWhole
+still-whole = search still
+
+still-chooses : (c : Choice) → Keeps marks (chooses c)
+unfolding chooses
+still-chooses c = search still depth 8
+
+still-configures : (stack : Bool) → Keeps marks (configures stack)
+unfolding configures
+still-configures stack = search (still, still-chooses) depth 8
+
+still-finishes : (stack : Bool) → Keeps marks (finishes stack)
+unfolding finishes
+still-finishes stack = search (still, still-drops, still-whole, still-configures) depth 8
+
+still-ends : (stack : Bool) (r : Run) → Keeps marks (statusEnds stack r)
+unfolding statusEnds
+still-ends stack r = search (still, still-finishes, still-drops) depth 8
+
+still-last : (stack : Bool) → Keeps marks (statusStage stack)
+unfolding statusStage
+still-last stack = search (still, still-ends)
+
+still-unstalls : Keeps marks unstalls
+unfolding unstalls
+still-unstalls = search (still, still-drops)
+
+still-stages : (stack : Bool) → Keeps marks (stages stack)
+unfolding stages
+still-stages stack = search (still, still-last, still-data, still-drops) depth 8
+
+still-controls : (stack : Bool) → Keeps marks (controls stack)
+unfolding controls
+still-controls stack = search (still, still-stages, still-unstalls, still-configured, still-posts) depth 8
+
+still-enumerates : (c : Settings) → Keeps marks (enumerates c)
+unfolding enumerates
+still-enumerates c = search (still, still-frame, still-controls)
+
+still-reads : (n : ℕ) → Keeps marks (reads n)
+unfolding reads
+still-reads zero = keeps-nothing marks
+still-reads (suc n) =
+    let rest : Keeps marks (reads n) = still-reads n in
+    search (still, rest) depth 8
+
+still-naks : Keeps marks naks
+unfolding naks
+still-naks = search still
+
+still-serial : (n : ℕ) → Keeps marks (drainsSerial n)
+unfolding drainsSerial
+still-serial n = search still depth 8
+
+still-serves : Keeps marks serialStep
+unfolding serialStep
+still-serves = search (still, still-serial) depth 8
+
+still-drains : (n : ℕ) → Keeps marks (drainsMidi n)
+unfolding drainsMidi
+still-drains n = search still depth 8
+
+still-writes : Keeps marks midiOut
+unfolding midiOut
+still-writes = search (still, still-drains)
+
+still-vendor : Keeps marks readsVendor
+unfolding readsVendor
+still-vendor = search still
+
+still-adds : Keeps marks addsBudget
+unfolding addsBudget
+still-adds = search still
+
+still-clears : Keeps marks clearsBudget
+unfolding clearsBudget
+still-clears = search still
+
+still-frames : (n : ℕ) (bs : List ℕ) → Keeps marks (keepsFrames n bs)
+unfolding keepsFrames
+still-frames zero bs = keeps-nothing marks
+still-frames (suc n) bs = keeps-then marks _ _ (keeps-one marks _ (λ w. refl)) (still-frames n _)
+
+still-good : (b : List ℕ) → Keeps marks (keepsGood b)
+unfolding keepsGood
+still-good b = search (still, still-frames)
+
+still-block : (b : List ℕ) → Keeps marks (keepsBlock b)
+unfolding keepsBlock
+still-block b = search (still, still-good)
+
+still-blocks : (bs : List (List ℕ)) → Keeps marks (keepsBlocks bs)
+unfolding keepsBlocks
+still-blocks [] = keeps-nothing marks
+still-blocks (b ∷ bs) = keeps-then marks _ _ (still-block b) (still-blocks bs)
+
+still-run : (r : Run) → Keeps marks (keepsRun r)
+unfolding keepsRun
+still-run r = search (still, still-blocks)
+
+still-inputs : Keeps marks inputs
+unfolding inputs
+still-inputs = search (still, still-run)
+
+still-hears : Keeps marks streamIn
+unfolding streamIn
+still-hears = search (still, still-adds, still-clears, still-inputs) depth 8
+
+still-sends : (bs : List ℕ) → Keeps marks (sendsBlock bs)
+unfolding sendsBlock
+still-sends bs = search still depth 12
+
+still-unprimes : Keeps marks unprimes
+unfolding unprimes
+still-unprimes = search still
+
+still-outputs : Keeps marks streamOut
+unfolding streamOut
+still-outputs = search (still, still-sends, still-unprimes) depth 8
+
+still-streams : Keeps marks streams
+unfolding streams
+still-streams = search (still, still-hears, still-outputs)
+
+-- ---- the steps that change them
+
+-- a microframe without MIDI is counted, where b
+abbrev counting : Bool → PortMarks → PortMarks
+counting b k = marksBy (k .gone) (k .suspended) (k .running) (pick b (wrapped (k .asleep + 1)) (k .asleep))
+
+marks-sleeps : (v : World) → marksOf (left sleeps v) ≡ counting true (marksOf v)
+unfolding sleeps one apply counted
+marks-sleeps v = refl
+
+marks-midi : (asleep : Bool) (every : ℕ) (v : World) → marksOf (left (midiIn asleep every) v) ≡ counting asleep (marksOf v)
+unfolding midiIn
+marks-midi true every v = marks-sleeps v
+marks-midi false every v = awake v
+  where
+    awake : Keeps marks (midiIn false every)
+    awake = search (still, still-naks, still-reads) depth 8
+
+count-and : (a b : Bool) (k : PortMarks) → pick a (counting b k) k ≡ counting (a && b) k
+count-and true b k = refl
+count-and false b k = refl
+
+marks-others : (c : Settings) (t : ℕ) (u : World) → marksOf (left (others c t) u) ≡ counting (c .«midi_in» && within (c .sleep) t) (marksOf u)
+unfolding others
+marks-others c t u =
+    fields-then marks _ _ u
+    ∙ stack _
+    ∙ fields-if marks _ _ _ u
+    ∙ pick-eq (c .«midi_in») (marks-midi (within (c .sleep) t) (c .«midi_every») u) (keeps-nothing marks u)
+    ∙ count-and (c .«midi_in») (within (c .sleep) t) (marksOf u)
+  where
+    stack : Keeps marks (when (λ w. c .«device_stack») (midiOut then readsVendor))
+    stack = search (still, still-writes, still-vendor)
+
+-- the MIDI step is asleep, where it is made
+abbrev napping : Settings → ℕ → Bool
+napping c t = c .«midi_in» && within (c .sleep) t
+
+serial-or : (st cd nap : Bool) (k : PortMarks) → pick st (pick cd k (counting nap k)) k ≡ counting (st && (not cd && nap)) k
+serial-or true true nap k = refl
+serial-or true false nap k = refl
+serial-or false cd nap k = refl
+
+marks-transfers : (c : Settings) (t : ℕ) (u : World) → marksOf (left (transfers c t) u) ≡ counting (streaming (u .state .phase) && (not (c .cdc) && napping c t)) (marksOf u)
+unfolding transfers
+marks-transfers c t u =
+    fields-if marks _ _ _ u
+    ∙ pick-eq (streaming (u .state .phase))
+    (fields-if marks _ _ _ u ∙ pick-eq (c .cdc) (still-serves u) (fields-then marks streams (others c t) u ∙ marks-others c t _ ∙ ap (counting (napping c t)) (still-streams u)))
+    (keeps-nothing marks u)
+    ∙ serial-or (streaming (u .state .phase)) (c .cdc) (napping c t) (marksOf u)
+
+-- 497-503: from the choice by phase on the MIDI step is made
+abbrev toMidi : Settings → ℕ → Bool → World → Bool
+toMidi c t rs v = rs && (streaming (left (enumerates c) v .state .phase) && (not (c .cdc) && napping c t))
+
+marks-talks : (c : Settings) (t : ℕ) (rs : Bool) (v : World) → marksOf (left (talks c t rs) v) ≡ counting (toMidi c t rs v) (marksOf v)
+unfolding talks
+marks-talks c t rs v =
+    let u = left (enumerates c) v in
+    let nap = streaming (u .state .phase) && (not (c .cdc) && napping c t) in
+    fields-if marks _ _ _ v
+    ∙ pick-eq rs (fields-then marks (enumerates c) (transfers c t) v ∙ marks-transfers c t u ∙ ap (counting nap) (still-enumerates c v)) (keeps-nothing marks v)
+    ∙ count-and rs nap (marksOf v)
+
+marks-at : (c : Settings) (t : ℕ) (rs : Bool) (p : Phase) (v : World) → marksOf (left (atPhase c t rs p) v) ≡ counting (talking p && toMidi c t rs v) (marksOf v)
+marks-at c t rs Idle v = still-idles v
+marks-at c t rs Vbus v = still-powers rs v
+marks-at c t rs Reset v = still-resets v
+marks-at c t rs Enumerate v = marks-talks c t rs v
+marks-at c t rs Stream v = marks-talks c t rs v
+
+regroup : (p rs st au nap : Bool) → (p && (rs && (st && (au && nap)))) ≡ ((p && (rs && (st && au))) && nap)
+regroup true true true au nap = refl
+regroup true true false au nap = refl
+regroup true false st au nap = refl
+regroup false rs st au nap = refl
+
+marks-by : (c : Settings) (t : ℕ) (rs : Bool) (v : World) → marksOf (left (byPhase c t rs) v) ≡ counting (getsTo c rs v && napping c t) (marksOf v)
+unfolding byPhase here
+marks-by c t rs v =
+    marks-at c t rs (v .state .phase) v
+    ∙ ap (λ (b : Bool). counting b (marksOf v)) (regroup (talking (v .state .phase)) rs (streaming (left (enumerates c) v .state .phase)) (not (c .cdc)) (napping c t))
+
+-- ---- the three marks
+
+abbrev setGone : Bool → PortMarks → PortMarks
+setGone b k = marksBy b (k .suspended) (k .running) (k .asleep)
+
+abbrev setSuspended : Bool → PortMarks → PortMarks
+setSuspended b k = marksBy (k .gone) b (k .running) (k .asleep)
+
+abbrev setRunning : Bool → PortMarks → PortMarks
+setRunning b k = marksBy (k .gone) (k .suspended) b (k .asleep)
+
+-- a mark that is set where it is not, and one that is cleared where it is set; b: the mark as it stands
+set-on : (set : Bool → PortMarks → PortMarks) (b : Bool) (k : PortMarks) → set b k ≡ k → pick (not b) (set true k) k ≡ set true k
+set-on set true k e = sym e
+set-on set false k e = refl
+
+set-off : (set : Bool → PortMarks → PortMarks) (b : Bool) (k : PortMarks) → set b k ≡ k → pick b (set false k) k ≡ set false k
+set-off set true k e = refl
+set-off set false k e = sym e
+
+one-gone : (b : Bool) (v : World) → marksOf (left (one (λ w. gone b)) v) ≡ setGone b (marksOf v)
+unfolding one apply
+one-gone b v = refl
+
+one-suspended : (b : Bool) (v : World) → marksOf (left (one (λ w. suspended b)) v) ≡ setSuspended b (marksOf v)
+unfolding one apply
+one-suspended b v = refl
+
+one-running : (b : Bool) (v : World) → marksOf (left (one (λ w. wasRunning b)) v) ≡ setRunning b (marksOf v)
+unfolding one apply
+one-running b v = refl
+
+still-returns : Keeps marks returns
+unfolding returns
+still-returns = search (still, still-forgets) depth 8
+
+marks-cable : (g : Bool) (v : World) → marksOf (left (cable g) v) ≡ setGone g (marksOf v)
+unfolding cable
+marks-cable true v =
+    fields-if marks _ _ _ v
+    ∙ pick-eq (not (v .state .port .gone)) (fields-then marks _ _ v ∙ keeps-page marks unplugging _ ∙ one-gone true v) (keeps-nothing marks v)
+    ∙ set-on setGone (v .state .port .gone) (marksOf v) refl
+marks-cable false v =
+    fields-if marks _ _ _ v
+    ∙ pick-eq (v .state .port .gone) (fields-then marks _ _ v ∙ still-returns _ ∙ one-gone false v) (keeps-nothing marks v)
+    ∙ set-off setGone (v .state .port .gone) (marksOf v) refl
+
+marks-opens : (c : Settings) (g : Bool) (w : World) → marksOf (left (opens c g) w) ≡ setGone g (marksOf w)
+unfolding opens
+marks-opens c g w =
+    fields-then marks _ _ w ∙ fields-then marks _ _ _ ∙ marks-cable g _
+    ∙ ap (setGone g) (keeps-if marks (λ v. c .«midi_in») ticks nothing still-ticks (keeps-nothing marks) _ ∙ still-counts w)
+
+marks-suspends : (s : Bool) (v : World) → marksOf (left (suspends s) v) ≡ setSuspended s (marksOf v)
+unfolding suspends
+marks-suspends true v =
+    fields-if marks _ _ _ v
+    ∙ pick-eq (not (v .state .port .suspended)) (fields-then marks _ _ v ∙ keeps-page marks _ _ ∙ one-suspended true v) (keeps-nothing marks v)
+    ∙ set-on setSuspended (v .state .port .suspended) (marksOf v) refl
+marks-suspends false v =
+    fields-if marks _ _ _ v
+    ∙ pick-eq (v .state .port .suspended) (fields-then marks _ _ v ∙ keeps-page marks _ _ ∙ one-suspended false v) (keeps-nothing marks v)
+    ∙ set-off setSuspended (v .state .port .suspended) (marksOf v) refl
+
+marks-departs : (v : World) → marksOf (left departs v) ≡ setRunning false (marksOf v)
+unfolding departs
+marks-departs v = fields-then marks _ _ v ∙ keeps-then marks (enters Vbus) forgets (still-enters Vbus) still-forgets _ ∙ one-running false v
+
+marks-leaves : (stack rs : Bool) (v : World) → marksOf (left (leaves stack rs) v) ≡ setRunning (pick stack rs (v .state .port .«was_running»)) (marksOf v)
+unfolding leaves
+marks-leaves false rs v = keeps-nothing marks v
+marks-leaves true true v = one-running true v
+marks-leaves true false v =
+    fields-if marks _ _ _ v
+    ∙ pick-eq (v .state .port .«was_running») (marks-departs v) (keeps-nothing marks v)
+    ∙ set-off setRunning (v .state .port .«was_running») (marksOf v) refl
+
+-- at the choice by phase
+marks-phase : (rs : Bool) (w : World) → marksOf (phaseBy rs w) ≡ marksBy false false (pick (w .settings .«device_stack») rs (w .state .port .«was_running»)) (w .state .stats .«midi_asleep»)
+unfolding phaseBy toPhase
+marks-phase rs w =
+    let stack = w .settings .«device_stack» in
+    fields-then marks _ _ w ∙ fields-then marks _ _ _
+    ∙ marks-leaves stack rs _
+    ∙ ap (λ (k : PortMarks). setRunning (pick stack rs (k .running)) k) (marks-suspends false _ ∙ ap (setSuspended false) (marks-opens (w .settings) false w))
+
+-- ---- the whole: g, s and rs: gone, suspended and RS by the entry values
+
+abbrev pub markedBy : ℕ → Bool → Bool → Bool → World → PortMarks
+markedBy t rs g s w =
+    marksBy g (pick g (w .state .port .suspended) s)
+    (pick (g || s) (w .state .port .«was_running») (pick (w .settings .«device_stack») rs (w .state .port .«was_running»)))
+    (pick (g || (s || (outputBy rs g s w && napping (w .settings) t))) (wrapped (w .state .stats .«midi_asleep» + 1)) (w .state .stats .«midi_asleep»))
+
+marks-frame : (t : ℕ) (rs g s : Bool) (w : World) → marksOf (left (frameOf (w .settings) t rs g s) w) ≡ markedBy t rs g s w
+unfolding frameOf outputBy phaseBy toPhase
+marks-frame t rs true s w = fields-then marks _ _ w ∙ marks-sleeps _ ∙ ap (counting true) (marks-opens (w .settings) true w)
+marks-frame t rs false true w =
+    fields-then marks _ _ w ∙ fields-then marks _ _ _ ∙ marks-sleeps _
+    ∙ ap (counting true) (marks-suspends true _ ∙ ap (setSuspended true) (marks-opens (w .settings) false w))
+marks-frame t rs false false w =
+    let c = w .settings in
+    let closed = not (w .state .port .gone) && (rs && (not (c .cdc) && streamsIn w)) in
+    ap marksOf (four (opens c false) (suspends false) (leaves (c .«device_stack») rs) (byPhase c t rs) w)
+    ∙ marks-by c t rs (phaseBy rs w)
+    ∙ ap (λ (b : Bool). counting (b && napping c t) (marksOf (phaseBy rs w))) (gets-closed rs (w .state .port .gone) w refl)
+    ∙ ap (counting (closed && napping c t)) (marks-phase rs w)
+
+pub marks-microframe : (t : ℕ) (w : World) → marksOf (left (microframe t) w) ≡ markedBy t (rsSet w) (goneAt t w) (asleepAt t w) w
+unfolding microframe here
+marks-microframe t w = marks-frame t (rsSet w) (goneAt t w) (asleepAt t w) w
+
+-- ---- the same in the papers' words
+
+unset : (b : Bool) → ¬ (b ≡ true) → b ≡ false
+unset true n = absurd (n refl)
+unset false n = refl
+
+-- a value that is a test
+pub is-test : {P : Type 0} {a b : Bool} → a ≡ b → (b ≡ true) ↔ P → (a ≡ true) ↔ P
+is-test e p = (λ x. p .0 (sym e ∙ x), λ y. e ∙ p .1 y)
+
+module _ (t : ℕ) (w : World) where
+  abbrev next : World
+  next = left (microframe t) w
+
+  -- document 01, "Host record": the cable is out where the time lies in a gone span
+  pub gone-mark : (next .state .port .gone ≡ true) ↔ InGone (w .settings) t
+  gone-mark = is-test (ap (λ (k : PortMarks). k .gone) (marks-microframe t w)) (gone-spans t w)
+
+  -- 408-426: suspended where the time lies in the suspend span, and as before while the cable is out
+  suspended-is : next .state .port .suspended ≡ pick (goneAt t w) (w .state .port .suspended) (asleepAt t w)
+  suspended-is = ap (λ (k : PortMarks). k .suspended) (marks-microframe t w)
+
+  pub suspend-mark : ¬ InGone (w .settings) t → (next .state .port .suspended ≡ true) ↔ InSuspend (w .settings) t
+  suspend-mark here-still =
+      is-test (suspended-is ∙ ap (λ (g : Bool). pick g (w .state .port .suspended) (asleepAt t w)) (unset (goneAt t w) (λ e. here-still (gone-spans t w .0 e))))
+      (suspend-span t w)
+
+  pub suspend-gone : InGone (w .settings) t → next .state .port .suspended ≡ w .state .port .suspended
+  suspend-gone out = suspended-is ∙ ap (λ (g : Bool). pick g (w .state .port .suspended) (asleepAt t w)) (gone-spans t w .1 out)
+
+  -- 430-447: with the device stack, RS as it was read, in a microframe neither gone nor suspended; so it is cleared where the device left
+  running-is : next .state .port .«was_running» ≡ pick (goneAt t w || asleepAt t w) (w .state .port .«was_running») (pick (w .settings .«device_stack») (rsSet w) (w .state .port .«was_running»))
+  running-is = ap (λ (k : PortMarks). k .running) (marks-microframe t w)
+
+  pub run-mark : w .settings .«device_stack» ≡ true → ¬ InGone (w .settings) t → ¬ InSuspend (w .settings) t → (next .state .port .«was_running» ≡ true) ↔ RunBit (w .memory .page)
+  run-mark stack here-still awake = is-test (running-is ∙ simp (stack, unset (goneAt t w) (λ e. here-still (gone-spans t w .0 e)), unset (asleepAt t w) (λ e. awake (suspend-span t w .0 e)))) (run-bit w)
+
+  pub run-stack : w .settings .«device_stack» ≡ false → next .state .port .«was_running» ≡ w .state .port .«was_running»
+  run-stack e = running-is ∙ ap (λ (b : Bool). pick (goneAt t w || asleepAt t w) (w .state .port .«was_running») (pick b (rsSet w) (w .state .port .«was_running»))) e ∙ pick-same (goneAt t w || asleepAt t w) _
+
+  pub run-gone : InGone (w .settings) t → next .state .port .«was_running» ≡ w .state .port .«was_running»
+  run-gone out = running-is ∙ ap (λ (b : Bool). pick (b || asleepAt t w) (w .state .port .«was_running») (pick (w .settings .«device_stack») (rsSet w) (w .state .port .«was_running»))) (gone-spans t w .1 out)
+
+  pub run-suspended : InSuspend (w .settings) t → next .state .port .«was_running» ≡ w .state .port .«was_running»
+  run-suspended in-span =
+      running-is ∙ ap (λ (b : Bool). pick b (w .state .port .«was_running») (pick (w .settings .«device_stack») (rsSet w) (w .state .port .«was_running»))) (or-second (goneAt t w) (asleepAt t w) (suspend-span t w .1 in-span))
+
+  -- 409, 427, 776: the microframes in which the host reads no MIDI are counted
+  abbrev unread : Bool
+  unread = goneAt t w || (asleepAt t w || (reachesOutput t w && napping (w .settings) t))
+
+  read-or-not : (unread ≡ true) ↔ NoMidi t w
+  read-or-not = (to, from)
+    where
+      rests : (reachesOutput t w && napping (w .settings) t) ≡ true → NoMidi t w
+      rests e =
+          let n = and-second (reachesOutput t w) (napping (w .settings) t) e in
+          midiSleeps (and-first (reachesOutput t w) (napping (w .settings) t) e) (and-first (w .settings .«midi_in») (within (w .settings .sleep) t) n)
+          (within-between (w .settings .sleep) t .0 (and-second (w .settings .«midi_in») (within (w .settings .sleep) t) n))
+
+      to : unread ≡ true → NoMidi t w
+      to e =
+          or-case (goneAt t w) (asleepAt t w || (reachesOutput t w && napping (w .settings) t)) e (λ g. cableOut (gone-spans t w .0 g))
+          (λ f. or-case (asleepAt t w) (reachesOutput t w && napping (w .settings) t) f (λ s. busSuspended (suspend-span t w .0 s)) rests)
+
+      from : NoMidi t w → unread ≡ true
+      from (cableOut g) = ap (λ (b : Bool). b || (asleepAt t w || (reachesOutput t w && napping (w .settings) t))) (gone-spans t w .1 g)
+      from (busSuspended s) = or-second (goneAt t w) _ (ap (λ (b : Bool). b || (reachesOutput t w && napping (w .settings) t)) (suspend-span t w .1 s))
+      from (midiSleeps r m s) =
+          or-second (goneAt t w) _
+          (or-second (asleepAt t w) _ (and-both (reachesOutput t w) _ r (and-both (w .settings .«midi_in») _ m (within-between (w .settings .sleep) t .1 s))))
+
+  asleep-is : next .state .stats .«midi_asleep» ≡ pick unread (wrapped (w .state .stats .«midi_asleep» + 1)) (w .state .stats .«midi_asleep»)
+  asleep-is = ap (λ (k : PortMarks). k .asleep) (marks-microframe t w)
+
+  pub asleep-counted : NoMidi t w → next .state .stats .«midi_asleep» ≡ (w .state .stats .«midi_asleep» + 1) % 2 ^ 64
+  asleep-counted n = asleep-is ∙ ap (λ (b : Bool). pick b (wrapped (w .state .stats .«midi_asleep» + 1)) (w .state .stats .«midi_asleep»)) (read-or-not .1 n)
+
+  pub asleep-kept : ¬ NoMidi t w → next .state .stats .«midi_asleep» ≡ w .state .stats .«midi_asleep»
+  asleep-kept n = asleep-is ∙ ap (λ (b : Bool). pick b (wrapped (w .state .stats .«midi_asleep» + 1)) (w .state .stats .«midi_asleep»)) (unset unread (λ e. n (read-or-not .0 e)))

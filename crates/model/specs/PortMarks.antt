@@ -1,0 +1,39 @@
+-- What the port's marks are said of: the spans that hold a time, and the run bit of USBCMD (document 01, "Host record").
+use Prim.Native.Nat.{ℕ, _+_, _*_, _%_, _≤_, _<_}
+use mathlib.Core.Bool.{true}
+use mathlib.Core.List.{List}
+use mathlib.Core.Path.{_≡_}
+use lib.ListN.{getD}
+use Rattle.bus.specs.Words.{wordAt}
+use Rattle.record.specs.declared.Settings.{Settings}
+use Rattle.record.specs.World.{World}
+use Rattle.model.specs.Reach.{reachesOutput}
+
+-- a span holds its start and not its end
+pub record Between (from to t : ℕ) : Type 0 where
+  pub start : from ≤ t
+  pub end : t < to
+
+-- a gone span of the settings holds t: start and end of span i stand at 2 i and 2 i + 1
+pub record InGone (c : Settings) (t : ℕ) : Type 0 where
+  pub i : ℕ
+  pub listed : i < c .spans
+  pub start : getD (c .gone) (2 * i) 0 ≤ t
+  pub end : t < getD (c .gone) (2 * i + 1) 0
+
+-- the suspend span holds t, and the MIDI sleep span
+abbrev pub InSuspend : Settings → ℕ → Type 0
+InSuspend c t = Between (c .suspend .from) (c .suspend .to) t
+
+abbrev pub InSleep : Settings → ℕ → Type 0
+InSleep c t = Between (c .sleep .from) (c .sleep .to) t
+
+-- RS: bit 0 of USBCMD, which is the word at 140 of the register page
+abbrev pub RunBit : List ℕ → Type 0
+RunBit page = wordAt page 0x140 % 2 ≡ 1
+
+-- 409, 427, 776: the host reads no MIDI: gone, or suspended, or at its MIDI step in the sleep span; that step follows the audio output step
+pub data NoMidi (t : ℕ) (w : World) : Type 0 where
+  cableOut : InGone (w .settings) t → NoMidi t w
+  busSuspended : InSuspend (w .settings) t → NoMidi t w
+  midiSleeps : reachesOutput t w ≡ true → w .settings .«midi_in» ≡ true → InSleep (w .settings) t → NoMidi t w
