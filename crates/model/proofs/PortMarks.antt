@@ -5,8 +5,8 @@ use mathlib.Core.Path.{_≡_, refl, ap, sym, _∙_}
 use mathlib.Core.Bool.{Bool, true, false, not, _&&_, _||_}
 use mathlib.Core.List.{List, [], _∷_}
 use mathlib.Core.Logic.{_↔_}
-use Rattle.bits.specs.Pick.{pick, pick-eq, pick-same}
-use Rattle.bits.proofs.Tests.{and-first, and-second, and-both, or-case, or-second}
+use Rattle.bits.specs.Pick.{pick, pick-eq}
+use Rattle.bits.proofs.Tests.{false-true, not-true, and-first, and-second, and-both, or-case, or-second}
 use Rattle.dtd.specs.Dtd.{Run}
 use Rattle.config.specs.Config.{Choice}
 use Rattle.record.specs.declared.Phase.{Phase}
@@ -20,8 +20,8 @@ use Rattle.model.specs.Control.{toStatus, posted, posts, configured, kee
 use Rattle.model.specs.Streams.{naks, reads, midiIn, drainsSerial, serialStep, drainsMidi, midiOut, readsVendor}
 use Rattle.model.specs.Audio.{addsBudget, clearsBudget, keepsFrames, keepsGood, keepsBlock, keepsBlocks, keepsRun, inputs, streamIn, sendsBlock, unprimes, streamOut, streams}
 use Rattle.model.specs.Microframe.{rsSet, goneAt, asleepAt, streaming, opens, enumerates, others, transfers, talks, atPhase, byPhase, frameOf, microframe}
-use Rattle.model.specs.Reach.{streamsIn, toPhase, phaseBy, outputBy, reachesOutput}
-use Rattle.model.specs.PortMarks.{InGone, InSuspend, RunBit, NoMidi, cableOut, busSuspended, midiSleeps}
+use Rattle.model.specs.Reach.{streamsIn, toPhase, phaseBy, outputBy, leftBy, reachesOutput, deviceLeft}
+use Rattle.model.specs.PortMarks.{InGone, InSuspend, RunBit, RunTested, NoMidi, cableOut, busSuspended, midiSleeps}
 use Rattle.model.proofs.Fields.{Fields, Keeps, fields-then, fields-if, keeps-then, keeps-if, keeps-nothing, keeps-one, keeps-bus, keeps-page, keeps-runs, keeps-here}
 use Rattle.model.proofs.OneBlock.{talking, getsTo, gets-closed}
 use Rattle.model.proofs.History.{four}
@@ -560,25 +560,39 @@ module _ (t : ℕ) (w : World) where
       is-test (suspended-is ∙ ap (λ (g : Bool). pick g (w .state .port .suspended) (asleepAt t w)) (unset (goneAt t w) (λ e. here-still (gone-spans t w .0 e))))
       (suspend-span t w)
 
-  pub suspend-gone : InGone (w .settings) t → next .state .port .suspended ≡ w .state .port .suspended
-  suspend-gone out = suspended-is ∙ ap (λ (g : Bool). pick g (w .state .port .suspended) (asleepAt t w)) (gone-spans t w .1 out)
+  pub suspend-kept : InGone (w .settings) t → next .state .port .suspended ≡ w .state .port .suspended
+  suspend-kept out = suspended-is ∙ ap (λ (g : Bool). pick g (w .state .port .suspended) (asleepAt t w)) (gone-spans t w .1 out)
 
-  -- 430-447: with the device stack, RS as it was read, in a microframe neither gone nor suspended; so it is cleared where the device left
+  -- 430-447: with the device stack, RS as it was read, in a microframe neither gone nor suspended
   running-is : next .state .port .«was_running» ≡ pick (goneAt t w || asleepAt t w) (w .state .port .«was_running») (pick (w .settings .«device_stack») (rsSet w) (w .state .port .«was_running»))
   running-is = ap (λ (k : PortMarks). k .running) (marks-microframe t w)
 
-  pub run-mark : w .settings .«device_stack» ≡ true → ¬ InGone (w .settings) t → ¬ InSuspend (w .settings) t → (next .state .port .«was_running» ≡ true) ↔ RunBit (w .memory .page)
-  run-mark stack here-still awake = is-test (running-is ∙ simp (stack, unset (goneAt t w) (λ e. here-still (gone-spans t w .0 e)), unset (asleepAt t w) (λ e. awake (suspend-span t w .0 e)))) (run-bit w)
+  pub run-mark : RunTested (w .settings) t → (next .state .port .«was_running» ≡ true) ↔ RunBit (w .memory .page)
+  run-mark r =
+      is-test (running-is ∙ simp (r .stack, unset (goneAt t w) (λ e. r .present (gone-spans t w .0 e)), unset (asleepAt t w) (λ e. r .awake (suspend-span t w .0 e))))
+      (run-bit w)
 
-  pub run-stack : w .settings .«device_stack» ≡ false → next .state .port .«was_running» ≡ w .state .port .«was_running»
-  run-stack e = running-is ∙ ap (λ (b : Bool). pick (goneAt t w || asleepAt t w) (w .state .port .«was_running») (pick b (rsSet w) (w .state .port .«was_running»))) e ∙ pick-same (goneAt t w || asleepAt t w) _
+  -- and otherwise as before
+  pub run-kept : ¬ RunTested (w .settings) t → next .state .port .«was_running» ≡ w .state .port .«was_running»
+  run-kept n = running-is ∙ by (goneAt t w) (asleepAt t w) (w .settings .«device_stack») refl refl refl
+    where
+      by : (g s stack : Bool) → goneAt t w ≡ g → asleepAt t w ≡ s → w .settings .«device_stack» ≡ stack
+          → pick (g || s) (w .state .port .«was_running») (pick stack (rsSet w) (w .state .port .«was_running»)) ≡ w .state .port .«was_running»
+      by true s stack x y z = refl
+      by false true stack x y z = refl
+      by false false false x y z = refl
+      by false false true x y z =
+          absurd (n (record { stack = z; present = λ i. false-true (sym x ∙ gone-spans t w .1 i); awake = λ i. false-true (sym y ∙ suspend-span t w .1 i) }))
 
-  pub run-gone : InGone (w .settings) t → next .state .port .«was_running» ≡ w .state .port .«was_running»
-  run-gone out = running-is ∙ ap (λ (b : Bool). pick (b || asleepAt t w) (w .state .port .«was_running») (pick (w .settings .«device_stack») (rsSet w) (w .state .port .«was_running»))) (gone-spans t w .1 out)
-
-  pub run-suspended : InSuspend (w .settings) t → next .state .port .«was_running» ≡ w .state .port .«was_running»
-  run-suspended in-span =
-      running-is ∙ ap (λ (b : Bool). pick b (w .state .port .«was_running») (pick (w .settings .«device_stack») (rsSet w) (w .state .port .«was_running»))) (or-second (goneAt t w) (asleepAt t w) (suspend-span t w .1 in-span))
+  -- 435-436: device left clears it
+  pub run-left : deviceLeft t w ≡ true → next .state .port .«was_running» ≡ false
+  unfolding leftBy
+  run-left e₀ =
+      let e₁ = and-second (not (goneAt t w)) _ e₀ in
+      let e₂ = and-second (not (asleepAt t w)) _ e₁ in
+      let e₃ = and-second (not (rsSet w)) _ e₂ in
+      running-is
+      ∙ simp (not-true (goneAt t w) (and-first (not (goneAt t w)) _ e₀), not-true (asleepAt t w) (and-first (not (asleepAt t w)) _ e₁), not-true (rsSet w) (and-first (not (rsSet w)) _ e₂), and-first (w .settings .«device_stack») _ e₃)
 
   -- 409, 427, 776: the microframes in which the host reads no MIDI are counted
   abbrev unread : Bool

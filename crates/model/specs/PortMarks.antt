@@ -32,6 +32,12 @@ InSleep c t = Between (c .sleep .from) (c .sleep .to) t
 abbrev pub RunBit : List ℕ → Type 0
 RunBit page = wordAt page 0x140 % 2 ≡ 1
 
+-- 430, by way of 408 and 426: a microframe that looks at RS
+pub record RunTested (c : Settings) (t : ℕ) : Type 0 where
+  pub stack : c .«device_stack» ≡ true
+  pub present : ¬ InGone c t
+  pub awake : ¬ InSuspend c t
+
 -- 409, 427, 776: the host reads no MIDI: gone, or suspended, or at its MIDI step in the sleep span; that step follows the audio output step
 pub data NoMidi (t : ℕ) (w : World) : Type 0 where
   cableOut : InGone (w .settings) t → NoMidi t w
