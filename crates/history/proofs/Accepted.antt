@@ -19,7 +19,7 @@ pub record Small (h : Host) : Type 0 where
   pub received : h .stats .«in_frames» ≤ 32767 * MOST
   pub sent : h .stats .«out_frames» ≤ 32767 * MOST
 
-bound-le : (k n : ℕ) → k * min n MOST ≤ k * MOST
+pub bound-le : (k n : ℕ) → k * min n MOST ≤ k * MOST
 bound-le k n = mul-le k (min n MOST) MOST (omega arith)
   where
     mul-le : (k a b : ℕ) → a ≤ b → k * a ≤ k * b

@@ -9,3 +9,4 @@ pub mod Accepts
 pub mod Owned
 pub mod Contracts
 pub mod Parts
+pub mod PortMarks

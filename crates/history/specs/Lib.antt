@@ -3,3 +3,4 @@ pub mod Reach
 pub mod Rings
 pub mod Sums
 pub mod Accepts
+pub mod PortMarks
