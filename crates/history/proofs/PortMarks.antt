@@ -29,7 +29,7 @@ use Rattle.usbhost.specs.Calls.{bounded, midiNumber, midiQueued, midiSent, seri
 use Rattle.usbhost.specs.Frame.{Lent, worldOf, hostIn, boundsOk, frameNumber, framed}
 use Rattle.usbhost.proofs.Frame.{accepted-tests}
 use Rattle.history.specs.Calls.{Call, microframe, midiSend, serialSend, frameGive, frameTake, deviceRead, deviceWrite, step, after}
-use Rattle.history.specs.PortMarks.{later, lastOf, timeOf, pageOf, Some, HostBack, DeviceLeft}
+use Rattle.history.specs.PortMarks.{later, lastBrought, timeOf, pageOf, Some, HostBack, DeviceLeft}
 use Rattle.history.proofs.Accepted.{bound-le}
 
 -- ---- an accepted microframe
@@ -52,7 +52,7 @@ module _ (h : Host) (t : ℕ) (l : Lent) (e : frameNumber h l ≡ 0) where
 
   -- suspend
   pub call-suspend : ¬ InGone (h .settings) t → (next .port .suspended ≡ true) ↔ InSuspend (h .settings) t
-  call-suspend here-still = is-test (ap (λ (x : Host). x .port .suspended) next-is) (suspend-mark t (worldOf h l) here-still)
+  call-suspend present = is-test (ap (λ (x : Host). x .port .suspended) next-is) (suspend-mark t (worldOf h l) present)
 
   pub call-suspend-kept : InGone (h .settings) t → next .port .suspended ≡ h .port .suspended
   call-suspend-kept out = ap (λ (x : Host). x .port .suspended) next-is ∙ suspend-kept t (worldOf h l) out
@@ -159,8 +159,8 @@ settings-after h (c ∷ cs) = settings-after (step h c) cs ∙ settings-step h c
 -- a mark that each call makes to be what the last of those that brought something says
 module _ {A : Type 0} (s : Settings) (brings : Host → Call → Option A) (P : A → Type 0) (mark : Host → Bool)
     (steps : (h : Host) (c : Call) (o : Option A) → h .settings ≡ s → (mark h ≡ true) ↔ Some P o → (mark (step h c) ≡ true) ↔ Some P (later o (brings h c))) where
-  marked : (h : Host) (cs : List Call) (o : Option A) → h .settings ≡ s → (mark h ≡ true) ↔ Some P o → (mark (after h cs) ≡ true) ↔ Some P (lastOf brings h o cs)
-  unfolding after lastOf
+  marked : (h : Host) (cs : List Call) (o : Option A) → h .settings ≡ s → (mark h ≡ true) ↔ Some P o → (mark (after h cs) ≡ true) ↔ Some P (lastBrought brings h o cs)
+  unfolding after lastBrought
   marked h [] o e m = m
   marked h (c ∷ cs) o e m = marked (step h c) cs (later o (brings h c)) (settings-step h c ∙ e) (steps h c o e m)
 
@@ -182,7 +182,7 @@ gone-step s h (deviceRead page off size) o e m = is-test (marks-stay h (deviceRe
 gone-step s h (deviceWrite page off size v) o e m = is-test (marks-stay h (deviceWrite page off size v) tt .gone) m
 
 -- the gone mark is whether the time of the last accepted microframe lies in a gone span
-pub gone-history : (s : Settings) (cs : List Call) → (after (newHost s) cs .port .gone ≡ true) ↔ Some (InGone s) (lastOf timeOf (newHost s) none cs)
+pub gone-history : (s : Settings) (cs : List Call) → (after (newHost s) cs .port .gone ≡ true) ↔ Some (InGone s) (lastBrought timeOf (newHost s) none cs)
 unfolding newHost
 gone-history s cs = marked s timeOf (InGone s) (λ h. h .port .gone) (gone-step s) (newHost s) cs none refl (false-true, λ x. absurd x)
 
@@ -214,7 +214,7 @@ run-step s stack h (deviceRead page off size) o e m = is-test (marks-stay h (dev
 run-step s stack h (deviceWrite page off size v) o e m = is-test (marks-stay h (deviceWrite page off size v) tt .running) m
 
 -- with the device stack the run mark is RS of the last accepted microframe that was neither gone nor suspended
-pub run-history : (s : Settings) → s .«device_stack» ≡ true → (cs : List Call) → (after (newHost s) cs .port .«was_running» ≡ true) ↔ Some RunBit (lastOf pageOf (newHost s) none cs)
+pub run-history : (s : Settings) → s .«device_stack» ≡ true → (cs : List Call) → (after (newHost s) cs .port .«was_running» ≡ true) ↔ Some RunBit (lastBrought pageOf (newHost s) none cs)
 unfolding newHost
 run-history s stack cs = marked s pageOf RunBit (λ h. h .port .«was_running») (run-step s stack) (newHost s) cs none refl (false-true, λ x. absurd x)
 
@@ -243,7 +243,7 @@ module _ (s : Settings) (cs : List Call) (t : ℕ) (l : Lent) where
   not-gone e i = false-true (sym (not-true _ e) ∙ gone-then .1 i)
 
   -- document 01, "Host record": the credit is reset when a gone span ends
-  pub back-history : (comesBack t (worldOf before l) ≡ true) ↔ HostBack s t (lastOf timeOf (newHost s) none cs)
+  pub back-history : (comesBack t (worldOf before l) ≡ true) ↔ HostBack s t (lastBrought timeOf (newHost s) none cs)
   unfolding backBy
   back-history =
       let g = goneAt t (worldOf before l) in (
@@ -252,14 +252,14 @@ module _ (s : Settings) (cs : List Call) (t : ℕ) (l : Lent) where
       )
 
   -- and, with the device stack, when the firmware clears the run bit of USBCMD after having set it
-  pub left-history : (deviceLeft t (worldOf before l) ≡ true) ↔ DeviceLeft s t (l .memory .page) (lastOf pageOf (newHost s) none cs)
+  pub left-history : (deviceLeft t (worldOf before l) ≡ true) ↔ DeviceLeft s t (l .memory .page) (lastBrought pageOf (newHost s) none cs)
   unfolding leftBy
   left-history = (to, from)
     where
       stack-then : before .settings .«device_stack» ≡ s .«device_stack»
       stack-then = ap (λ (c : Settings). c .«device_stack») settings-new
 
-      to : deviceLeft t (worldOf before l) ≡ true → DeviceLeft s t (l .memory .page) (lastOf pageOf (newHost s) none cs)
+      to : deviceLeft t (worldOf before l) ≡ true → DeviceLeft s t (l .memory .page) (lastBrought pageOf (newHost s) none cs)
       to e₀ =
           let e₁ = and-second (not (goneAt t (worldOf before l))) _ e₀ in
           let e₂ = and-second (not (asleepAt t (worldOf before l))) _ e₁ in
@@ -275,7 +275,7 @@ module _ (s : Settings) (cs : List Call) (t : ℕ) (l : Lent) where
             stopped = λ r. false-true (sym (not-true _ (and-first (not (rsSet (worldOf before l))) _ e₂)) ∙ run-bit (worldOf before l) .1 r);
           }
 
-      from : DeviceLeft s t (l .memory .page) (lastOf pageOf (newHost s) none cs) → deviceLeft t (worldOf before l) ≡ true
+      from : DeviceLeft s t (l .memory .page) (lastBrought pageOf (newHost s) none cs) → deviceLeft t (worldOf before l) ≡ true
       from d =
           and-both _ _ (unset (goneAt t (worldOf before l)) (λ e. d .tested .present (gone-then .0 e)))
           (and-both _ _ (unset (asleepAt t (worldOf before l)) (λ e. d .tested .awake (suspend-then .0 e)))

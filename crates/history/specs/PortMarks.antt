@@ -4,27 +4,27 @@ use Prim.Native.Nat.{ℕ}
 use mathlib.Core.Bool.{not, _&&_}
 use mathlib.Core.List.{List, [], _∷_}
 use mathlib.Core.Option.{Option, none, some}
-use lib.Dec.{eqb}
 use Rattle.bits.specs.Pick.{pick}
 use Rattle.record.specs.declared.Settings.{Settings}
 use Rattle.model.specs.Microframe.{goneAt, asleepAt}
 use Rattle.model.specs.PortMarks.{InGone, RunBit, RunTested}
 use Rattle.usbhost.specs.declared.Host.{Host}
-use Rattle.usbhost.specs.Frame.{worldOf, frameNumber}
+use Rattle.usbhost.specs.Frame.{worldOf}
 use Rattle.history.specs.Calls.{Call, microframe, midiSend, serialSend, frameGive, frameTake, deviceRead, deviceWrite, step}
+use Rattle.history.specs.Reach.{accepted}
 
 -- the last of what the calls of a list bring, of which some bring nothing; o: what those before brought
 abbrev pub later : {A : Type 0} → Option A → Option A → Option A
 later o none = o
 later o (some a) = some a
 
-unfoldable pub lastOf : {A : Type 0} → (Host → Call → Option A) → Host → Option A → List Call → Option A
-lastOf brings h o [] = o
-lastOf brings h o (c ∷ cs) = lastOf brings (step h c) (later o (brings h c)) cs
+unfoldable pub lastBrought : {A : Type 0} → (Host → Call → Option A) → Host → Option A → List Call → Option A
+lastBrought brings h o [] = o
+lastBrought brings h o (c ∷ cs) = lastBrought brings (step h c) (later o (brings h c)) cs
 
 -- the time of an accepted microframe
 unfoldable pub timeOf : Host → Call → Option ℕ
-timeOf h (microframe t l) = pick (eqb (frameNumber h l) 0) (some t) none
+timeOf h (microframe t l) = pick (accepted h l) (some t) none
 timeOf h (midiSend bs) = none
 timeOf h (serialSend bs) = none
 timeOf h (frameGive f sending) = none
@@ -32,10 +32,10 @@ timeOf h (frameTake received) = none
 timeOf h (deviceRead page off size) = none
 timeOf h (deviceWrite page off size v) = none
 
--- the register page of one that is neither gone nor suspended, as it was lent
+-- the register page of one that is neither gone nor suspended (laws gone-spans, suspend-span), as it was lent
 unfoldable pub pageOf : Host → Call → Option (List ℕ)
 pageOf h (microframe t l) =
-    pick (eqb (frameNumber h l) 0 && (not (goneAt t (worldOf h l)) && not (asleepAt t (worldOf h l)))) (some (l .memory .page)) none
+    pick (accepted h l && (not (goneAt t (worldOf h l)) && not (asleepAt t (worldOf h l)))) (some (l .memory .page)) none
 pageOf h (midiSend bs) = none
 pageOf h (serialSend bs) = none
 pageOf h (frameGive f sending) = none

@@ -372,35 +372,35 @@ marks-others c t u =
     stack = search (still, still-writes, still-vendor)
 
 -- the MIDI step is asleep, where it is made
-abbrev napping : Settings → ℕ → Bool
-napping c t = c .«midi_in» && within (c .sleep) t
+abbrev midiAsleep : Settings → ℕ → Bool
+midiAsleep c t = c .«midi_in» && within (c .sleep) t
 
-serial-or : (st cd nap : Bool) (k : PortMarks) → pick st (pick cd k (counting nap k)) k ≡ counting (st && (not cd && nap)) k
-serial-or true true nap k = refl
-serial-or true false nap k = refl
-serial-or false cd nap k = refl
+serial-or : (st cd asleep : Bool) (k : PortMarks) → pick st (pick cd k (counting asleep k)) k ≡ counting (st && (not cd && asleep)) k
+serial-or true true asleep k = refl
+serial-or true false asleep k = refl
+serial-or false cd asleep k = refl
 
-marks-transfers : (c : Settings) (t : ℕ) (u : World) → marksOf (left (transfers c t) u) ≡ counting (streaming (u .state .phase) && (not (c .cdc) && napping c t)) (marksOf u)
+marks-transfers : (c : Settings) (t : ℕ) (u : World) → marksOf (left (transfers c t) u) ≡ counting (streaming (u .state .phase) && (not (c .cdc) && midiAsleep c t)) (marksOf u)
 unfolding transfers
 marks-transfers c t u =
     fields-if marks _ _ _ u
     ∙ pick-eq (streaming (u .state .phase))
-    (fields-if marks _ _ _ u ∙ pick-eq (c .cdc) (still-serves u) (fields-then marks streams (others c t) u ∙ marks-others c t _ ∙ ap (counting (napping c t)) (still-streams u)))
+    (fields-if marks _ _ _ u ∙ pick-eq (c .cdc) (still-serves u) (fields-then marks streams (others c t) u ∙ marks-others c t _ ∙ ap (counting (midiAsleep c t)) (still-streams u)))
     (keeps-nothing marks u)
-    ∙ serial-or (streaming (u .state .phase)) (c .cdc) (napping c t) (marksOf u)
+    ∙ serial-or (streaming (u .state .phase)) (c .cdc) (midiAsleep c t) (marksOf u)
 
 -- 497-503: from the choice by phase on the MIDI step is made
 abbrev toMidi : Settings → ℕ → Bool → World → Bool
-toMidi c t rs v = rs && (streaming (left (enumerates c) v .state .phase) && (not (c .cdc) && napping c t))
+toMidi c t rs v = rs && (streaming (left (enumerates c) v .state .phase) && (not (c .cdc) && midiAsleep c t))
 
 marks-talks : (c : Settings) (t : ℕ) (rs : Bool) (v : World) → marksOf (left (talks c t rs) v) ≡ counting (toMidi c t rs v) (marksOf v)
 unfolding talks
 marks-talks c t rs v =
     let u = left (enumerates c) v in
-    let nap = streaming (u .state .phase) && (not (c .cdc) && napping c t) in
+    let asleep = streaming (u .state .phase) && (not (c .cdc) && midiAsleep c t) in
     fields-if marks _ _ _ v
-    ∙ pick-eq rs (fields-then marks (enumerates c) (transfers c t) v ∙ marks-transfers c t u ∙ ap (counting nap) (still-enumerates c v)) (keeps-nothing marks v)
-    ∙ count-and rs nap (marksOf v)
+    ∙ pick-eq rs (fields-then marks (enumerates c) (transfers c t) v ∙ marks-transfers c t u ∙ ap (counting asleep) (still-enumerates c v)) (keeps-nothing marks v)
+    ∙ count-and rs asleep (marksOf v)
 
 marks-at : (c : Settings) (t : ℕ) (rs : Bool) (p : Phase) (v : World) → marksOf (left (atPhase c t rs p) v) ≡ counting (talking p && toMidi c t rs v) (marksOf v)
 marks-at c t rs Idle v = still-idles v
@@ -409,17 +409,17 @@ marks-at c t rs Reset v = still-resets v
 marks-at c t rs Enumerate v = marks-talks c t rs v
 marks-at c t rs Stream v = marks-talks c t rs v
 
-regroup : (p rs st au nap : Bool) → (p && (rs && (st && (au && nap)))) ≡ ((p && (rs && (st && au))) && nap)
-regroup true true true au nap = refl
-regroup true true false au nap = refl
-regroup true false st au nap = refl
-regroup false rs st au nap = refl
+regroup : (p rs st au asleep : Bool) → (p && (rs && (st && (au && asleep)))) ≡ ((p && (rs && (st && au))) && asleep)
+regroup true true true au asleep = refl
+regroup true true false au asleep = refl
+regroup true false st au asleep = refl
+regroup false rs st au asleep = refl
 
-marks-by : (c : Settings) (t : ℕ) (rs : Bool) (v : World) → marksOf (left (byPhase c t rs) v) ≡ counting (getsTo c rs v && napping c t) (marksOf v)
+marks-by : (c : Settings) (t : ℕ) (rs : Bool) (v : World) → marksOf (left (byPhase c t rs) v) ≡ counting (getsTo c rs v && midiAsleep c t) (marksOf v)
 unfolding byPhase here
 marks-by c t rs v =
     marks-at c t rs (v .state .phase) v
-    ∙ ap (λ (b : Bool). counting b (marksOf v)) (regroup (talking (v .state .phase)) rs (streaming (left (enumerates c) v .state .phase)) (not (c .cdc)) (napping c t))
+    ∙ ap (λ (b : Bool). counting b (marksOf v)) (regroup (talking (v .state .phase)) rs (streaming (left (enumerates c) v .state .phase)) (not (c .cdc)) (midiAsleep c t))
 
 -- ---- the three marks
 
@@ -513,7 +513,7 @@ abbrev pub markedBy : ℕ → Bool → Bool → Bool → World → PortMarks
 markedBy t rs g s w =
     marksBy g (pick g (w .state .port .suspended) s)
     (pick (g || s) (w .state .port .«was_running») (pick (w .settings .«device_stack») rs (w .state .port .«was_running»)))
-    (pick (g || (s || (outputBy rs g s w && napping (w .settings) t))) (wrapped (w .state .stats .«midi_asleep» + 1)) (w .state .stats .«midi_asleep»))
+    (pick (g || (s || (outputBy rs g s w && midiAsleep (w .settings) t))) (wrapped (w .state .stats .«midi_asleep» + 1)) (w .state .stats .«midi_asleep»))
 
 marks-frame : (t : ℕ) (rs g s : Bool) (w : World) → marksOf (left (frameOf (w .settings) t rs g s) w) ≡ markedBy t rs g s w
 unfolding frameOf outputBy phaseBy toPhase
@@ -526,8 +526,8 @@ marks-frame t rs false false w =
     let closed = not (w .state .port .gone) && (rs && (not (c .cdc) && streamsIn w)) in
     ap marksOf (four (opens c false) (suspends false) (leaves (c .«device_stack») rs) (byPhase c t rs) w)
     ∙ marks-by c t rs (phaseBy rs w)
-    ∙ ap (λ (b : Bool). counting (b && napping c t) (marksOf (phaseBy rs w))) (gets-closed rs (w .state .port .gone) w refl)
-    ∙ ap (counting (closed && napping c t)) (marks-phase rs w)
+    ∙ ap (λ (b : Bool). counting (b && midiAsleep c t) (marksOf (phaseBy rs w))) (gets-closed rs (w .state .port .gone) w refl)
+    ∙ ap (counting (closed && midiAsleep c t)) (marks-phase rs w)
 
 pub marks-microframe : (t : ℕ) (w : World) → marksOf (left (microframe t) w) ≡ markedBy t (rsSet w) (goneAt t w) (asleepAt t w) w
 unfolding microframe here
@@ -556,8 +556,8 @@ module _ (t : ℕ) (w : World) where
   suspended-is = ap (λ (k : PortMarks). k .suspended) (marks-microframe t w)
 
   pub suspend-mark : ¬ InGone (w .settings) t → (next .state .port .suspended ≡ true) ↔ InSuspend (w .settings) t
-  suspend-mark here-still =
-      is-test (suspended-is ∙ ap (λ (g : Bool). pick g (w .state .port .suspended) (asleepAt t w)) (unset (goneAt t w) (λ e. here-still (gone-spans t w .0 e))))
+  suspend-mark present =
+      is-test (suspended-is ∙ ap (λ (g : Bool). pick g (w .state .port .suspended) (asleepAt t w)) (unset (goneAt t w) (λ e. present (gone-spans t w .0 e))))
       (suspend-span t w)
 
   pub suspend-kept : InGone (w .settings) t → next .state .port .suspended ≡ w .state .port .suspended
@@ -596,25 +596,25 @@ module _ (t : ℕ) (w : World) where
 
   -- 409, 427, 776: the microframes in which the host reads no MIDI are counted
   abbrev unread : Bool
-  unread = goneAt t w || (asleepAt t w || (reachesOutput t w && napping (w .settings) t))
+  unread = goneAt t w || (asleepAt t w || (reachesOutput t w && midiAsleep (w .settings) t))
 
   read-or-not : (unread ≡ true) ↔ NoMidi t w
   read-or-not = (to, from)
     where
-      rests : (reachesOutput t w && napping (w .settings) t) ≡ true → NoMidi t w
+      rests : (reachesOutput t w && midiAsleep (w .settings) t) ≡ true → NoMidi t w
       rests e =
-          let n = and-second (reachesOutput t w) (napping (w .settings) t) e in
-          midiSleeps (and-first (reachesOutput t w) (napping (w .settings) t) e) (and-first (w .settings .«midi_in») (within (w .settings .sleep) t) n)
+          let n = and-second (reachesOutput t w) (midiAsleep (w .settings) t) e in
+          midiSleeps (and-first (reachesOutput t w) (midiAsleep (w .settings) t) e) (and-first (w .settings .«midi_in») (within (w .settings .sleep) t) n)
           (within-between (w .settings .sleep) t .0 (and-second (w .settings .«midi_in») (within (w .settings .sleep) t) n))
 
       to : unread ≡ true → NoMidi t w
       to e =
-          or-case (goneAt t w) (asleepAt t w || (reachesOutput t w && napping (w .settings) t)) e (λ g. cableOut (gone-spans t w .0 g))
-          (λ f. or-case (asleepAt t w) (reachesOutput t w && napping (w .settings) t) f (λ s. busSuspended (suspend-span t w .0 s)) rests)
+          or-case (goneAt t w) (asleepAt t w || (reachesOutput t w && midiAsleep (w .settings) t)) e (λ g. cableOut (gone-spans t w .0 g))
+          (λ f. or-case (asleepAt t w) (reachesOutput t w && midiAsleep (w .settings) t) f (λ s. busSuspended (suspend-span t w .0 s)) rests)
 
       from : NoMidi t w → unread ≡ true
-      from (cableOut g) = ap (λ (b : Bool). b || (asleepAt t w || (reachesOutput t w && napping (w .settings) t))) (gone-spans t w .1 g)
-      from (busSuspended s) = or-second (goneAt t w) _ (ap (λ (b : Bool). b || (reachesOutput t w && napping (w .settings) t)) (suspend-span t w .1 s))
+      from (cableOut g) = ap (λ (b : Bool). b || (asleepAt t w || (reachesOutput t w && midiAsleep (w .settings) t))) (gone-spans t w .1 g)
+      from (busSuspended s) = or-second (goneAt t w) _ (ap (λ (b : Bool). b || (reachesOutput t w && midiAsleep (w .settings) t)) (suspend-span t w .1 s))
       from (midiSleeps r m s) =
           or-second (goneAt t w) _
           (or-second (asleepAt t w) _ (and-both (reachesOutput t w) _ r (and-both (w .settings .«midi_in») _ m (within-between (w .settings .sleep) t .1 s))))
