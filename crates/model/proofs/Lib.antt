@@ -28,4 +28,6 @@ pub mod Flagged
 pub mod Transferring
 pub mod Requests
 pub mod Spans
+pub mod Plain
 pub mod PortMarks
+pub mod Unread

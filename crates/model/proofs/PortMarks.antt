@@ -3,28 +3,25 @@
 use Prim.Native.Nat.{ℕ, zero, suc, _+_, _%_, _^_}
 use mathlib.Core.Path.{_≡_, refl, ap, sym, _∙_}
 use mathlib.Core.Bool.{Bool, true, false, not, _&&_, _||_}
-use mathlib.Core.List.{List, [], _∷_}
 use mathlib.Core.Logic.{_↔_}
 use Rattle.bits.specs.Pick.{pick, pick-eq}
 use Rattle.bits.proofs.Tests.{false-true, not-true, and-first, and-second, and-both, or-case, or-second}
-use Rattle.dtd.specs.Dtd.{Run}
-use Rattle.config.specs.Config.{Choice}
 use Rattle.record.specs.declared.Phase.{Phase}
 use Rattle.record.specs.declared.Phase.the-variants.{Idle, Vbus, Reset, Enumerate, Stream}
 use Rattle.record.specs.declared.Settings.{Settings}
 use Rattle.record.specs.Record.{wrapped, counted, Counter, microframes, «in_transfers», «out_transfers», «in_frames», «out_frames», «bad_blocks», «midi_dtds», «midi_asleep», «out_underruns», «midi_packets_out», «vendor_in_bytes», restarts, enumerations}
 use Rattle.record.specs.World.{World}
-use Rattle.record.specs.Change.{Change, bus, ran, lost, count, uf, phase, started, gone, suspended, wasRunning, credit, budget, counter, block, timers, control, queued, popped, pushed, cleared, reply, device, config, forgot, midi, serial, received, frame, taken, apply, Step, left, _then_, nothing, when, one, here}
-use Rattle.model.specs.Phases.{within, counts, ticks, dropsRequest, forgets, unplugging, returns, cable, sleeps, suspends, enters, departs, leaves, idles, powers, resets, startsFrame}
-use Rattle.model.specs.Control.{toStatus, posted, posts, configured, keepsReply, dataStage, asksWhole, chooses, configures, finishes, statusEnds, statusStage, unstalls, stages, controls}
-use Rattle.model.specs.Streams.{naks, reads, midiIn, drainsSerial, serialStep, drainsMidi, midiOut, readsVendor}
-use Rattle.model.specs.Audio.{addsBudget, clearsBudget, keepsFrames, keepsGood, keepsBlock, keepsBlocks, keepsRun, inputs, streamIn, sendsBlock, unprimes, streamOut, streams}
+use Rattle.record.specs.Change.{Change, bus, ran, lost, count, uf, phase, started, gone, suspended, wasRunning, credit, budget, counter, block, timers, control, queued, popped, pushed, cleared, reply, device, config, forgot, midi, serial, received, frame, taken, apply, left, _then_, nothing, when, one, here}
+use Rattle.model.specs.Phases.{within, ticks, forgets, unplugging, cable, sleeps, suspends, enters, departs, leaves}
+use Rattle.model.specs.Streams.{reads, midiIn, drainsSerial, serialStep, midiOut, readsVendor}
+use Rattle.model.specs.Audio.{streams}
 use Rattle.model.specs.Microframe.{rsSet, goneAt, asleepAt, streaming, opens, enumerates, others, transfers, talks, atPhase, byPhase, frameOf, microframe}
 use Rattle.model.specs.Reach.{streamsIn, toPhase, phaseBy, outputBy, leftBy, reachesOutput, deviceLeft}
 use Rattle.model.specs.PortMarks.{InGone, InSuspend, RunBit, RunTested, NoMidi, cableOut, busSuspended, midiSleeps}
 use Rattle.model.proofs.Fields.{Fields, Keeps, fields-then, fields-if, keeps-then, keeps-if, keeps-nothing, keeps-one, keeps-bus, keeps-page, keeps-runs, keeps-here}
 use Rattle.model.proofs.OneBlock.{talking, getsTo, gets-closed}
 use Rattle.model.proofs.History.{four}
+use Rattle.model.proofs.Plain.{plain, plainCounter, still-counts, still-ticks, still-forgets, still-returns, still-enters, still-idles, still-powers, still-resets, still-enumerates, still-naks, still-streams, still-writes, still-vendor}
 use Rattle.model.proofs.Spans.{within-between, gone-spans, suspend-span, run-bit}
 
 pub record PortMarks : Type 0 where
@@ -146,111 +143,53 @@ marks =
 
 -- ---- from the choice by phase on no step changes them but the MIDI step in its sleep span
 
-keeps-pick : (t : Bool) (f g : Step) → Keeps marks f → Keeps marks g → Keeps marks (pick t f g)
-keeps-pick true f g p q = p
-keeps-pick false f g p q = q
+marks-counter : (c : Counter) → plainCounter c ≡ true → (n : ℕ) (k : PortMarks) → marksOn (count c n) k ≡ k
+marks-counter microframes e n k = refl
+marks-counter «in_transfers» e n k = refl
+marks-counter «out_transfers» e n k = refl
+marks-counter «in_frames» e n k = refl
+marks-counter «out_frames» e n k = refl
+marks-counter «bad_blocks» e n k = refl
+marks-counter «midi_dtds» e n k = absurd (false-true e)
+marks-counter «midi_asleep» e n k = absurd (false-true e)
+marks-counter «out_underruns» e n k = refl
+marks-counter «midi_packets_out» e n k = refl
+marks-counter «vendor_in_bytes» e n k = refl
+marks-counter restarts e n k = refl
+marks-counter enumerations e n k = refl
 
-ruleset still = (keeps-then, keeps-if, keeps-nothing, keeps-one, keeps-bus, keeps-page, keeps-runs, keeps-here, keeps-pick)
+marks-plain : (c : Change) → plain c ≡ true → (k : PortMarks) → marksOn c k ≡ k
+marks-plain (bus s) h k = refl
+marks-plain (ran e r n) h k = refl
+marks-plain (lost n) h k = refl
+marks-plain (count c n) h k = marks-counter c h n k
+marks-plain (uf n) h k = refl
+marks-plain (phase p) h k = refl
+marks-plain (started n) h k = refl
+marks-plain (gone b) h k = absurd (false-true h)
+marks-plain (suspended b) h k = absurd (false-true h)
+marks-plain (wasRunning b) h k = absurd (false-true h)
+marks-plain (credit n) h k = refl
+marks-plain (budget n) h k = refl
+marks-plain (counter n) h k = refl
+marks-plain (block n m) h k = refl
+marks-plain (timers ts) h k = refl
+marks-plain (control c) h k = refl
+marks-plain (queued bs) h k = refl
+marks-plain popped h k = refl
+marks-plain (pushed bs) h k = refl
+marks-plain cleared h k = refl
+marks-plain (reply n bs) h k = refl
+marks-plain (device bs) h k = refl
+marks-plain (config bs) h k = refl
+marks-plain forgot h k = refl
+marks-plain (midi n) h k = refl
+marks-plain (serial n) h k = refl
+marks-plain (received bs) h k = absurd (false-true h)
+marks-plain (frame f) h k = refl
+marks-plain (taken n) h k = refl
 
-still-counts : Keeps marks counts
-unfolding counts
-still-counts = search still
-
-still-ticks : Keeps marks ticks
-unfolding ticks
-still-ticks = search still depth 8
-
-still-drops : Keeps marks dropsRequest
-unfolding dropsRequest
-still-drops = search still
-
-still-forgets : Keeps marks forgets
-unfolding forgets
-still-forgets = search (still, still-drops) depth 12
-
-still-enters : (p : Phase) → Keeps marks (enters p)
-unfolding enters
-still-enters p = search still depth 8
-
-still-idles : Keeps marks idles
-unfolding idles
-still-idles = search (still, still-enters)
-
-still-powers : (rs : Bool) → Keeps marks (powers rs)
-unfolding powers
-still-powers rs = search (still, still-enters)
-
-still-resets : Keeps marks resets
-unfolding resets
-still-resets = search (still, still-enters) depth 8
-
-still-frame : Keeps marks startsFrame
-unfolding startsFrame
-still-frame = search still
-
-still-status : Keeps marks toStatus
-unfolding toStatus
-still-status = search still
-
-still-posted : (qh first second : ℕ) → Keeps marks (posted qh first second)
-unfolding posted
-still-posted qh first second = search still depth 12
-
-still-posts : Keeps marks posts
-unfolding posts
-still-posts = search (still, still-posted)
-
-still-configured : Keeps marks configured
-unfolding configured
-still-configured = search still depth 8
-
-still-reply : (r : Run) → Keeps marks (keepsReply r)
-unfolding keepsReply
-still-reply r = search (still, still-status) depth 8
-
-still-data : Keeps marks dataStage
-unfolding dataStage
-still-data = search (still, still-status, still-reply) depth 8
-
-still-whole : Keeps marks asksWhole
-unfolding asksWhole
-still-whole = search still
-
-still-chooses : (c : Choice) → Keeps marks (chooses c)
-unfolding chooses
-still-chooses c = search still depth 8
-
-still-configures : (stack : Bool) → Keeps marks (configures stack)
-unfolding configures
-still-configures stack = search (still, still-chooses) depth 8
-
-still-finishes : (stack : Bool) → Keeps marks (finishes stack)
-unfolding finishes
-still-finishes stack = search (still, still-drops, still-whole, still-configures) depth 8
-
-still-ends : (stack : Bool) (r : Run) → Keeps marks (statusEnds stack r)
-unfolding statusEnds
-still-ends stack r = search (still, still-finishes, still-drops) depth 8
-
-still-last : (stack : Bool) → Keeps marks (statusStage stack)
-unfolding statusStage
-still-last stack = search (still, still-ends)
-
-still-unstalls : Keeps marks unstalls
-unfolding unstalls
-still-unstalls = search (still, still-drops)
-
-still-stages : (stack : Bool) → Keeps marks (stages stack)
-unfolding stages
-still-stages stack = search (still, still-last, still-data, still-drops) depth 8
-
-still-controls : (stack : Bool) → Keeps marks (controls stack)
-unfolding controls
-still-controls stack = search (still, still-stages, still-unstalls, still-configured, still-posts) depth 8
-
-still-enumerates : (c : Settings) → Keeps marks (enumerates c)
-unfolding enumerates
-still-enumerates c = search (still, still-frame, still-controls)
+ruleset still = (keeps-then, keeps-if, keeps-nothing, keeps-one, keeps-bus, keeps-page, keeps-runs, keeps-here)
 
 still-reads : (n : ℕ) → Keeps marks (reads n)
 unfolding reads
@@ -259,10 +198,6 @@ still-reads (suc n) =
     let rest : Keeps marks (reads n) = still-reads n in
     search (still, rest) depth 8
 
-still-naks : Keeps marks naks
-unfolding naks
-still-naks = search still
-
 still-serial : (n : ℕ) → Keeps marks (drainsSerial n)
 unfolding drainsSerial
 still-serial n = search still depth 8
@@ -270,72 +205,6 @@ still-serial n = search still depth 8
 still-serves : Keeps marks serialStep
 unfolding serialStep
 still-serves = search (still, still-serial) depth 8
-
-still-drains : (n : ℕ) → Keeps marks (drainsMidi n)
-unfolding drainsMidi
-still-drains n = search still depth 8
-
-still-writes : Keeps marks midiOut
-unfolding midiOut
-still-writes = search (still, still-drains)
-
-still-vendor : Keeps marks readsVendor
-unfolding readsVendor
-still-vendor = search still
-
-still-adds : Keeps marks addsBudget
-unfolding addsBudget
-still-adds = search still
-
-still-clears : Keeps marks clearsBudget
-unfolding clearsBudget
-still-clears = search still
-
-still-frames : (n : ℕ) (bs : List ℕ) → Keeps marks (keepsFrames n bs)
-unfolding keepsFrames
-still-frames zero bs = keeps-nothing marks
-still-frames (suc n) bs = keeps-then marks _ _ (keeps-one marks _ (λ w. refl)) (still-frames n _)
-
-still-good : (b : List ℕ) → Keeps marks (keepsGood b)
-unfolding keepsGood
-still-good b = search (still, still-frames)
-
-still-block : (b : List ℕ) → Keeps marks (keepsBlock b)
-unfolding keepsBlock
-still-block b = search (still, still-good)
-
-still-blocks : (bs : List (List ℕ)) → Keeps marks (keepsBlocks bs)
-unfolding keepsBlocks
-still-blocks [] = keeps-nothing marks
-still-blocks (b ∷ bs) = keeps-then marks _ _ (still-block b) (still-blocks bs)
-
-still-run : (r : Run) → Keeps marks (keepsRun r)
-unfolding keepsRun
-still-run r = search (still, still-blocks)
-
-still-inputs : Keeps marks inputs
-unfolding inputs
-still-inputs = search (still, still-run)
-
-still-hears : Keeps marks streamIn
-unfolding streamIn
-still-hears = search (still, still-adds, still-clears, still-inputs) depth 8
-
-still-sends : (bs : List ℕ) → Keeps marks (sendsBlock bs)
-unfolding sendsBlock
-still-sends bs = search still depth 12
-
-still-unprimes : Keeps marks unprimes
-unfolding unprimes
-still-unprimes = search still
-
-still-outputs : Keeps marks streamOut
-unfolding streamOut
-still-outputs = search (still, still-sends, still-unprimes) depth 8
-
-still-streams : Keeps marks streams
-unfolding streams
-still-streams = search (still, still-hears, still-outputs)
 
 -- ---- the steps that change them
 
@@ -353,7 +222,7 @@ marks-midi true every v = marks-sleeps v
 marks-midi false every v = awake v
   where
     awake : Keeps marks (midiIn false every)
-    awake = search (still, still-naks, still-reads) depth 8
+    awake = keeps-then marks _ _ (still-naks marks marks-plain) (keeps-here marks _ (λ w. still-reads _))
 
 count-and : (a b : Bool) (k : PortMarks) → pick a (counting b k) k ≡ counting (a && b) k
 count-and true b k = refl
@@ -369,7 +238,7 @@ marks-others c t u =
     ∙ count-and (c .«midi_in») (within (c .sleep) t) (marksOf u)
   where
     stack : Keeps marks (when (λ w. c .«device_stack») (midiOut then readsVendor))
-    stack = search (still, still-writes, still-vendor)
+    stack = keeps-if marks _ _ nothing (keeps-then marks _ _ (still-writes marks marks-plain) (still-vendor marks marks-plain)) (keeps-nothing marks)
 
 -- the MIDI step is asleep, where it is made
 abbrev midiAsleep : Settings → ℕ → Bool
@@ -385,7 +254,7 @@ unfolding transfers
 marks-transfers c t u =
     fields-if marks _ _ _ u
     ∙ pick-eq (streaming (u .state .phase))
-    (fields-if marks _ _ _ u ∙ pick-eq (c .cdc) (still-serves u) (fields-then marks streams (others c t) u ∙ marks-others c t _ ∙ ap (counting (midiAsleep c t)) (still-streams u)))
+    (fields-if marks _ _ _ u ∙ pick-eq (c .cdc) (still-serves u) (fields-then marks streams (others c t) u ∙ marks-others c t _ ∙ ap (counting (midiAsleep c t)) (still-streams marks marks-plain u)))
     (keeps-nothing marks u)
     ∙ serial-or (streaming (u .state .phase)) (c .cdc) (midiAsleep c t) (marksOf u)
 
@@ -399,13 +268,13 @@ marks-talks c t rs v =
     let u = left (enumerates c) v in
     let asleep = streaming (u .state .phase) && (not (c .cdc) && midiAsleep c t) in
     fields-if marks _ _ _ v
-    ∙ pick-eq rs (fields-then marks (enumerates c) (transfers c t) v ∙ marks-transfers c t u ∙ ap (counting asleep) (still-enumerates c v)) (keeps-nothing marks v)
+    ∙ pick-eq rs (fields-then marks (enumerates c) (transfers c t) v ∙ marks-transfers c t u ∙ ap (counting asleep) (still-enumerates marks marks-plain c v)) (keeps-nothing marks v)
     ∙ count-and rs asleep (marksOf v)
 
 marks-at : (c : Settings) (t : ℕ) (rs : Bool) (p : Phase) (v : World) → marksOf (left (atPhase c t rs p) v) ≡ counting (talking p && toMidi c t rs v) (marksOf v)
-marks-at c t rs Idle v = still-idles v
-marks-at c t rs Vbus v = still-powers rs v
-marks-at c t rs Reset v = still-resets v
+marks-at c t rs Idle v = still-idles marks marks-plain v
+marks-at c t rs Vbus v = still-powers marks marks-plain rs v
+marks-at c t rs Reset v = still-resets marks marks-plain v
 marks-at c t rs Enumerate v = marks-talks c t rs v
 marks-at c t rs Stream v = marks-talks c t rs v
 
@@ -453,10 +322,6 @@ one-running : (b : Bool) (v : World) → marksOf (left (one (λ w. wasRunning b)
 unfolding one apply
 one-running b v = refl
 
-still-returns : Keeps marks returns
-unfolding returns
-still-returns = search (still, still-forgets) depth 8
-
 marks-cable : (g : Bool) (v : World) → marksOf (left (cable g) v) ≡ setGone g (marksOf v)
 unfolding cable
 marks-cable true v =
@@ -465,14 +330,14 @@ marks-cable true v =
     ∙ set-on setGone (v .state .port .gone) (marksOf v) refl
 marks-cable false v =
     fields-if marks _ _ _ v
-    ∙ pick-eq (v .state .port .gone) (fields-then marks _ _ v ∙ still-returns _ ∙ one-gone false v) (keeps-nothing marks v)
+    ∙ pick-eq (v .state .port .gone) (fields-then marks _ _ v ∙ still-returns marks marks-plain _ ∙ one-gone false v) (keeps-nothing marks v)
     ∙ set-off setGone (v .state .port .gone) (marksOf v) refl
 
 marks-opens : (c : Settings) (g : Bool) (w : World) → marksOf (left (opens c g) w) ≡ setGone g (marksOf w)
 unfolding opens
 marks-opens c g w =
     fields-then marks _ _ w ∙ fields-then marks _ _ _ ∙ marks-cable g _
-    ∙ ap (setGone g) (keeps-if marks (λ v. c .«midi_in») ticks nothing still-ticks (keeps-nothing marks) _ ∙ still-counts w)
+    ∙ ap (setGone g) (keeps-if marks (λ v. c .«midi_in») ticks nothing (still-ticks marks marks-plain) (keeps-nothing marks) _ ∙ still-counts marks marks-plain w)
 
 marks-suspends : (s : Bool) (v : World) → marksOf (left (suspends s) v) ≡ setSuspended s (marksOf v)
 unfolding suspends
@@ -487,7 +352,7 @@ marks-suspends false v =
 
 marks-departs : (v : World) → marksOf (left departs v) ≡ setRunning false (marksOf v)
 unfolding departs
-marks-departs v = fields-then marks _ _ v ∙ keeps-then marks (enters Vbus) forgets (still-enters Vbus) still-forgets _ ∙ one-running false v
+marks-departs v = fields-then marks _ _ v ∙ keeps-then marks (enters Vbus) forgets (still-enters marks marks-plain Vbus) (still-forgets marks marks-plain) _ ∙ one-running false v
 
 marks-leaves : (stack rs : Bool) (v : World) → marksOf (left (leaves stack rs) v) ≡ setRunning (pick stack rs (v .state .port .«was_running»)) (marksOf v)
 unfolding leaves

@@ -43,3 +43,13 @@ pub data NoMidi (t : ℕ) (w : World) : Type 0 where
   cableOut : InGone (w .settings) t → NoMidi t w
   busSuspended : InSuspend (w .settings) t → NoMidi t w
   midiSleeps : reachesOutput t w ≡ true → w .settings .«midi_in» ≡ true → InSleep (w .settings) t → NoMidi t w
+
+-- what MIDI that comes changes: the reads counted (794), and the receive area with the count of its bytes (805)
+pub record MidiCome : Type 0 where
+  pub counted : ℕ
+  pub bytes : ℕ
+  pub area : List ℕ
+
+abbrev pub midiCome : World → MidiCome
+midiCome w =
+    record { counted = w .state .stats .«midi_dtds»; bytes = w .state .answer .received; area = w .receive }
