@@ -17,10 +17,11 @@ use Rattle.record.specs.Change.{left}
 use Rattle.model.specs.Microframe as M
 use Rattle.model.specs.Microframe.{rsSet, goneAt, asleepAt}
 use Rattle.model.specs.Reach.{backBy, leftBy, comesBack, deviceLeft}
-use Rattle.model.specs.PortMarks.{InGone, InSuspend, RunBit, RunTested, NoMidi}
+use Rattle.model.specs.PortMarks.{InGone, InSuspend, RunBit, RunTested, NoMidi, midiCome}
 use Rattle.model.proofs.Spans.{gone-spans, suspend-span, run-bit}
 use Rattle.model.proofs.PortMarks.{is-test, gone-mark, suspend-mark, suspend-kept, run-mark, run-kept, run-left, asleep-counted, asleep-kept}
 use Rattle.bounds.specs.Bounds.{MOST, times, askedOk, heldOk, countsOk, countersOk, countedOk, inBounds}
+use Rattle.model.proofs.Unread.{midi-unread}
 use Rattle.kept.proofs.Shape.{Shape, shape-kept}
 use Rattle.usbhost.specs.declared.Host.{Host}
 use Rattle.usbhost.specs.Host.{stateOf, settled, newHost}
@@ -91,6 +92,12 @@ module _ (h : Host) (t : ℕ) (l : Lent) (e : frameNumber h l ≡ 0) where
 
   pub call-awake : ¬ NoMidi t (worldOf h l) → next .stats .«midi_asleep» ≡ h .stats .«midi_asleep»
   call-awake n = asleep-is ∙ asleep-kept t (worldOf h l) n
+
+  -- and in those no read of MIDI is counted, no byte is answered and the receive area is as it was lent
+  pub call-unread : NoMidi t (worldOf h l) → midiCome (framed t h l) ≡ record { counted = h .stats .«midi_dtds»; bytes = 0; area = l .receive }
+  unfolding framed
+  call-unread n =
+      ap (λ (k : ℕ). midiCome (pick (eqb k 0) (left (M.microframe t) (worldOf h l)) (worldOf h l))) e ∙ midi-unread t (worldOf h l) n
 
 -- ---- any other call, and a refused microframe: settings and marks are as before
 
