@@ -6,7 +6,7 @@ use mathlib.Core.Bool.{Bool, true, false, _&&_, _||_}
 use mathlib.Core.List.{List, [], _∷_}
 use native.Mathlib.Numerals.{add-one}
 use native.Mathlib.Omega.{arith}
-use borrow.Author.Tests.{eqb-true, leb-true, lt-ltb, ltb-true}
+use borrow.Author.Tests.{eqb-true, lt-ltb, ltb-true}
 use lib.Dec.{eqb, leb, lit<}
 use lib.ListN.{length, replicate, length-replicate}
 use lib.Seq.{length-sets}
@@ -21,7 +21,7 @@ use Rattle.config.specs.Config.{Bytes}
 use Rattle.record.specs.declared.Settings.{Settings}
 use Rattle.record.specs.Change.{FRAMES, WORDS, left}
 use Rattle.model.specs.Microframe as M
-use Rattle.bounds.specs.Bounds.{MOST, areasOk, receivedOk, sendingOk}
+use Rattle.bounds.specs.Bounds.{MOST, inBounds, setupsOk, allMade, noneAsks, enumeratingOk, requestOk, queuesOk, packerOk, countsOk, countersOk, creditOk, timersOk, timerOk, audioOk, ringOk, areasOk, receivedOk, sendingOk}
 use Rattle.kept.proofs.Shape.{Shape, shape-kept}
 use Rattle.kept.proofs.Rings.{sending-kept}
 use Rattle.kept.proofs.Setups.{Entry}
@@ -38,7 +38,7 @@ use Rattle.usbhost.proofs.Laws.{same-bounds}
 use Rattle.usbhost.proofs.Frame.{Accepted, accepted-tests, frame-refused}
 use Rattle.usbhost.proofs.Kept.{Kept, midi-kept, serial-kept, give-kept, take-kept, write-kept, midi-refused, serial-refused, give-refused, take-refused, write-refused, new-bounded, new-received, new-sending, new-few}
 use Rattle.history.specs.Calls.{Call, microframe, midiSend, serialSend, frameGive, frameTake, deviceRead, deviceWrite, step, after}
-use Rattle.history.specs.Accepts.{numberOf, inputNumber, stateNumber, dueNumber, fine, BytesLent, BytesCall, RightAreas, RightInput, RingCall, AllCalls, framesOf, framesIn, WithinBounds, AtEach, Due, Accepts}
+use Rattle.history.specs.Accepts.{numberOf, inputNumber, stateNumber, dueNumber, fine, BytesLent, BytesCall, RightRing, RightAreas, RightInput, RingCall, AllCalls, framesOf, framesIn, WithinBounds, AtEach, Due, Accepts}
 use Rattle.history.proofs.History.{by-test}
 use Rattle.history.proofs.Input.{areas-right, input-right, right-input}
 
@@ -344,13 +344,11 @@ of-created P c f = by-spans (leb (c .spans) 16)
 sound-created : (c : Settings) → Sound (created c .host)
 sound-created c = of-created (λ h. fewSpans h ≡ true → Sound h) c sound-new (new-few c)
 
-ring-created : (c : Settings) (k : ℕ) → sendingLength k ≡ true → sendingOk (stateOf (created c .host)) k ≡ true
-unfolding sendingLength
-ring-created c k ring =
-    of-created (λ h. sendingOk (stateOf h) k ≡ true) c (λ x. new-sending x k (omega (arith, leb-true 84 k (and-first (leb 84 k) _ ring))))
+ring-created : (c : Settings) (k : ℕ) → RightRing k → sendingOk (stateOf (created c .host)) k ≡ true
+ring-created c k ring = of-created (λ h. sendingOk (stateOf h) k ≡ true) c (λ x. new-sending x k (omega (arith, ring .least)))
 
 -- from `new`
-from-new : (c : Settings) (k m : ℕ) → sendingLength k ≡ true → (P : Host → Call → Type 0)
+from-new : (c : Settings) (k m : ℕ) → RightRing k → (P : Host → Call → Type 0)
     → ((h : Host) (c : Call) → Sound h → sendingOk (stateOf h) k ≡ true → RingCall k c → h .port .uf + framesOf c ≤ m → P h c)
     → (cs : List Call) → AllCalls BytesCall cs → AllCalls (RingCall k) cs → framesIn cs ≤ m → AtEach P (created c .host) cs
 from-new c k m ring P holds cs b r n =
@@ -387,17 +385,22 @@ record-bounded c cs b =
     record { spans = s .few; bounds = s .bounds; received = s .received; areas = sound-areas h s }
 
 -- and with one length of the sending ring in the calls of right input: every call gets the number that is due
-pub numbers-due : (c : Settings) (k : ℕ) (cs : List Call) → sendingLength k ≡ true → AllCalls BytesCall cs → AllCalls (RingCall k) cs → Due (created c .host) cs
+pub numbers-due : (c : Settings) (k : ℕ) (cs : List Call) → RightRing k → AllCalls BytesCall cs → AllCalls (RingCall k) cs → Due (created c .host) cs
 numbers-due c k cs ring b r =
     from-new c k (framesIn cs) ring (λ h x. numberOf h x ≡ dueNumber h x) (λ h x s o q n. number-due k h s o x q) cs b r (omega arith)
 
 -- and with fewer than 2^40 microframes before each: of the calls of right input no microframe, no frame taken and no device access is refused, and sends
 -- and frames given are refused with 7 alone
-pub accepts : (c : Settings) (k : ℕ) (cs : List Call) → sendingLength k ≡ true → AllCalls BytesCall cs → AllCalls (RingCall k) cs → framesIn cs ≤ MOST
+pub accepts : (c : Settings) (k : ℕ) (cs : List Call) → RightRing k → AllCalls BytesCall cs → AllCalls (RingCall k) cs → framesIn cs ≤ MOST
     → Accepts (created c .host) cs
 accepts c k cs ring b r n =
     from-new c k MOST ring (λ h x. RightInput x → fine x (numberOf h x) ≡ true)
     (λ h x s o q m e. ap (fine x) (number-due k h s o x q) ∙ due-fine h x m e) cs b r n
+
+-- one length of the ring is asked for with reason: with eight frames in a ring of eight, one of seven frames is refused with 5
+pub other-ring : numberOf (after (newHost noSettings) (replicate 8 (frameGive (replicate 12 0) (replicate 96 0)))) (frameGive (replicate 12 0) (replicate 84 0)) ≡ 5
+unfolding numberOf after step given giveNumber frameGiven sendingLength newHost inBounds setupsOk allMade noneAsks enumeratingOk requestOk queuesOk packerOk countsOk countersOk creditOk timersOk timerOk audioOk ringOk
+other-ring = refl
 
 -- ---- such areas can be had: zeros, of any right lengths
 
