@@ -3,11 +3,15 @@
 
 usage: fixed.py FOLDER-OF-THE-ORACLE-PROGRAMS WORKED-EXAMPLES SCRIPT LOG
 The list is the worked examples of document 01 (the oracle's examples/worked.txt), one long run (the received ring full, the stream counter
-round), and of generated runs those that a greedy choice needs: each candidate is run by itself with the oracle's figures (-c), and the
-smallest script that shows an event not seen yet is taken, until no candidate shows a new one. In generated runs microframes log nothing, but
-the record is observed after every eighth line of microframes and at the end.
+round), of generated runs those that a greedy choice needs, and the chosen runs of blocks.py (first bytes, lengths, silence, late waits). Each
+candidate of the greedy choice is run by itself with the oracle's figures (-c), and the smallest script that shows an event not seen yet is
+taken, until no candidate shows a new one. In generated runs microframes log nothing, but the record is observed after every eighth line of
+microframes and at the end.
 """
 import os, re, subprocess, sys
+
+sys.dont_write_bytecode = True
+import blocks
 
 PAGE, TABLE = 0xFC0B0000, 0x40000000
 KINDS = [("real", 21, 120), ("fuzz", 21, 200), ("time", 21, 20)]
@@ -99,6 +103,8 @@ def main():
     text += "# One long run: the received ring full, the stream counter round.\n" + long_run()
     for size, name, run, new in taken:
         text += "# gen %s\n%s" % (name, run)
+    for name, run in blocks.chosen():
+        text += "# %s.\n%s" % (name, run.text())
     open(script, "w").write(text)
     with open(log, "wb") as f:
         subprocess.run([oracle], input=text.encode(), stdout=f, check=True)
