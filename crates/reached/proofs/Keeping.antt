@@ -1,4 +1,4 @@
--- The transfers leave the way of a host to its stream alone.
+-- The timers and the transfers leave the way of a host to its stream alone.
 use Prim.Native.Nat.{ℕ, zero, suc}
 use mathlib.Core.Bool.{Bool, true, false}
 use mathlib.Core.List.{List, [], _∷_}
@@ -7,7 +7,7 @@ use Rattle.bits.specs.Pick.{pick}
 use Rattle.dtd.specs.Dtd.{Run}
 use Rattle.record.specs.declared.Settings.{Settings}
 use Rattle.record.specs.Change.{Step}
-use Rattle.model.specs.Phases.{sleeps, startsFrame}
+use Rattle.model.specs.Phases.{ticks, sleeps, startsFrame}
 use Rattle.model.specs.Streams.{naks, reads, midiIn, drainsSerial, serialStep, drainsMidi, midiOut, readsVendor}
 use Rattle.model.specs.Audio.{addsBudget, clearsBudget, keepsFrames, keepsGood, keepsBlock, keepsBlocks, keepsRun, inputs, streamIn, sendsBlock, unprimes, streamOut, streams}
 use Rattle.model.specs.Microframe.{others, transfers}
@@ -19,6 +19,10 @@ ruleset keeps-rules = (keeps-then, keeps-if, keeps-nothing, keeps-one, keeps-bus
 keeps-pick : (t : Bool) (f g : Step) → Keeps held f → Keeps held g → Keeps held (pick t f g)
 keeps-pick true f g p q = p
 keeps-pick false f g p q = q
+
+pub keeps-ticks : Keeps held ticks
+unfolding ticks
+keeps-ticks = search keeps-rules depth 8
 
 pub keeps-sleeps : Keeps held sleeps
 unfolding sleeps

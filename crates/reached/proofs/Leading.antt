@@ -28,14 +28,16 @@ use Rattle.history.specs.Calls.{Call, microframe, step, after}
 use Rattle.history.specs.Sums.{Tally, summed, tallied, tally}
 use Rattle.reached.specs.Lists.{Areas, lend}
 use Rattle.reached.proofs.Standing.{Stand, standOf}
+use Rattle.reached.proofs.Page.{Stopped}
 use Rattle.reached.proofs.Summed.{tallyOf}
 
 -- ---- what a call is lent
 
--- accepted windows, which hold bytes
+-- accepted windows, which hold bytes, and no timer runs
 pub record Fit (m : Memory) : Type 0 where
   pub sized : isSized m ≡ true
   pub bytes : Bytes m
+  pub timers : Stopped (m .page)
 
 abbrev pub blank : Memory
 blank = memory [] [] []

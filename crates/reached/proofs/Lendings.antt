@@ -1,9 +1,11 @@
 -- What the memories of the lists hold: their lengths and bytes by law, and what their words bring by computing.
-use Prim.Native.Nat.{ℕ, _^_}
+use Prim.Native.Nat.{ℕ, _+_, _^_, _≤_}
 use mathlib.Core.Path.{_≡_, refl, ap, ap₂, _∙_}
-use mathlib.Core.Bool.{Bool, true, false, _&&_}
+use mathlib.Core.Bool.{Bool, true, false, _&&_, _||_}
+use mathlib.Core.Logic.{_⊎_, inl, inr}
+use native.Mathlib.Omega.{arith}
 use mathlib.Core.List.{List, [], _∷_, _++_}
-use lib.Dec.{eqb, ltb}
+use lib.Dec.{eqb, leb, ltb}
 use lib.ListN.{length, replicate, length-replicate}
 use borrow.Author.Tests.{ltb-true, leb-true}
 use Rattle.bits.specs.Word.{any}
@@ -12,7 +14,7 @@ use Rattle.bus.specs.Sized.{isPower, isSized}
 use Rattle.bus.specs.Words.{wordAt, wordPut}
 use Rattle.bus.specs.Steps.{andThen}
 use Rattle.bus.specs.Stores.{putting, when, store}
-use Rattle.bus.proofs.Registers.{length-put, put-lt}
+use Rattle.bus.proofs.Registers.{length-put, put-lt, word-apart}
 use Rattle.usbdev.specs.Offsets.{USBCMD, USBSTS, EPCR0}
 use Rattle.usbdev.specs.Registers as R
 use Rattle.usbdev.specs.Registers.{setting, lineOf}
@@ -21,9 +23,10 @@ use Rattle.transfer.specs.Transfer.{pointers, bytesIn, tabulate, dataAddr}
 use Rattle.dtd.specs.Dtd.{primed, queueHead, nextOf, nextActive, runDtds, turns, settled, joined, turning, dataOut, moves, bytesOf, retiring, closing, advancing, completing, framed, followed, following, settling, unpriming, reporting, listEnds}
 use Rattle.model.specs.Audio.{blocksOf, blocks, good}
 use Rattle.model.specs.Earned.{goodBlocks}
-use Rattle.bits.proofs.Tests.{and-first, and-second}
+use Rattle.gptimers.specs.Timer as T
+use Rattle.bits.proofs.Tests.{and-first, and-second, or-case}
 use Rattle.reached.specs.Lists.{puts, window, words, stalledPage, stoppedPage, primedPage, blockAt400, blockAt600, roomAt420, roomAt620}
-use Rattle.reached.proofs.Page.{framedPage, framedMemory}
+use Rattle.reached.proofs.Page.{framedPage, framedMemory, Stopped}
 use Rattle.reached.proofs.Summed.{bytesAsked, bytesRead, ranMemory}
 use Rattle.reached.proofs.Leading.{Fit}
 use Rattle.reached.proofs.Queued.{Below, below-zeros}
@@ -51,7 +54,40 @@ below-puts (p ∷ ps) l e h =
     below-puts ps (wordPut l (p .0) (p .1)) (and-second (ltb (p .1) (2 ^ 32)) (allWords ps) e)
     (put-lt l (p .0) (p .1) h (ltb-true (p .1) (2 ^ 32) (and-first (ltb (p .1) (2 ^ 32)) (allWords ps) e)))
 
-pub fit-words : (f : List ℕ) (ds ps : List (ℕ × ℕ)) → length f ≡ 65536 → Below f → allWords ds ≡ true → allWords ps ≡ true → Fit (words f ds ps)
+-- no word lies at the timers' control registers, 84 and 8C
+abbrev noTimer : List (ℕ × ℕ) → Bool
+noTimer [] = true
+noTimer (p ∷ ps) = (leb (p .0 + 4) 0x84 || leb 0x90 (p .0)) && noTimer ps
+
+apart : (o : ℕ) → 0x84 ≤ o → o + 4 ≤ 0x90 → (ps : List (ℕ × ℕ)) (l : List ℕ) → noTimer ps ≡ true → wordAt (puts l ps) o ≡ wordAt l o
+unfolding puts
+apart o low high [] l e = refl
+apart o low high (p ∷ ps) l e =
+    apart o low high ps (wordPut l (p .0) (p .1)) (and-second (leb (p .0 + 4) 0x84 || leb 0x90 (p .0)) (noTimer ps) e)
+    ∙ word-apart l (p .0) (p .1) o (sides (and-first (leb (p .0 + 4) 0x84 || leb 0x90 (p .0)) (noTimer ps) e))
+  where
+    sides : (leb (p .0 + 4) 0x84 || leb 0x90 (p .0)) ≡ true → (o + 4 ≤ p .0) ⊎ (p .0 + 4 ≤ o)
+    sides h =
+        or-case (leb (p .0 + 4) 0x84) (leb 0x90 (p .0)) h
+        (λ a. inr (omega (arith, leb-true (p .0 + 4) 0x84 a, low)))
+        (λ b. inl (omega (arith, leb-true 0x90 (p .0) b, high)))
+
+stopped : (ps : List (ℕ × ℕ)) → noTimer ps ≡ true → Stopped (window ps)
+unfolding wordAt word
+stopped ps e =
+    let zero : wordAt (window ps) 0x84 ≡ 0 = apart 0x84 (omega arith) (omega arith) ps (replicate 4096 0) e in
+    let one : wordAt (window ps) 0x8C ≡ 0 = apart 0x8C (omega arith) (omega arith) ps (replicate 4096 0) e in
+    record {
+      run-zero = ap (λ (v : ℕ). any v T.RUN) zero;
+      reset-zero = ap (λ (v : ℕ). any v T.RESET) zero;
+      run-one = ap (λ (v : ℕ). any v T.RUN) one;
+      reset-one = ap (λ (v : ℕ). any v T.RESET) one;
+    }
+
+abbrev pub pageWords : List (ℕ × ℕ) → Bool
+pageWords ps = allWords ps && noTimer ps
+
+pub fit-words : (f : List ℕ) (ds ps : List (ℕ × ℕ)) → length f ≡ 65536 → Below f → allWords ds ≡ true → pageWords ps ≡ true → Fit (words f ds ps)
 unfolding isSized isPower
 fit-words f ds ps long bytes d p =
     record {
@@ -61,8 +97,9 @@ fit-words f ds ps long bytes d p =
       bytes = record {
         dynamic = below-puts ds (replicate 4096 0) d (below-zeros 4096);
         sram = bytes;
-        page = below-puts ps (replicate 4096 0) p (below-zeros 4096);
+        page = below-puts ps (replicate 4096 0) (and-first (allWords ps) (noTimer ps) p) (below-zeros 4096);
       };
+      timers = stopped ps (and-second (allWords ps) (noTimer ps) p);
     }
 
 -- ---- what the words bring

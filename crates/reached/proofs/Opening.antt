@@ -1,22 +1,31 @@
 -- A microframe up to the choice by phase, of a host that neither goes nor sleeps, and the forms of a step by its tests.
 use Prim.Native.Nat.{ℕ, _+_, _<_}
-use mathlib.Core.Path.{_≡_, refl, ap, _∙_}
+use mathlib.Core.Path.{_≡_, refl, ap, sym, subst, _∙_}
 use mathlib.Core.Bool.{Bool, true, false}
+use mathlib.Core.List.{List, map}
 use native.Mathlib.Omega.{arith}
 use Rattle.bits.specs.Pick.{pick}
-use Rattle.bus.specs.Steps.{andThen, exec-then, exec-choose}
+use Rattle.bus.specs.Memory.{Memory}
+use Rattle.bus.specs.Steps.{replay, andThen, exec-then, exec-choose}
+use Rattle.usbdev.specs.Registers.{PageStore, onBus}
+use Rattle.gptimers.specs.Timer.{STEP, tickingBoth, tickedBoth}
 use Rattle.record.specs.declared.Settings.{Settings}
 use Rattle.record.specs.Record.{counted, wrapped}
 use Rattle.record.specs.World.{World}
-use Rattle.record.specs.Change.{apply, Step, left, _then_, nothing, if, when, one, here}
-use Rattle.model.specs.Phases.{counts, ticks, cable, suspends, leaves}
+use Rattle.record.specs.Change.{apply, Step, left, _then_, nothing, if, when, one, here, onPage}
+use Rattle.record.specs.Change as Ch
+use Rattle.model.specs.Phases.{registersOf, counts, ticks, cable, suspends, leaves}
 use Rattle.record.specs.declared.Phase.{Phase}
 use Rattle.bounds.specs.Bounds.{MOST}
 use Rattle.model.specs.Microframe.{rsSet, goneAt, asleepAt, opens, frameOf, byPhase, atPhase, microframe}
-use Rattle.model.proofs.Fields.{keeps-nothing}
+use Rattle.model.proofs.Fields.{keeps-nothing, keeps-if}
+use Rattle.model.proofs.Reading.{silent-keeps, silent-ticks}
+use Rattle.model.proofs.Budget.{budgets, budgetReading}
 use Rattle.model.proofs.History.{four}
 use Rattle.model.specs.Reach.{toPhase, phaseBy}
 use Rattle.reached.proofs.Standing.{Stand, Held, heldOf, held}
+use Rattle.reached.proofs.Keeping.{keeps-ticks}
+use Rattle.reached.proofs.Page.{Stopped, ticking-nothing}
 
 -- ---- a step by its test
 
@@ -45,6 +54,13 @@ pub frame-plain : (t : ℕ) (w : World) → goneAt t w ≡ false → asleepAt t 
 unfolding microframe here
 frame-plain t w e f = by-tests t (rsSet w) (goneAt t w) (asleepAt t w) w e f
 
+-- with MIDI input the timers tick
+abbrev pub ticked : Settings → World → World
+ticked c w = left (when (λ v. c .«midi_in») ticks) (left counts w)
+
+pub ticked-held : (c : Settings) (w : World) → heldOf (ticked c w) ≡ heldOf (left counts w)
+ticked-held c w = keeps-if held (λ v. c .«midi_in») ticks nothing keeps-ticks (keeps-nothing held) (left counts w)
+
 same-gone : (w : World) → left counts w .state .port .gone ≡ w .state .port .gone
 unfolding counts andThen one apply counted
 same-gone w = refl
@@ -53,25 +69,30 @@ same-suspended : (w : World) → left counts w .state .port .suspended ≡ w .st
 unfolding counts andThen one apply counted
 same-suspended w = refl
 
-opens-plain : (c : Settings) (w : World) → c .«midi_in» ≡ false → w .state .port .gone ≡ false → left (opens c false) w ≡ left counts w
+pub opens-ticked : (c : Settings) (w : World) → w .state .port .gone ≡ false → left (opens c false) w ≡ ticked c w
 unfolding opens cable
-opens-plain c w e f =
+opens-ticked c w f =
     exec-then apply counts _ w
     ∙ exec-then apply (when (λ v. c .«midi_in») ticks) _ (left counts w)
-    ∙ ap (left (cable false)) (when-false (λ v. c .«midi_in») ticks (left counts w) e)
-    ∙ when-false (λ v. v .state .port .gone) _ (left counts w) (same-gone w ∙ f)
+    ∙ when-false (λ v. v .state .port .gone) _ (ticked c w) (ap (λ (k : Held). k .stand .gone) (ticked-held c w) ∙ same-gone w ∙ f)
 
-pub phase-plain : (rs : Bool) (w : World) → w .settings .«midi_in» ≡ false → w .state .port .gone ≡ false → w .state .port .suspended ≡ false
-    → phaseBy rs w ≡ left (leaves (w .settings .«device_stack») rs) (left counts w)
+pub phase-ticked : (rs : Bool) (w : World) → w .state .port .gone ≡ false → w .state .port .suspended ≡ false
+    → phaseBy rs w ≡ left (leaves (w .settings .«device_stack») rs) (ticked (w .settings) w)
 unfolding phaseBy toPhase suspends
-phase-plain rs w e f g =
+phase-ticked rs w f g =
     let c = w .settings in
     exec-then apply (opens c false) _ w
     ∙ exec-then apply (suspends false) (leaves (c .«device_stack») rs) (left (opens c false) w)
-    ∙ ap (λ (v : World). left (leaves (c .«device_stack») rs) (left (suspends false) v)) (opens-plain c w e f)
-    ∙ ap (left (leaves (c .«device_stack») rs)) (when-false (λ v. v .state .port .suspended) _ (left counts w) (same-suspended w ∙ g))
+    ∙ ap (λ (v : World). left (leaves (c .«device_stack») rs) (left (suspends false) v)) (opens-ticked c w f)
+    ∙ ap (left (leaves (c .«device_stack») rs))
+    (when-false (λ v. v .state .port .suspended) _ (ticked c w) (ap (λ (k : Held). k .stand .suspended) (ticked-held c w) ∙ same-suspended w ∙ g))
 
--- ---- what the opening leaves
+-- without it
+pub phase-plain : (rs : Bool) (w : World) → w .settings .«midi_in» ≡ false → w .state .port .gone ≡ false → w .state .port .suspended ≡ false
+    → phaseBy rs w ≡ left (leaves (w .settings .«device_stack») rs) (left counts w)
+phase-plain rs w e f g =
+    phase-ticked rs w f g
+    ∙ ap (left (leaves (w .settings .«device_stack») rs)) (when-false (λ v. w .settings .«midi_in») ticks (left counts w) e)
 
 -- one microframe more, and RS seen by a device stack
 abbrev pub opened : Bool → Stand → Stand
@@ -81,9 +102,9 @@ opened stack k =
 abbrev pub openedHeld : Bool → Held → Held
 openedHeld stack k = record { stand = opened stack (k .stand); queue = k .queue }
 
--- a microframe at the time t in which the host neither goes, nor is back, nor sleeps, and RS is set; no MIDI input, no serial device
+-- a microframe at the time t in which the host neither goes, nor is back, nor sleeps, RS is set and no timer runs; no serial device
 pub record Plain (t : ℕ) (w : World) : Type 0 where
-  pub midi : w .settings .«midi_in» ≡ false
+  pub timers : Stopped (w .memory .page)
   pub audio : w .settings .cdc ≡ false
   pub there : goneAt t w ≡ false
   pub awake : asleepAt t w ≡ false
@@ -120,9 +141,9 @@ module _ (t : ℕ) (w : World) (p : Plain t w) where
   opened-held =
       let few = p .few in
       let more : wrapped (w .state .port .uf + 1) ≡ w .state .port .uf + 1 = omega arith in
-      ap heldOf (phase-plain true w (p .midi) (p .still) (p .woken))
-      ∙ held-leaves (w .settings .«device_stack») (left counts w)
-      ∙ ap (λ (k : Held). seeing (pick (w .settings .«device_stack») true (k .stand .wasRunning)) k) (held-counts w)
+      ap heldOf (phase-ticked true w (p .still) (p .woken))
+      ∙ held-leaves (w .settings .«device_stack») (ticked (w .settings) w)
+      ∙ ap (λ (k : Held). seeing (pick (w .settings .«device_stack») true (k .stand .wasRunning)) k) (ticked-held (w .settings) w ∙ held-counts w)
       ∙ ap (λ (n : ℕ). openedAt n) more
     where
       openedAt : ℕ → Held
@@ -145,11 +166,29 @@ same-counts : (w : World) → left counts w .memory ≡ w .memory
 unfolding counts andThen one apply counted
 same-counts w = refl
 
+-- timers that stand still store nothing
+ticks-memory : (v : World) → Stopped (v .memory .page) → left ticks v .memory ≡ v .memory
+unfolding ticks here one apply onPage
+ticks-memory v s =
+    let ts = v .state .timers in
+    let first = one (λ w. Ch.timers (tickedBoth STEP ts (registersOf v))) in
+    ap (λ (u : World). u .memory) (exec-then apply first (onPage (tickingBoth STEP ts)) v)
+    ∙ ap (λ (ss : List PageStore). replay apply (map Ch.bus (map onBus ss)) (left first v) .memory) (ticking-nothing STEP ts (registersOf v) s)
+
+ticked-memory : (c : Settings) (w : World) → Stopped (w .memory .page) → ticked c w .memory ≡ w .memory
+ticked-memory c w s = by-input (c .«midi_in») refl
+  where
+    by-input : (b : Bool) → c .«midi_in» ≡ b → ticked c w .memory ≡ w .memory
+    by-input true e =
+        ap (λ (v : World). v .memory) (when-true (λ v. c .«midi_in») ticks (left counts w) e)
+        ∙ ticks-memory (left counts w) (subst (λ (m : Memory). Stopped (m .page)) (sym (same-counts w)) s) ∙ same-counts w
+    by-input false e = ap (λ (v : World). v .memory) (when-false (λ v. c .«midi_in») ticks (left counts w) e) ∙ same-counts w
+
 pub opened-memory : (t : ℕ) (w : World) → Plain t w → phaseBy true w .memory ≡ w .memory
 opened-memory t w p =
-    ap (λ (v : World). v .memory) (phase-plain true w (p .midi) (p .still) (p .woken))
-    ∙ same-leaves (w .settings .«device_stack») (left counts w)
-    ∙ same-counts w
+    ap (λ (v : World). v .memory) (phase-ticked true w (p .still) (p .woken))
+    ∙ same-leaves (w .settings .«device_stack») (ticked (w .settings) w)
+    ∙ ticked-memory (w .settings) w (p .timers)
 
 budget-leaves : (stack : Bool) (v : World) → left (leaves stack true) v .state .audio .budget ≡ v .state .audio .budget
 unfolding leaves one apply nothing
@@ -162,6 +201,7 @@ budget-counts w = refl
 
 pub opened-budget : (t : ℕ) (w : World) → Plain t w → phaseBy true w .state .audio .budget ≡ w .state .audio .budget
 opened-budget t w p =
-    ap (λ (v : World). v .state .audio .budget) (phase-plain true w (p .midi) (p .still) (p .woken))
-    ∙ budget-leaves (w .settings .«device_stack») (left counts w)
+    ap (λ (v : World). v .state .audio .budget) (phase-ticked true w (p .still) (p .woken))
+    ∙ budget-leaves (w .settings .«device_stack») (ticked (w .settings) w)
+    ∙ keeps-if budgets (λ v. w .settings .«midi_in») ticks nothing (silent-keeps budgets ticks (silent-ticks budgetReading)) (keeps-nothing budgets) (left counts w)
     ∙ budget-counts w

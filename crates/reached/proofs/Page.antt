@@ -1,20 +1,23 @@
--- The register page after a microframe's start of frame: two words are new, and every other is as it was.
+-- The register page after a microframe's start of frame: two words are new, and every other is as it was; and a page whose timers stand still.
 use Prim.Native.Nat.{ℕ, _+_, _≤_}
 use mathlib.Core.Path.{_≡_, ap, _∙_}
-use mathlib.Core.List.{List}
+use mathlib.Core.Bool.{Bool, false}
+use mathlib.Core.List.{List, []}
 use mathlib.Core.Logic.{_⊎_, inl, inr}
 use native.Mathlib.Omega.{arith}
-use Rattle.bits.specs.Word.{set}
+use Rattle.bits.specs.Word.{set, any}
 use Rattle.bus.specs.Memory.{Memory, memory}
 use Rattle.bus.specs.Words.{wordAt, wordPut}
 use Rattle.bus.specs.Steps.{andThen}
 use Rattle.bus.specs.Stores as S
 use Rattle.bus.proofs.Registers.{word-apart}
 use Rattle.usbdev.specs.Offsets.{USBSTS, FRINDEX}
-use Rattle.usbdev.specs.Registers.{PageStep, registers, store, setting, following, raising, lifted}
+use Rattle.usbdev.specs.Registers.{PageStep, Registers, registers, store, setting, following, raising, lifted}
 use Rattle.usbdev.specs.Registers as R
 use Rattle.usbdev.specs.Transfer.{nextFrindex}
 use Rattle.usbdev.proofs.Laws.{on-bus}
+use Rattle.gptimers.specs.Timer as T
+use Rattle.gptimers.specs.declared.Timers.{Timers}
 use Rattle.record.specs.World.{World, busOf, withBus}
 use Rattle.record.specs.Change.{left, onPage}
 use Rattle.record.proofs.Laws.{replay-bus}
@@ -62,3 +65,17 @@ framed-word p o h = word-apart _ USBSTS _ o (below h) ∙ word-apart p FRINDEX _
     above : (o + 4 ≤ USBSTS) ⊎ (FRINDEX + 4 ≤ o) → (o + 4 ≤ FRINDEX) ⊎ (FRINDEX + 4 ≤ o)
     above (inl a) = inl (omega arith)
     above (inr b) = inr b
+
+-- ---- the timers (741-765)
+
+-- neither timer runs, and neither is reset
+pub record Stopped (p : List ℕ) : Type 0 where
+  pub run-zero : any (wordAt p (T.controlRegister 0)) T.RUN ≡ false
+  pub reset-zero : any (wordAt p (T.controlRegister 0)) T.RESET ≡ false
+  pub run-one : any (wordAt p (T.controlRegister 1)) T.RUN ≡ false
+  pub reset-one : any (wordAt p (T.controlRegister 1)) T.RESET ≡ false
+
+-- they store nothing
+pub ticking-nothing : (step : ℕ) (ts : Timers) (r : Registers) → Stopped (r .page) → T.tickingBoth step ts r ≡ []
+unfolding T.tickingBoth T.ticking T.resetting T.counted andThen
+ticking-nothing step ts r s = simp (s .run-zero, s .reset-zero, s .run-one, s .reset-one)

@@ -33,7 +33,7 @@ use Rattle.reached.proofs.Queued.{below-zeros, queue-new}
 use Rattle.reached.proofs.Waits.{Calm, standing}
 use Rattle.reached.proofs.Streamed.{streams-of, ends-silent, streams-silent, streams-brings, from-vbus, to-enumerated}
 use Rattle.reached.proofs.Resets.{leads-gone, leads-back, leads-left}
-use Rattle.reached.proofs.Lendings.{allWords, fit-words, pages, contents}
+use Rattle.reached.proofs.Lendings.{allWords, pageWords, fit-words, pages, contents}
 
 -- ---- the sums since the last reset are those of the tally
 
@@ -93,7 +93,7 @@ module _ (a : Areas) (f : List ℕ) (l : Lendable a f) where
         };
       }
 
-  fit : (ds ps : List (ℕ × ℕ)) → allWords ds ≡ true → allWords ps ≡ true → Fit (words f ds ps)
+  fit : (ds ps : List (ℕ × ℕ)) → allWords ds ≡ true → pageWords ps ≡ true → Fit (words f ds ps)
   fit ds ps d p = fit-words f ds ps (l .static-length) (l .static-bytes) d p
 
   -- the two counts of microframes are equal
@@ -130,7 +130,7 @@ module _ (a : Areas) (f : List ℕ) (l : Lendable a f) where
     c = audioSettings b n table
 
     calm : Calm c 0
-    calm = record { midi = refl; audio = refl; there = near; awake = refl; few = few }
+    calm = record { audio = refl; there = near; awake = refl; few = few }
 
     abbrev streaming : ℕ → Stand
     streaming u = standing Stream false 0 u 483 b
@@ -209,7 +209,7 @@ module _ (a : Areas) (f : List ℕ) (l : Lendable a f) where
       let m = words f [] stalledPage in
       let ok = fit [] stalledPage refl refl in
       let good = words f (blockAt400 0x0700_0000) (primedPage 0x80000) in
-      let later : Calm withSpan 3 = record { midi = refl; audio = refl; there = refl; awake = refl; few = refl } in
+      let later : Calm withSpan 3 = record { audio = refl; there = refl; awake = refl; few = refl } in
       let y : Tally = record { since = none; ever = frames 7 0 } in
       leads-then
       (leads-then leads-gone-back

@@ -28,14 +28,14 @@ use Rattle.history.specs.Sums.{Tally}
 use Rattle.reached.specs.Lists.{Areas, lend}
 use Rattle.reached.proofs.Standing.{Stand, Held, standOf, heldOf}
 use Rattle.reached.proofs.Opening.{openedHeld, Plain}
+use Rattle.reached.proofs.Page.{Stopped}
 use Rattle.reached.proofs.Early.{enteredHeld, asking, postedHeld, onHeld, frame-idle, frame-vbus, frame-powers, frame-reset, frame-resets, frame-posts, frame-stalls}
 use Rattle.reached.proofs.Summed.{tested-tally, tested-early}
 use Rattle.reached.proofs.Leading.{Fit, Long, Queue, Enters, Leads, leads-none, leads-then, leads-one}
 use Rattle.reached.proofs.Queued.{queue-first, queue-posted}
 
--- settings without MIDI input and without a serial device, and a time in none of their spans
+-- settings without a serial device, and a time at which the host is neither gone nor suspended
 pub record Calm (c : Settings) (t : ℕ) : Type 0 where
-  pub midi : c .«midi_in» ≡ false
   pub audio : c .cdc ≡ false
   pub there : anySpan (c .gone) 0 (c .spans) t ≡ false
   pub awake : within (c .suspend) t ≡ false
@@ -68,7 +68,7 @@ module _ (c : Settings) (a : Areas) (long : Long a) (t : ℕ) (calm : Calm c t) 
   pub plain-of : (k : Stand) (w : World) → k .gone ≡ false → k .suspended ≡ false → k .uf < MOST → Enters c k m w → Plain t w
   plain-of k w g s u e =
       record {
-        midi = ap (λ (x : Settings). x .«midi_in») (e .settings) ∙ calm .midi;
+        timers = subst (λ (x : Memory). Stopped (x .page)) (sym (e .memory)) (fit .timers);
         audio = ap (λ (x : Settings). x .cdc) (e .settings) ∙ calm .audio;
         there = ap (λ (x : Settings). anySpan (x .gone) 0 (x .spans) t) (e .settings) ∙ calm .there;
         awake = ap (λ (x : Settings). within (x .suspend) t) (e .settings) ∙ calm .awake;
