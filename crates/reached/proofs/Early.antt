@@ -26,7 +26,7 @@ use Rattle.model.proofs.Fields.{fields-then, keeps-page, keeps-bus, keeps-one}
 use Rattle.reached.proofs.Standing.{Stand, Held, standOf, heldOf, held}
 use Rattle.reached.proofs.Keeping.{keeps-frame, keeps-transfers}
 use Rattle.reached.proofs.Page.{framedMemory, framed-memory, framed-word}
-use Rattle.reached.proofs.Opening.{if-true, if-false, when-true, when-false, opened, openedHeld, Plain, opened-held, opened-memory, frame-in}
+use Rattle.reached.proofs.Opening.{if-true, if-false, when-true, when-false, opened, openedHeld, Plain, opened-held, awake-memory, frame-in}
 
 -- a phase begins
 abbrev pub entered : Phase → Stand → Stand
@@ -176,11 +176,11 @@ module _ (t : ℕ) (w : World) (p : Plain t w) where
       ap heldOf (frame-in t w p Reset e ∙ waits-resets there (late-is 80 ∙ l)) ∙ opened-held t w p
 
   -- URI is clear on the page that the microframe is lent
-  pub frame-resets : w .state .phase ≡ Reset → late 80 (opened stack (standOf w)) ≡ true → any (wordAt (w .memory .page) USBSTS) 0x40 ≡ false
+  pub frame-resets : w .state .port .suspended ≡ false → w .state .phase ≡ Reset → late 80 (opened stack (standOf w)) ≡ true → any (wordAt (w .memory .page) USBSTS) 0x40 ≡ false
       → heldOf (left (microframe t) w) ≡ asking (enteredHeld Enumerate (openedHeld stack (heldOf w)))
-  frame-resets e l u =
+  frame-resets awake e l u =
       ap heldOf (frame-in t w p Reset e)
-      ∙ held-resets there (both (late-is 80 ∙ l) (ap (λ (m : Memory). any (wordAt (m .page) USBSTS) 0x40) (opened-memory t w p) ∙ u))
+      ∙ held-resets there (both (late-is 80 ∙ l) (ap (λ (m : Memory). any (wordAt (m .page) USBSTS) 0x40) (awake-memory t w p awake) ∙ u))
       ∙ ap (λ (k : Held). asking (enteredHeld Enumerate k)) (opened-held t w p)
     where
       both : {a b : Bool} → a ≡ true → b ≡ false → (a && not b) ≡ true
@@ -221,11 +221,11 @@ module _ (t : ℕ) (w : World) (p : Plain t w) where
       ∙ ap postedHeld asked-held
 
   -- a request whose endpoint is stalled is dropped
-  pub frame-stalls : w .state .phase ≡ Enumerate → w .state .control .on ≡ true → any (wordAt (w .memory .page) EPCR0) 0x10001 ≡ true
+  pub frame-stalls : w .state .port .suspended ≡ false → w .state .phase ≡ Enumerate → w .state .control .on ≡ true → any (wordAt (w .memory .page) EPCR0) 0x10001 ≡ true
       → heldOf (left (microframe t) w) ≡ onHeld false (openedHeld stack (heldOf w))
   unfolding controls
-  frame-stalls e o s =
-      let there-page = framed-memory there ∙ ap framedMemory (opened-memory t w p) in
+  frame-stalls awake e o s =
+      let there-page = framed-memory there ∙ ap framedMemory (awake-memory t w p awake) in
       let stall : stalled asked ≡ true =
       ap (λ (m : Memory). any (wordAt (m .page) EPCR0) 0x10001) there-page
       ∙ ap (λ (v : ℕ). any v 0x10001) (framed-word (w .memory .page) EPCR0 (inr (omega arith)))

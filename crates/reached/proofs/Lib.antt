@@ -1,5 +1,6 @@
 pub mod Standing
 pub mod Keeping
+pub mod Aside
 pub mod Opening
 pub mod Page
 pub mod Early

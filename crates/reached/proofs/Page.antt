@@ -1,17 +1,17 @@
--- The register page after a microframe's start of frame: two words are new, and every other is as it was; and a page whose timers stand still.
+-- The register page after a microframe's start of frame, and after the resume: two words are new; and a page whose timers stand still.
 use Prim.Native.Nat.{ℕ, _+_, _≤_}
 use mathlib.Core.Path.{_≡_, ap, _∙_}
 use mathlib.Core.Bool.{Bool, false}
 use mathlib.Core.List.{List, []}
 use mathlib.Core.Logic.{_⊎_, inl, inr}
 use native.Mathlib.Omega.{arith}
-use Rattle.bits.specs.Word.{set, any}
+use Rattle.bits.specs.Word.{clear, set, any}
 use Rattle.bus.specs.Memory.{Memory, memory}
 use Rattle.bus.specs.Words.{wordAt, wordPut}
-use Rattle.bus.specs.Steps.{andThen}
+use Rattle.bus.specs.Steps.{andThen, exec-then}
 use Rattle.bus.specs.Stores as S
 use Rattle.bus.proofs.Registers.{word-apart}
-use Rattle.usbdev.specs.Offsets.{USBSTS, FRINDEX}
+use Rattle.usbdev.specs.Offsets.{USBSTS, FRINDEX, PORTSC1}
 use Rattle.usbdev.specs.Registers.{PageStep, Registers, registers, store, setting, following, raising, lifted}
 use Rattle.usbdev.specs.Registers as R
 use Rattle.usbdev.specs.Transfer.{nextFrindex}
@@ -19,9 +19,10 @@ use Rattle.usbdev.proofs.Laws.{on-bus}
 use Rattle.gptimers.specs.Timer as T
 use Rattle.gptimers.specs.declared.Timers.{Timers}
 use Rattle.record.specs.World.{World, busOf, withBus}
-use Rattle.record.specs.Change.{left, onPage}
+use Rattle.record.specs.Change.{apply, left, one, onPage}
+use Rattle.record.specs.Change as Ch
 use Rattle.record.proofs.Laws.{replay-bus}
-use Rattle.model.specs.Phases.{changing, startsFrame}
+use Rattle.model.specs.Phases.{changing, resuming, startsFrame}
 
 -- 493-495: FRINDEX goes on by one, and USBSTS has SRI, bit 7
 unfoldable pub framedPage : List ℕ → List ℕ
@@ -65,6 +66,33 @@ framed-word p o h = word-apart _ USBSTS _ o (below h) ∙ word-apart p FRINDEX _
     above : (o + 4 ≤ USBSTS) ⊎ (FRINDEX + 4 ≤ o) → (o + 4 ≤ FRINDEX) ⊎ (FRINDEX + 4 ≤ o)
     above (inl a) = inl (omega arith)
     above (inr b) = inr b
+
+-- ---- the resume (419-424): SUSP of PORTSC1 goes, and USBSTS has PCI, bit 2
+
+unfoldable pub resumedPage : List ℕ → List ℕ
+resumedPage p =
+    wordPut (wordPut p PORTSC1 (clear (wordAt p PORTSC1) 0x80)) USBSTS
+    (set (wordAt (wordPut p PORTSC1 (clear (wordAt p PORTSC1) 0x80)) USBSTS) 4)
+
+abbrev pub resumedMemory : Memory → Memory
+resumedMemory m = memory (m .dynamic) (m .sram) (resumedPage (m .page))
+
+abbrev resume : PageStep
+resume = R._then_ (changing PORTSC1 (λ v. clear v 0x80)) (raising 4)
+
+resumed-bus : (v : World) → S.stored (lifted resume (busOf v)) (busOf v) .memory ≡ resumedMemory (v .memory)
+unfolding resumedPage changing andThen setting following store
+resumed-bus v =
+    let l = v .state .port .line in
+    ap (λ (b : S.Bus). b .memory)
+    (on-bus (resume (registers (v .memory .page) l)) (v .memory .dynamic) (v .memory .sram) (v .memory .page) l (omega arith, (omega arith, tt)))
+
+pub resumed-memory : (v : World) → left resuming v .memory ≡ resumedMemory (v .memory)
+unfolding onPage one apply
+resumed-memory v =
+    let x = left (one (λ w. Ch.suspended false)) v in
+    ap (λ (w : World). w .memory) (exec-then apply (one (λ w. Ch.suspended false)) (onPage resume) v ∙ replay-bus (lifted resume (busOf x)) x)
+    ∙ resumed-bus x
 
 -- ---- the timers (741-765)
 

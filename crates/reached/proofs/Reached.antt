@@ -1,12 +1,13 @@
 -- The lists of calls come to what specs/Claims says: demand 3's history is about hosts that receive and send.
 use Prim.Native.Nat.{ℕ, _+_, _≤_, _<_}
-use mathlib.Core.Path.{_≡_, refl, ap, ap₂, subst, _∙_}
+use mathlib.Core.Path.{_≡_, refl, ap, ap₂, sym, subst, _∙_}
 use mathlib.Core.Bool.{Bool, true, false, _&&_}
 use mathlib.Core.List.{List, [], _∷_, _++_, append-assoc}
 use native.Mathlib.Omega.{arith}
 use lib.Dec.{eqb, leb, leb·zero}
 use lib.ListN.{length, replicate, length-replicate}
 use borrow.Author.Tests.{leb-true}
+use Rattle.bus.specs.Memory.{Memory}
 use Rattle.record.specs.declared.Phase.the-variants.{Idle, Vbus, Stream}
 use Rattle.record.specs.declared.Settings.{Settings}
 use Rattle.model.specs.Phases.{anySpan}
@@ -27,11 +28,13 @@ use Rattle.history.proofs.Table.{table-counters}
 use Rattle.reached.specs.Lists.{Areas, lend, smallAreas, zeroStatic, words, stalledPage, stoppedPage, primedPage, blockAt400, blockAt600, roomAt420, roomAt620, audioSettings, plain, withStack, withSpan, frame, brings, takes, toStream, inAndOut, inAndOutAtOnce, badBlock, rewritten, oneBlock, goneAndBack, goneAndAgain, runBitCleared}
 use Rattle.reached.specs.Claims.{Lendable, frames, Ends, Hears, Reached}
 use Rattle.reached.proofs.Standing.{Stand}
-use Rattle.reached.proofs.Summed.{played, hears-brings, reads-brings}
+use Rattle.reached.proofs.Page.{framedMemory}
+use Rattle.reached.proofs.Opening.{openedMemory}
+use Rattle.reached.proofs.Summed.{played, readyIn, bytesAsked, bytesRead, hears-brings, reads-brings}
 use Rattle.reached.proofs.Leading.{Fit, Long, blank, On, Leads, leads-then, enters}
 use Rattle.reached.proofs.Queued.{below-zeros, queue-new}
 use Rattle.reached.proofs.Waits.{Calm, standing}
-use Rattle.reached.proofs.Streamed.{streams-of, ends-silent, streams-silent, streams-brings, from-vbus, to-enumerated}
+use Rattle.reached.proofs.Streamed.{streams-of, opens-to, ends-silent, streams-silent, streams-brings, from-vbus, to-enumerated}
 use Rattle.reached.proofs.Resets.{leads-gone, leads-back, leads-left}
 use Rattle.reached.proofs.Lendings.{allWords, pageWords, fit-words, pages, contents}
 
@@ -234,10 +237,14 @@ module _ (a : Areas) (f : List ℕ) (l : Lendable a f) where
       let ok = fit (blockAt400 0x0800_0000) (primedPage 0x80000) refl refl in
       let o = leads-stream false 0 _ refl refl .host (newHost plain) (on-new plain) in
       let e = enters plain a long refl 0 m ok k (omega arith) h o in
-      let st = streams-of plain a long 0 (calm false 0 _ refl refl) m ok (pages .rs-in) 492 483 (omega arith) Stream (worldOf h (lend a m)) e refl in
+      let w = worldOf h (lend a m) in
+      let st = streams-of plain a long 0 (calm false 0 _ refl refl) m ok (pages .rs-in) false 492 483 (omega arith) Stream w e refl in
+      let is : openedMemory w ≡ m = opens-to plain a long 0 (calm false 0 _ refl refl) m ok (pages .rs-in) false 492 483 Stream w e in
+      let ready : readyIn (framedMemory (openedMemory w)) ≡ true = ap (λ (x : Memory). readyIn (framedMemory x)) is ∙ contents f .bad-block .input in
+      let small : bytesAsked (framedMemory (openedMemory w)) ≤ 368 = subst (λ (x : Memory). bytesAsked (framedMemory x) ≤ 368) (sym is) (contents f .bad-block .small) in
       record {
-        heard = hears-brings 0 (worldOf h (lend a m)) st (e .budget) (contents f .bad-block .input) (contents f .bad-block .small);
-        read = ap blocksOf (reads-brings 0 (worldOf h (lend a m)) st (e .budget) (contents f .bad-block .input) (contents f .bad-block .small)) ∙ contents f .bad-bytes;
+        heard = hears-brings 0 w st (e .budget) ready small;
+        read = ap blocksOf (reads-brings 0 w st (e .budget) ready small ∙ ap (λ (x : Memory). bytesRead (framedMemory x)) is) ∙ contents f .bad-bytes;
       }
 
   pub reached : Reached a f

@@ -5,6 +5,7 @@ use mathlib.Core.Bool.{Bool, true, false}
 use mathlib.Core.List.{List, [], _∷_}
 use native.Mathlib.Omega.{arith}
 use lib.ListN.{replicate, replicate-append-replicate}
+use Rattle.bits.specs.Pick.{pick}
 use Rattle.bits.specs.Word.{any}
 use Rattle.bus.specs.Memory.{Memory}
 use Rattle.bus.specs.Words.{wordAt}
@@ -23,8 +24,8 @@ use Rattle.history.specs.Calls.{Call, microframe}
 use Rattle.history.specs.Sums.{Tally}
 use Rattle.reached.specs.Lists.{Areas, lend}
 use Rattle.reached.proofs.Standing.{Stand, Held, heldOf}
-use Rattle.reached.proofs.Opening.{openedHeld}
-use Rattle.reached.proofs.Page.{framedMemory}
+use Rattle.reached.proofs.Opening.{openedHeld, openedMemory}
+use Rattle.reached.proofs.Page.{framedMemory, resumedMemory}
 use Rattle.reached.proofs.Early.{streamingHeld, frame-ends, frame-streams}
 use Rattle.reached.proofs.Summed.{Tested, played, tested-tally, Streams, readyIn, readyOut, bytesAsked, bytesRead, ranMemory, tested-silent, tested-brings}
 use Rattle.reached.proofs.Leading.{Fit, Long, Queue, Enters, Goes, Leads, leads-then, leads-one}
@@ -54,56 +55,67 @@ module _ (c : Settings) (a : Areas) (long : Long a) (t : ℕ) (calm : Calm c t) 
   abbrev pub At : Phase → ℕ → ℕ → Stand
   At q u s = standing q false 0 u s stack
 
+  -- b: it was suspended before
+  abbrev pub From : Bool → Phase → ℕ → ℕ → Stand
+  From b q u s = record { phase = q; on = false; waiting = 0; uf = u; t = s; gone = false; suspended = b; wasRunning = stack }
+
+  -- the memory at the choice by phase
+  abbrev pub opensTo : Bool → Memory
+  opensTo b = pick b (resumedMemory m) m
+
   -- the World of such a microframe
-  pub streams-of : (u s : ℕ) → u < MOST → (q : Phase) (w : World) → Enters c (At q u s) m w → streamsAt (At q u s) ≡ true → Streams t w
-  streams-of u s few q w e begins =
+  pub streams-of : (b : Bool) (u s : ℕ) → u < MOST → (q : Phase) (w : World) → Enters c (From b q u s) m w → streamsAt (From b q u s) ≡ true → Streams t w
+  streams-of b u s few q w e begins =
       record {
-        plain = plain-of c a long t calm m fit rs (At q u s) w refl refl few e;
+        plain = plain-of c a long t calm m fit rs (From b q u s) w refl few e;
         streams = ap streamsAt (e .stands) ∙ begins;
         free = ap (λ (x : Stand). x .on) (e .stands);
         nothing-waits = ap (λ (x : Stand). x .waiting) (e .stands);
       }
 
+  pub opens-to : (b : Bool) (u s : ℕ) (q : Phase) (w : World) → Enters c (From b q u s) m w → openedMemory w ≡ opensTo b
+  opens-to b u s q w e = ap₂ (λ (x : Bool) (y : Memory). pick x (resumedMemory y) y) (ap (λ (x : Stand). x .suspended) (e .stands)) (e .memory)
+
   -- a microframe of a host in Stream, or in Enumerate with no setup left, by the tests of its sums
-  module _ (u s : ℕ) (few : u < MOST) (h : Bool) (n : ℕ) (o : Bool) (y : Tally)
-      (law : (w : World) → Streams t w → w .memory ≡ m → w .state .audio .budget ≤ 32766 → Tested t w false h n o) where
-    goes : (q : Phase) (w : World) → Enters c (At q u s) m w → Streams t w
+  module _ (b : Bool) (u s : ℕ) (few : u < MOST) (h : Bool) (n : ℕ) (o : Bool) (y : Tally)
+      (law : (w : World) → Streams t w → openedMemory w ≡ opensTo b → w .state .audio .budget ≤ 32766 → Tested t w false h n o) where
+    goes : (q : Phase) (w : World) → Enters c (From b q u s) m w → Streams t w
         → heldOf (left (M.microframe t) w) ≡ record { stand = At Stream (u + 1) s; queue = w .setups } → Goes t w (At Stream (u + 1) s) y (played false h n o y)
     goes q w e st is =
         record {
           stands = ap (λ (x : Held). x .stand) is;
           queue = λ z. subst Queue (sym (ap (λ (x : Held). x .queue) is)) z;
-          sums = tested-tally t w false h n o (law w st (e .memory) (e .budget)) y;
+          sums = tested-tally t w false h n o (law w st (opens-to b u s q w e) (e .budget)) y;
         }
 
     -- what the opening makes of it
-    more : (q : Phase) (w : World) → Enters c (At q u s) m w → (f : Held → Held)
+    more : (q : Phase) (w : World) → Enters c (From b q u s) m w → (f : Held → Held)
         → f (openedHeld (w .settings .«device_stack») (heldOf w)) ≡ f (record { stand = At q (u + 1) s; queue = w .setups })
     more q w e f =
         ap₂ (λ (b : Bool) (x : Stand). f (openedHeld b (record { stand = x; queue = w .setups }))) (ap (λ (x : Settings). x .«device_stack») (e .settings)) (e .stands)
         ∙ ap (λ (b : Bool). f (record { stand = standing q false 0 (u + 1) s b; queue = w .setups })) (seen-is stack)
 
-    leads-ends : Leads c a (call ∷ []) (At Enumerate u s) (At Stream (u + 1) s) y (played false h n o y)
+    leads-ends : Leads c a (call ∷ []) (From b Enumerate u s) (At Stream (u + 1) s) y (played false h n o y)
     leads-ends =
-        leads-one c a long (calm .few) t m fit (At Enumerate u s) few (At Stream (u + 1) s) y (played false h n o y) (λ w e.
-        let st = streams-of u s few Enumerate w e refl in
+        leads-one c a long (calm .few) t m fit (From b Enumerate u s) few (At Stream (u + 1) s) y (played false h n o y) (λ w e.
+        let st = streams-of b u s few Enumerate w e refl in
         goes Enumerate w e st
         (frame-ends t w (st .plain) (ap (λ (x : Stand). x .phase) (e .stands)) (st .free) (st .nothing-waits) ∙ more Enumerate w e streamingHeld))
 
-    leads-streams : Leads c a (call ∷ []) (At Stream u s) (At Stream (u + 1) s) y (played false h n o y)
+    leads-streams : Leads c a (call ∷ []) (From b Stream u s) (At Stream (u + 1) s) y (played false h n o y)
     leads-streams =
-        leads-one c a long (calm .few) t m fit (At Stream u s) few (At Stream (u + 1) s) y (played false h n o y) (λ w e.
-        let st = streams-of u s few Stream w e refl in
+        leads-one c a long (calm .few) t m fit (From b Stream u s) few (At Stream (u + 1) s) y (played false h n o y) (λ w e.
+        let st = streams-of b u s few Stream w e refl in
         goes Stream w e st
         (frame-streams t w (st .plain) (ap (λ (x : Stand). x .phase) (e .stands)) (st .free) (st .nothing-waits) ∙ more Stream w e (λ k. k)))
 
   -- ---- by what it is lent
 
-  silent-law : (o : Bool) → Silent m o → (w : World) → Streams t w → w .memory ≡ m → w .state .audio .budget ≤ 32766 → Tested t w false false 0 o
-  silent-law o h w st e few =
+  silent-law : (b o : Bool) → Silent (opensTo b) o → (w : World) → Streams t w → openedMemory w ≡ opensTo b → w .state .audio .budget ≤ 32766 → Tested t w false false 0 o
+  silent-law b o h w st e few =
       tested-silent t w st o (ap (λ (x : Memory). primed audioIn (framedMemory x .page)) e ∙ h .unprimed) (ap (λ (x : Memory). readyOut (framedMemory x)) e ∙ h .output)
 
-  brings-law : (n : ℕ) (o : Bool) → Brings m n o → (w : World) → Streams t w → w .memory ≡ m → w .state .audio .budget ≤ 32766 → Tested t w false true n o
+  brings-law : (n : ℕ) (o : Bool) → Brings m n o → (w : World) → Streams t w → openedMemory w ≡ m → w .state .audio .budget ≤ 32766 → Tested t w false true n o
   brings-law n o h w st e few =
       let asks = h .small in
       tested-brings t w st few (ap (λ (x : Memory). readyIn (framedMemory x)) e ∙ h .input) (omega (arith, ap (λ (x : Memory). bytesAsked (framedMemory x)) e, asks)) n o
@@ -111,13 +123,17 @@ module _ (c : Settings) (a : Areas) (long : Long a) (t : ℕ) (calm : Calm c t) 
       (λ l. ap (λ (x : Memory). readyOut (ranMemory (framedMemory x) l)) e ∙ h .output l)
 
   pub ends-silent : (u s : ℕ) → u < MOST → (o : Bool) → Silent m o → (y : Tally) → Leads c a (call ∷ []) (At Enumerate u s) (At Stream (u + 1) s) y (played false false 0 o y)
-  ends-silent u s few o h y = leads-ends u s few false 0 o y (silent-law o h)
+  ends-silent u s few o h y = leads-ends false u s few false 0 o y (silent-law false o h)
 
   pub streams-silent : (u s : ℕ) → u < MOST → (o : Bool) → Silent m o → (y : Tally) → Leads c a (call ∷ []) (At Stream u s) (At Stream (u + 1) s) y (played false false 0 o y)
-  streams-silent u s few o h y = leads-streams u s few false 0 o y (silent-law o h)
+  streams-silent u s few o h y = leads-streams false u s few false 0 o y (silent-law false o h)
+
+  -- resumed
+  pub resumes-silent : (u s : ℕ) → u < MOST → (o : Bool) → Silent (resumedMemory m) o → (y : Tally) → Leads c a (call ∷ []) (From true Stream u s) (At Stream (u + 1) s) y (played false false 0 o y)
+  resumes-silent u s few o h y = leads-streams true u s few false 0 o y (silent-law true o h)
 
   pub streams-brings : (u s : ℕ) → u < MOST → (n : ℕ) (o : Bool) → Brings m n o → (y : Tally) → Leads c a (call ∷ []) (At Stream u s) (At Stream (u + 1) s) y (played false true n o y)
-  streams-brings u s few n o h y = leads-streams u s few true n o y (brings-law n o h)
+  streams-brings u s few n o h y = leads-streams false u s few true n o y (brings-law n o h)
 
   -- ---- from VBUS, and from a new host, to the end of enumeration, with one memory: RS set, URI clear, endpoint 0 stalled
 

@@ -36,7 +36,7 @@ use Rattle.kept.proofs.Every.{on-if}
 use Rattle.history.specs.Sums as S
 use Rattle.history.specs.Sums.{Sums, Tally, none, receive, send, readAt, reset, heard, answered, answeredEver}
 use Rattle.reached.proofs.Standing.{held}
-use Rattle.reached.proofs.Opening.{if-true, if-false, when-true, when-false, Plain, opened-memory, opened-budget}
+use Rattle.reached.proofs.Opening.{if-true, if-false, when-true, when-false, Plain, openedMemory, opened-memory, opened-budget}
 use Rattle.reached.proofs.Page.{framedMemory, framed-memory, framed-budget}
 use Rattle.reached.proofs.Early.{asked, asked-on, asked-waiting}
 
@@ -165,7 +165,7 @@ module _ (t : ℕ) (w : World) (s : Streams t w) where
       ∙ if-false (λ v. v .state .control .on) _ _ at-control (asked-on t w p false (s .free))
       ∙ if-true (λ v. eqb (v .state .lengths .setups) 0) configured posts at-control (ap (λ (n : ℕ). eqb n 0) (asked-waiting t w p 0 (s .nothing-waits)))
 
-  stream-memory : streamBy true w .memory ≡ framedMemory (w .memory)
+  stream-memory : streamBy true w .memory ≡ framedMemory (openedMemory w)
   stream-memory =
       ap (λ (x : World). x .memory) stream-is ∙ configured-same at-control .memory
       ∙ framed-memory (phaseBy true w) ∙ ap framedMemory (opened-memory t w p)
@@ -301,7 +301,7 @@ unprimed-memory m l e = ap (λ (r : Run). stored (r .stores) (bus m l) .memory) 
 
 module _ (t : ℕ) (w : World) (s : Streams t w) where
   abbrev seen : Memory
-  seen = framedMemory (w .memory)
+  seen = framedMemory (openedMemory w)
 
   input-memory : atInput w .memory ≡ seen
   input-memory =

@@ -65,8 +65,8 @@ module _ (c : Settings) (a : Areas) (long : Long a) (t : ℕ) (calm : Calm c t) 
   abbrev stack : Bool
   stack = c .«device_stack»
 
-  pub plain-of : (k : Stand) (w : World) → k .gone ≡ false → k .suspended ≡ false → k .uf < MOST → Enters c k m w → Plain t w
-  plain-of k w g s u e =
+  pub plain-of : (k : Stand) (w : World) → k .gone ≡ false → k .uf < MOST → Enters c k m w → Plain t w
+  plain-of k w g u e =
       record {
         timers = subst (λ (x : Memory). Stopped (x .page)) (sym (e .memory)) (fit .timers);
         audio = ap (λ (x : Settings). x .cdc) (e .settings) ∙ calm .audio;
@@ -74,18 +74,17 @@ module _ (c : Settings) (a : Areas) (long : Long a) (t : ℕ) (calm : Calm c t) 
         awake = ap (λ (x : Settings). within (x .suspend) t) (e .settings) ∙ calm .awake;
         rs = ap (λ (x : Memory). any (wordAt (x .page) USBCMD) 1) (e .memory) ∙ rs;
         still = ap (λ (x : Stand). x .gone) (e .stands) ∙ g;
-        woken = ap (λ (x : Stand). x .suspended) (e .stands) ∙ s;
         few = omega (arith, ap (λ (x : Stand). x .uf) (e .stands), u);
       }
 
   -- before the stream: by what the microframe does to what the host holds, f, whatever its setups
-  early : (k : Stand) (f : Bool → Held → Held) (y : Tally) → k .gone ≡ false → k .suspended ≡ false → k .uf < MOST → streamsAt k ≡ false
+  early : (k : Stand) (f : Bool → Held → Held) (y : Tally) → k .gone ≡ false → k .uf < MOST → streamsAt k ≡ false
       → ((q : List ℕ) → Queue q → Queue (f stack (record { stand = k; queue = q }) .queue))
       → ((w : World) → Plain t w → standOf w ≡ k → w .memory ≡ m → heldOf (left (M.microframe t) w) ≡ f (w .settings .«device_stack») (heldOf w))
       → (k′ : Stand) → ((q : List ℕ) → f stack (record { stand = k; queue = q }) .stand ≡ k′) → Leads c a (call ∷ []) k k′ y y
-  early k f y gn sn u quiet queue law k′ is =
+  early k f y gn u quiet queue law k′ is =
       leads-one c a long (calm .few) t m fit k u k′ y y (λ w e.
-      let p = plain-of k w gn sn u e in
+      let p = plain-of k w gn u e in
       let now = law w p (e .stands) (e .memory) ∙ ap₂ (λ (b : Bool) (x : Stand). f b (record { stand = x; queue = w .setups })) (ap (λ (x : Settings). x .«device_stack») (e .settings)) (e .stands) in
       record {
         stands = ap (λ (x : Held). x .stand) now ∙ is (w .setups);
@@ -97,7 +96,7 @@ module _ (c : Settings) (a : Areas) (long : Long a) (t : ℕ) (calm : Calm c t) 
 
   pub leads-idle : (y : Tally) → Leads c a (call ∷ []) (standing Idle false 0 0 0 false) (standing Vbus false 0 1 1 stack) y y
   leads-idle y =
-      early (standing Idle false 0 0 0 false) (λ b k. enteredHeld Vbus (openedHeld b k)) y refl refl (omega arith) refl (λ q h. h)
+      early (standing Idle false 0 0 0 false) (λ b k. enteredHeld Vbus (openedHeld b k)) y refl (omega arith) refl (λ q h. h)
       (λ w p e f. frame-idle t w p (ap (λ (x : Stand). x .phase) e))
       (standing Vbus false 0 1 1 stack) (λ q. ap (λ (b : Bool). standing Vbus false 0 1 1 b) (seen-first stack))
 
@@ -110,34 +109,34 @@ module _ (c : Settings) (a : Areas) (long : Long a) (t : ℕ) (calm : Calm c t) 
 
     wait-vbus : u + 1 ≤ s + 400 → (y : Tally) → Leads c a (call ∷ []) (standing Vbus false 0 u s stack) (standing Vbus false 0 (u + 1) s stack) y y
     wait-vbus h y =
-        early (standing Vbus false 0 u s stack) openedHeld y refl refl few refl (λ q x. x)
+        early (standing Vbus false 0 u s stack) openedHeld y refl few refl (λ q x. x)
         (λ w p e f. frame-vbus t w p (ap (λ (x : Stand). x .phase) e) (ap (λ (x : Stand). ltb (wrapped (x .t + 400)) (x .uf + 1)) e ∙ before-reset 400 (omega arith) h))
         (standing Vbus false 0 (u + 1) s stack) (λ q. ap (λ (b : Bool). standing Vbus false 0 (u + 1) s b) (seen-is stack))
 
     pub leads-powers : s + 400 < u + 1 → (y : Tally) → Leads c a (call ∷ []) (standing Vbus false 0 u s stack) (standing Reset false 0 (u + 1) (u + 1) stack) y y
     leads-powers h y =
-        early (standing Vbus false 0 u s stack) (λ b k. enteredHeld Reset (openedHeld b k)) y refl refl few refl (λ q x. x)
+        early (standing Vbus false 0 u s stack) (λ b k. enteredHeld Reset (openedHeld b k)) y refl few refl (λ q x. x)
         (λ w p e f. frame-powers t w p (ap (λ (x : Stand). x .phase) e) (ap (λ (x : Stand). ltb (wrapped (x .t + 400)) (x .uf + 1)) e ∙ past 400 (omega arith) h))
         (standing Reset false 0 (u + 1) (u + 1) stack) (λ q. ap (λ (b : Bool). standing Reset false 0 (u + 1) (u + 1) b) (seen-is stack))
 
     wait-reset : u + 1 ≤ s + 80 → (y : Tally) → Leads c a (call ∷ []) (standing Reset false 0 u s stack) (standing Reset false 0 (u + 1) s stack) y y
     wait-reset h y =
-        early (standing Reset false 0 u s stack) openedHeld y refl refl few refl (λ q x. x)
+        early (standing Reset false 0 u s stack) openedHeld y refl few refl (λ q x. x)
         (λ w p e f. frame-reset t w p (ap (λ (x : Stand). x .phase) e) (ap (λ (x : Stand). ltb (wrapped (x .t + 80)) (x .uf + 1)) e ∙ before-reset 80 (omega arith) h))
         (standing Reset false 0 (u + 1) s stack) (λ q. ap (λ (b : Bool). standing Reset false 0 (u + 1) s b) (seen-is stack))
 
     -- URI is clear
     pub leads-resets : s + 80 < u + 1 → any (wordAt (m .page) USBSTS) 0x40 ≡ false → (y : Tally) → Leads c a (call ∷ []) (standing Reset false 0 u s stack) (standing Enumerate false 4 (u + 1) (u + 1) stack) y y
     leads-resets h clear y =
-        early (standing Reset false 0 u s stack) (λ b k. asking (enteredHeld Enumerate (openedHeld b k))) y refl refl few refl (λ q x. queue-first q 0 x)
-        (λ w p e f. frame-resets t w p (ap (λ (x : Stand). x .phase) e) (ap (λ (x : Stand). ltb (wrapped (x .t + 80)) (x .uf + 1)) e ∙ past 80 (omega arith) h) (ap (λ (x : Memory). any (wordAt (x .page) USBSTS) 0x40) f ∙ clear))
+        early (standing Reset false 0 u s stack) (λ b k. asking (enteredHeld Enumerate (openedHeld b k))) y refl few refl (λ q x. queue-first q 0 x)
+        (λ w p e f. frame-resets t w p (ap (λ (x : Stand). x .suspended) e) (ap (λ (x : Stand). x .phase) e) (ap (λ (x : Stand). ltb (wrapped (x .t + 80)) (x .uf + 1)) e ∙ past 80 (omega arith) h) (ap (λ (x : Memory). any (wordAt (x .page) USBSTS) 0x40) f ∙ clear))
         (standing Enumerate false 4 (u + 1) (u + 1) stack) (λ q. ap (λ (b : Bool). standing Enumerate false 4 (u + 1) (u + 1) b) (seen-is stack))
 
   -- a setup is posted
   pub leads-posts : (n u s : ℕ) → n < 257 → u < MOST → (y : Tally) → Leads c a (call ∷ []) (standing Enumerate false (suc n) u s stack) (standing Enumerate true n (u + 1) s stack) y y
   leads-posts n u s small few y =
       let one-less : suc n - 1 ≡ n = omega arith in
-      early (standing Enumerate false (suc n) u s stack) (λ b k. postedHeld (openedHeld b k)) y refl refl few (eqb·suc-zero n) (λ q x. queue-posted q (8 * suc n) (omega arith) x)
+      early (standing Enumerate false (suc n) u s stack) (λ b k. postedHeld (openedHeld b k)) y refl few (eqb·suc-zero n) (λ q x. queue-posted q (8 * suc n) (omega arith) x)
       (λ w p e f. frame-posts t w p (ap (λ (x : Stand). x .phase) e) (ap (λ (x : Stand). x .on) e) (omega (arith, ap (λ (x : Stand). x .waiting) e)))
       (standing Enumerate true n (u + 1) s stack)
       (λ q. ap₂ (λ (i : ℕ) (b : Bool). standing Enumerate true i (u + 1) s b) one-less (seen-is stack))
@@ -145,8 +144,8 @@ module _ (c : Settings) (a : Areas) (long : Long a) (t : ℕ) (calm : Calm c t) 
   -- and dropped: endpoint 0 is stalled
   pub leads-stalls : (n u s : ℕ) → u < MOST → any (wordAt (m .page) EPCR0) 0x10001 ≡ true → (y : Tally) → Leads c a (call ∷ []) (standing Enumerate true n u s stack) (standing Enumerate false n (u + 1) s stack) y y
   leads-stalls n u s few stall y =
-      early (standing Enumerate true n u s stack) (λ b k. onHeld false (openedHeld b k)) y refl refl few refl (λ q x. x)
-      (λ w p e f. frame-stalls t w p (ap (λ (x : Stand). x .phase) e) (ap (λ (x : Stand). x .on) e) (ap (λ (x : Memory). any (wordAt (x .page) EPCR0) 0x10001) f ∙ stall))
+      early (standing Enumerate true n u s stack) (λ b k. onHeld false (openedHeld b k)) y refl few refl (λ q x. x)
+      (λ w p e f. frame-stalls t w p (ap (λ (x : Stand). x .suspended) e) (ap (λ (x : Stand). x .phase) e) (ap (λ (x : Stand). x .on) e) (ap (λ (x : Memory). any (wordAt (x .page) EPCR0) 0x10001) f ∙ stall))
       (standing Enumerate false n (u + 1) s stack) (λ q. ap (λ (b : Bool). standing Enumerate false n (u + 1) s b) (seen-is stack))
 
   -- ---- any number of waits: only the counts change
