@@ -33,7 +33,7 @@ asideOf w = record { block = w .state .audio .block; channels = w .state .audio 
 abbrev pub slept : Aside → Aside
 slept k = record { block = k .block; channels = k .channels; asleep = wrapped (k .asleep + 1) }
 
-abbrev asideCounts : Counter → ℕ → Aside → Aside
+abbrev pub asideCounts : Counter → ℕ → Aside → Aside
 asideCounts microframes n k = k
 asideCounts «in_transfers» n k = k
 asideCounts «out_transfers» n k = k
@@ -48,7 +48,7 @@ asideCounts «vendor_in_bytes» n k = k
 asideCounts restarts n k = k
 asideCounts enumerations n k = k
 
-abbrev asideOn : Change → Aside → Aside
+abbrev pub asideOn : Change → Aside → Aside
 asideOn (bus s) k = k
 asideOn (ran e r n) k = k
 asideOn (lost n) k = k
@@ -95,7 +95,7 @@ aside-count «vendor_in_bytes» n w = refl
 aside-count restarts n w = refl
 aside-count enumerations n w = refl
 
-aside-apply : (c : Change) (w : World) → asideOf (apply c w) ≡ asideOn c (asideOf w)
+pub aside-apply : (c : Change) (w : World) → asideOf (apply c w) ≡ asideOn c (asideOf w)
 unfolding apply
 aside-apply (bus s) w = refl
 aside-apply (ran e r n) w = refl
@@ -127,7 +127,7 @@ aside-apply (received bs) w = refl
 aside-apply (frame f) w = refl
 aside-apply (taken n) w = refl
 
-abbrev aside : Fields Aside
+abbrev pub aside : Fields Aside
 aside =
     record {
       of = asideOf;
@@ -355,7 +355,7 @@ keeps-outputs : Keeps aside streamOut
 unfolding streamOut
 keeps-outputs = search (keeps-rules, keeps-sends, keeps-unprimes)
 
-keeps-streams : Keeps aside streams
+pub keeps-streams : Keeps aside streams
 unfolding streams
 keeps-streams = search (keeps-rules, keeps-hears, keeps-outputs)
 
@@ -403,11 +403,13 @@ aside-opened c rs e w =
     ∙ ap (λ (b : Bool). asideOf (left (leaves b rs) (left (suspends false) (left (opens c false) w)))) e
     ∙ keeps-leaves rs _ ∙ keeps-suspends false _ ∙ keeps-opens c w
 
--- at the output step
-pub aside-output : (w : World) → w .settings .«device_stack» ≡ false → asideOf (atOutput w) ≡ asideOf w
+-- at the stream step, and at the output step
+pub aside-stream : (rs : Bool) (w : World) → w .settings .«device_stack» ≡ false → asideOf (streamBy rs w) ≡ asideOf w
 unfolding streamBy phaseBy
-aside-output w e =
-    keeps-hears (streamBy (rsSet w) w) ∙ keeps-enumerates (w .settings) e (phaseBy (rsSet w) w) ∙ aside-opened (w .settings) (rsSet w) e w
+aside-stream rs w e = keeps-enumerates (w .settings) e (phaseBy rs w) ∙ aside-opened (w .settings) rs e w
+
+pub aside-output : (w : World) → w .settings .«device_stack» ≡ false → asideOf (atOutput w) ≡ asideOf w
+aside-output w e = keeps-hears (streamBy (rsSet w) w) ∙ aside-stream (rsSet w) w e
 
 by-tests : (t : ℕ) (rs g s : Bool) (w : World) → g ≡ false → s ≡ false → w .settings .«device_stack» ≡ false → within (w .settings .sleep) t ≡ false → asideOf (left (frameOf (w .settings) t rs g s) w) ≡ asideOf w
 unfolding frameOf byPhase
@@ -428,7 +430,7 @@ unfolding microframe here
 aside-awake t w e f g h = by-tests t (rsSet w) (goneAt t w) (asleepAt t w) w e f g h
 
 -- one that is suspended
-sleeps-once : (v : World) → asideOf (left sleeps v) ≡ slept (asideOf v)
+pub sleeps-once : (v : World) → asideOf (left sleeps v) ≡ slept (asideOf v)
 unfolding sleeps one apply counted
 sleeps-once v = refl
 

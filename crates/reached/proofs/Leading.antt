@@ -26,6 +26,8 @@ use Rattle.usbhost.specs.Calls.{fewSpans}
 use Rattle.usbhost.specs.Frame.{worldOf, hostIn, lengthsOk, areaLengths, boundsOk, frameNumber, framed}
 use Rattle.history.specs.Calls.{Call, microframe, step, after}
 use Rattle.history.specs.Sums.{Tally, summed, tallied, tally}
+use Rattle.history.specs.Accepts.{numberOf, AtEach}
+use Rattle.reached.specs.Claims.{Accepted}
 use Rattle.reached.specs.Lists.{Areas, lend}
 use Rattle.reached.proofs.Standing.{Stand, standOf}
 use Rattle.reached.proofs.Page.{Stopped}
@@ -78,20 +80,26 @@ pub record Goes (t : ℕ) (w : World) (k : Stand) (y y′ : Tally) : Type 0 wher
 pub record Leads (c : Settings) (a : Areas) (cs : List Call) (k k′ : Stand) (y y′ : Tally) : Type 0 where
   pub host : (h : Host) → On c a k h → On c a k′ (after h cs)
   pub sums : (h : Host) → On c a k h → tally h y cs ≡ y′
+  pub numbers : (h : Host) → On c a k h → Accepted h cs
 
 pub leads-none : (c : Settings) (a : Areas) (k : Stand) (y : Tally) → Leads c a [] k k y y
-unfolding after tally
-leads-none c a k y = record { host = λ h o. o; sums = λ h o. refl }
+unfolding after tally AtEach
+leads-none c a k y = record { host = λ h o. o; sums = λ h o. refl; numbers = λ h o. tt }
 
-after-append : (h : Host) (cs ds : List Call) → after h (cs ++ ds) ≡ after (after h cs) ds
+pub after-append : (h : Host) (cs ds : List Call) → after h (cs ++ ds) ≡ after (after h cs) ds
 unfolding after
 after-append h [] ds = refl
 after-append h (c ∷ cs) ds = after-append (step h c) cs ds
 
-tally-append : (h : Host) (y : Tally) (cs ds : List Call) → tally h y (cs ++ ds) ≡ tally (after h cs) (tally h y cs) ds
+pub tally-append : (h : Host) (y : Tally) (cs ds : List Call) → tally h y (cs ++ ds) ≡ tally (after h cs) (tally h y cs) ds
 unfolding after tally
 tally-append h y [] ds = refl
 tally-append h y (c ∷ cs) ds = tally-append (step h c) (tallied h y c) cs ds
+
+pub accepted-append : (h : Host) (cs ds : List Call) → Accepted h cs → Accepted (after h cs) ds → Accepted h (cs ++ ds)
+unfolding after AtEach
+accepted-append h [] ds p q = q
+accepted-append h (c ∷ cs) ds p q = (p .0, accepted-append (step h c) cs ds (p .1) q)
 
 pub leads-then : {c : Settings} {a : Areas} {cs ds : List Call} {k k′ k″ : Stand} {y y′ y″ : Tally} → Leads c a cs k k′ y y′ → Leads c a ds k′ k″ y′ y″ → Leads c a (cs ++ ds) k k″ y y″
 leads-then {c} {a} {cs} {ds} {k} {k′} {k″} {y} {y′} {y″} p q =
@@ -99,6 +107,7 @@ leads-then {c} {a} {cs} {ds} {k} {k′} {k″} {y} {y′} {y″} p q =
       host = λ h o. subst (On c a k″) (sym (after-append h cs ds)) (q .host (after h cs) (p .host h o));
       sums = λ h o.
           tally-append h y cs ds ∙ ap (λ (x : Tally). tally (after h cs) x ds) (p .sums h o) ∙ q .sums (after h cs) (p .host h o);
+      numbers = λ h o. accepted-append h cs ds (p .numbers h o) (q .numbers (after h cs) (p .host h o));
     }
 
 -- ---- one microframe
@@ -146,15 +155,19 @@ module _ (c : Settings) (a : Areas) (long : Long a) (few : leb (c .spans) 16 ≡
         }
 
     -- no test refuses it
-    accepted : frameNumber h (lend a m) ≡ 0
+    pub accepted : frameNumber h (lend a m) ≡ 0
     unfolding frameNumber boundsOk
     accepted =
         let spans : fewSpans h ≡ true = ap (λ (s : Settings). leb (s .spans) 16) (o .settings) ∙ few in
         simp (fit .sized, long .lengths, spans, o .bounds .record-bounds, o .bounds .areas, o .bounds .received, o .bounds .sending, lt-ltb (h .port .uf) MOST before-h)
 
-    step-is : step h (microframe t (lend a m)) ≡ hostIn (left (M.microframe t) w)
-    unfolding step framed
-    step-is = ap (λ (n : ℕ). hostIn (pick (eqb n 0) (left (M.microframe t) w) w)) accepted
+    pub framed-is : framed t h (lend a m) ≡ left (M.microframe t) w
+    unfolding framed
+    framed-is = ap (λ (n : ℕ). pick (eqb n 0) (left (M.microframe t) w) w) accepted
+
+    pub step-is : step h (microframe t (lend a m)) ≡ hostIn (left (M.microframe t) w)
+    unfolding step
+    step-is = ap hostIn framed-is
 
     tallied-is : (y : Tally) → tallied h y (microframe t (lend a m)) ≡ tallyOf t w y
     unfolding tallied summed
@@ -186,9 +199,10 @@ module _ (c : Settings) (a : Areas) (long : Long a) (few : leb (c .spans) 16 ≡
         })
 
   pub leads-one : (k′ : Stand) (y y′ : Tally) → ((w : World) → Enters c k m w → Goes t w k′ y y′) → Leads c a (microframe t (lend a m) ∷ []) k k′ y y′
-  unfolding after tally
+  unfolding after tally AtEach numberOf
   leads-one k′ y y′ p =
       record {
         host = λ h o. next h o k′ y y′ (p (w h o) (enters h o));
         sums = λ h o. tallied-is h o y ∙ p (w h o) (enters h o) .sums;
+        numbers = λ h o. (accepted h o, tt);
       }

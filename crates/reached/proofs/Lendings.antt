@@ -22,11 +22,12 @@ use Rattle.usbdev.specs.Transfer.{nextFrindex, totalOf, tokenAfter}
 use Rattle.transfer.specs.Transfer.{pointers, bytesIn, tabulate, dataAddr}
 use Rattle.dtd.specs.Dtd.{primed, queueHead, nextOf, nextActive, runDtds, turns, settled, joined, turning, dataOut, moves, bytesOf, retiring, closing, advancing, completing, framed, followed, following, settling, unpriming, reporting, listEnds}
 use Rattle.model.specs.Audio.{blocksOf, blocks, good}
+use Rattle.model.specs.Ring.{framesFrom, framesOfBlock, framesOfBlocks, framesRead}
 use Rattle.model.specs.Earned.{goodBlocks}
 use Rattle.gptimers.specs.Timer as T
 use Rattle.bits.proofs.Tests.{and-first, and-second, or-case}
-use Rattle.reached.specs.Lists.{puts, window, words, stalledPage, stoppedPage, primedPage, blockAt400, blockAt600, roomAt420, roomAt620}
-use Rattle.reached.proofs.Page.{framedPage, framedMemory, Stopped}
+use Rattle.reached.specs.Lists.{puts, window, words, stalledPage, stoppedPage, primedPage, blockAt400, soundAt400, blockAt600, roomAt420, roomAt620}
+use Rattle.reached.proofs.Page.{framedPage, framedMemory, resumedPage, resumedMemory, Stopped}
 use Rattle.reached.proofs.Summed.{bytesAsked, bytesRead, ranMemory}
 use Rattle.reached.proofs.Leading.{Fit}
 use Rattle.reached.proofs.Queued.{Below, below-zeros}
@@ -122,24 +123,30 @@ pages = record { rs-stalled = refl; uri-stalled = refl; stall = refl; rs-in = re
 pub record Contents (f : List ℕ) : Type 0 where
   pub waits : Silent (words f [] stalledPage) false
   pub good-block : Brings (words f (blockAt400 0x0700_0000) (primedPage 0x80000)) 1 false
+  pub sound : Brings (words f soundAt400 (primedPage 0x80000)) 1 false
+  pub sound-frames : framesRead (bytesRead (framedMemory (words f soundAt400 (primedPage 0x80000)))) ≡ (0x1234_5678 ∷ 0x9ABC_DEF0 ∷ replicate 10 0) ∷ replicate 6 (replicate 12 0)
   pub bad-block : Brings (words f (blockAt400 0x0800_0000) (primedPage 0x80000)) 0 false
   pub bad-bytes : blocksOf (bytesRead (framedMemory (words f (blockAt400 0x0800_0000) (primedPage 0x80000)))) ≡ (8 ∷ replicate 367 0) ∷ []
   pub other-block : Brings (words f blockAt600 (primedPage 0x80000)) 1 false
   pub room : Silent (words f roomAt420 (primedPage 8)) true
   pub other-room : Silent (words f roomAt620 (primedPage 8)) true
+  pub resumed-room : Silent (resumedMemory (words f roomAt420 (primedPage 8))) true
   pub both : Brings (words f (blockAt400 0x0700_0000 ++ roomAt420) (primedPage 0x80008)) 1 true
 
 module _ (f : List ℕ) where
   pub contents : Contents f
-  unfolding puts framedPage primed nextActive nextOf queueHead wordAt wordPut word at place read peek8 peek32 after nextFrindex totalOf ranMemory runDtds turns settled joined turning dataOut moves bytesOf retiring closing advancing completing framed followed following settling unpriming reporting listEnds andThen putting when store setting R.following R.store R.onBus lineOf poke8 poke32 write tokenAfter pointers bytesIn tabulate dataAddr goodBlocks blocks good
+  unfolding puts framedPage resumedPage primed nextActive nextOf queueHead wordAt wordPut word at place read peek8 peek32 after nextFrindex totalOf ranMemory runDtds turns settled joined turning dataOut moves bytesOf retiring closing advancing completing framed followed following settling unpriming reporting listEnds andThen putting when store setting R.following R.store R.onBus lineOf poke8 poke32 write tokenAfter pointers bytesIn tabulate dataAddr goodBlocks blocks good framesOfBlocks framesOfBlock framesFrom
   contents =
       record {
         waits = record { unprimed = refl; output = refl };
         good-block = record { input = refl; small = leb-true (bytesAsked (framedMemory (words f (blockAt400 0x0700_0000) (primedPage 0x80000)))) 368 refl; blocks = refl; output = λ l. refl };
+        sound = record { input = refl; small = leb-true (bytesAsked (framedMemory (words f soundAt400 (primedPage 0x80000)))) 368 refl; blocks = refl; output = λ l. refl };
+        sound-frames = refl;
         bad-block = record { input = refl; small = leb-true (bytesAsked (framedMemory (words f (blockAt400 0x0800_0000) (primedPage 0x80000)))) 368 refl; blocks = refl; output = λ l. refl };
         bad-bytes = refl;
         other-block = record { input = refl; small = leb-true (bytesAsked (framedMemory (words f blockAt600 (primedPage 0x80000)))) 368 refl; blocks = refl; output = λ l. refl };
         room = record { unprimed = refl; output = refl };
         other-room = record { unprimed = refl; output = refl };
+        resumed-room = record { unprimed = refl; output = refl };
         both = record { input = refl; small = leb-true (bytesAsked (framedMemory (words f (blockAt400 0x0700_0000 ++ roomAt420) (primedPage 0x80008)))) 368 refl; blocks = refl; output = λ l. refl };
       }

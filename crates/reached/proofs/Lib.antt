@@ -10,5 +10,7 @@ pub mod Queued
 pub mod Waits
 pub mod Streamed
 pub mod Resets
+pub mod Sleeping
 pub mod Lendings
+pub mod Rings
 pub mod Reached

@@ -8,16 +8,15 @@ use lib.Dec.{eqb, leb, leb·zero}
 use lib.ListN.{length, replicate, length-replicate}
 use borrow.Author.Tests.{leb-true}
 use Rattle.bus.specs.Memory.{Memory}
+use Rattle.record.specs.declared.Phase.{Phase}
 use Rattle.record.specs.declared.Phase.the-variants.{Idle, Vbus, Stream}
 use Rattle.record.specs.declared.Settings.{Settings}
-use Rattle.model.specs.Phases.{anySpan}
+use Rattle.model.specs.Phases.{within, anySpan}
 use Rattle.model.specs.Audio.{blocksOf}
 use Rattle.bits.proofs.Tests.{and-first, and-second}
-use Rattle.bounds.specs.Bounds.{MOST, inBounds, askedOk, heldOk, countedOk, countsOk, areasOk}
-use Rattle.kept.proofs.Counted.{counted-of}
-use Rattle.kept.proofs.Whole.{Bounded}
+use Rattle.bounds.specs.Bounds.{MOST, areasOk}
 use Rattle.usbhost.specs.declared.Host.{Host}
-use Rattle.usbhost.specs.Host.{newHost, settled, created, stateOf}
+use Rattle.usbhost.specs.Host.{newHost, settled, created}
 use Rattle.usbhost.specs.Calls.{sendingLength}
 use Rattle.usbhost.specs.Frame.{worldOf, lengthsOk}
 use Rattle.usbhost.proofs.Kept.{new-bounded, new-received, new-sending}
@@ -25,17 +24,19 @@ use Rattle.history.specs.Calls.{Call, microframe, midiSend, serialSend, frameGi
 use Rattle.history.specs.Sums.{Sums, Tally, none, summed, sums, tallied, tally}
 use Rattle.history.proofs.History.{history}
 use Rattle.history.proofs.Table.{table-counters}
-use Rattle.reached.specs.Lists.{Areas, lend, smallAreas, zeroStatic, words, stalledPage, stoppedPage, primedPage, blockAt400, blockAt600, roomAt420, roomAt620, audioSettings, plain, withStack, withSpan, frame, brings, takes, toStream, inAndOut, inAndOutAtOnce, badBlock, rewritten, oneBlock, goneAndBack, goneAndAgain, runBitCleared}
-use Rattle.reached.specs.Claims.{Lendable, frames, Ends, Hears, Reached}
+use Rattle.reached.specs.Lists.{Areas, lend, smallAreas, zeroStatic, words, stalledPage, stoppedPage, primedPage, blockAt400, blockAt600, roomAt420, roomAt620, plain, withStack, withSpan, withSleep, frame, brings, takes, toStream, inAndOut, inAndOutAtOnce, badBlock, rewritten, oneBlock, goneAndBack, goneAndAgain, thenSuspended, thenResumed, thenAsleep, runBitCleared}
+use Rattle.reached.specs.Claims.{Lendable, frames, Accepted, Ends, Hears, Rests, Reached}
 use Rattle.reached.proofs.Standing.{Stand}
 use Rattle.reached.proofs.Page.{framedMemory}
 use Rattle.reached.proofs.Opening.{openedMemory}
 use Rattle.reached.proofs.Summed.{played, readyIn, bytesAsked, bytesRead, hears-brings, reads-brings}
-use Rattle.reached.proofs.Leading.{Fit, Long, blank, On, Leads, leads-then, enters}
+use Rattle.reached.proofs.Leading.{Fit, Long, On, Leads, after-append, leads-then, enters, step-is}
 use Rattle.reached.proofs.Queued.{below-zeros, queue-new}
-use Rattle.reached.proofs.Waits.{Calm, standing}
-use Rattle.reached.proofs.Streamed.{streams-of, opens-to, ends-silent, streams-silent, streams-brings, from-vbus, to-enumerated}
+use Rattle.reached.proofs.Waits.{Calm, standing, marked}
+use Rattle.reached.proofs.Streamed.{streams-of, opens-to, ends-silent, streams-silent, resumes-silent, streams-brings, from-vbus, to-enumerated}
 use Rattle.reached.proofs.Resets.{leads-gone, leads-back, leads-left}
+use Rattle.reached.proofs.Aside.{Aside, slept, aside-suspended}
+use Rattle.reached.proofs.Sleeping.{leads-suspends, aside-asleep, asideHost, Awake, aside-step, aside-waits}
 use Rattle.reached.proofs.Lendings.{allWords, pageWords, fit-words, pages, contents}
 
 -- ---- the sums since the last reset are those of the tally
@@ -99,21 +100,10 @@ module _ (a : Areas) (f : List ℕ) (l : Lendable a f) where
   fit : (ds ps : List (ℕ × ℕ)) → allWords ds ≡ true → pageWords ps ≡ true → Fit (words f ds ps)
   fit ds ps d p = fit-words f ds ps (l .static-length) (l .static-bytes) d p
 
-  -- the two counts of microframes are equal
-  microframes-is : (h : Host) → Bounded (worldOf h (lend a blank)) → h .stats .microframes ≡ h .port .uf
-  unfolding inBounds
-  microframes-is h b =
-      let s = stateOf h in
-      let e₁ = and-second (askedOk s (h .setups)) _ (b .record-bounds) in
-      let e₂ = and-second (heldOk s (h .packer)) _ e₁ in
-      counted-of s (and-first (countsOk s) _ (and-first (countedOk s) _ e₂)) .microframes
-
-  -- from where a list leads: the credit is what the history leaves, and the counters are what the table says
-  ends : (c : Settings) (cs : List Call) (k : Stand) (since ever : Sums) (credit : ℕ) → since .received ≡ since .sent + credit → k .uf ≡ length cs → Leads c a cs start k fresh (record { since = since; ever = ever })
-      → Ends c cs since ever credit (k .phase)
-  ends c cs k since ever credit sum whole p =
-      let is = p .sums (newHost c) (on-new c) in
-      let o = p .host (newHost c) (on-new c) in
+  -- from what a list comes to: the credit is what the history leaves, and the counters are what the table says
+  ends-by : (c : Settings) (cs : List Call) (p : Phase) (since ever : Sums) (credit : ℕ) → since .received ≡ since .sent + credit
+      → tally (newHost c) fresh cs ≡ record { since = since; ever = ever } → after (newHost c) cs .phase ≡ p → Accepted (newHost c) cs → Ends c cs since ever credit p
+  ends-by c cs p since ever credit sum is there numbers =
       let same : sums (newHost c) none cs ≡ since = since-is (newHost c) fresh cs ∙ ap (λ (y : Tally). y .since) is in
       let balanced = history c cs .balance in
       record {
@@ -122,21 +112,20 @@ module _ (a : Areas) (f : List ℕ) (l : Lendable a f) where
         credit-left = omega (arith, balanced, ap (λ (g : Sums). g .received) same, ap (λ (g : Sums). g .sent) same, sum);
         frames-in = table-counters c cs .received ∙ ap (λ (y : Tally). y .ever .received) is;
         frames-out = table-counters c cs .sent ∙ ap (λ (y : Tally). y .ever .sent) is;
-        phase = ap (λ (x : Stand). x .phase) (o .stands);
-        accepted = microframes-is (after (newHost c) cs) (o .bounds) ∙ ap (λ (x : Stand). x .uf) (o .stands) ∙ whole;
+        phase = there;
+        accepted = numbers;
       }
+
+  ends : (c : Settings) (cs : List Call) (k : Stand) (since ever : Sums) (credit : ℕ) → since .received ≡ since .sent + credit → Leads c a cs start k fresh (record { since = since; ever = ever })
+      → Ends c cs since ever credit (k .phase)
+  ends c cs k since ever credit sum p =
+      ends-by c cs (k .phase) since ever credit sum (p .sums (newHost c) (on-new c)) (ap (λ (x : Stand). x .phase) (p .host (newHost c) (on-new c) .stands)) (p .numbers (newHost c) (on-new c))
 
   -- ---- the settings of the lists
 
-  module _ (b : Bool) (n : ℕ) (table : List ℕ) (few : leb n 16 ≡ true) (near : anySpan table 0 n 0 ≡ false) where
-    abbrev c : Settings
-    c = audioSettings b n table
-
-    calm : Calm c 0
-    calm = record { audio = refl; there = near; awake = refl; few = few }
-
+  module _ (c : Settings) (calm : Calm c 0) where
     abbrev streaming : ℕ → Stand
-    streaming u = standing Stream false 0 u 483 b
+    streaming u = standing Stream false 0 u 483 (c .«device_stack»)
 
     leads-stream : Leads c a (toStream a f) start (streaming 492) fresh fresh
     unfolding toStream
@@ -195,6 +184,21 @@ module _ (a : Areas) (f : List ℕ) (l : Lendable a f) where
         otherRoom : Call
         otherRoom = frame a f 0 roomAt620 (primedPage 8)
 
+  calm-plain : Calm plain 0
+  unfolding anySpan
+  calm-plain = record { audio = refl; there = refl; awake = refl; few = refl }
+
+  calm-stack : Calm withStack 0
+  unfolding anySpan
+  calm-stack = record { audio = refl; there = refl; awake = refl; few = refl }
+
+  calm-span : (t : ℕ) → anySpan (withSpan .gone) 0 1 t ≡ false → within (withSpan .suspend) t ≡ false → Calm withSpan t
+  calm-span t e f = record { audio = refl; there = e; awake = f; few = refl }
+
+  calm-sleep : (t : ℕ) → within (withSleep .suspend) t ≡ false → Calm withSleep t
+  unfolding anySpan
+  calm-sleep t e = record { audio = refl; there = refl; awake = e; few = refl }
+
   -- ---- the resets
 
   leads-gone-back : Leads withSpan a (goneAndBack a f) start (standing Vbus false 0 495 495 false) fresh (record { since = none; ever = frames 7 0 })
@@ -202,7 +206,7 @@ module _ (a : Areas) (f : List ℕ) (l : Lendable a f) where
   leads-gone-back =
       let m = words f [] stalledPage in
       let ok = fit [] stalledPage refl refl in
-      leads-then (leads-good false 1 _ refl refl)
+      leads-then (leads-good withSpan (calm-span 0 refl refl))
       (leads-then (leads-gone withSpan a long refl refl 1 m ok Stream 493 483 (omega arith) refl (alike 7 0))
       (leads-back withSpan a long refl refl 2 m ok Stream 494 483 (omega arith) refl refl (pages .rs-stalled) (alike 7 0)))
 
@@ -212,7 +216,7 @@ module _ (a : Areas) (f : List ℕ) (l : Lendable a f) where
       let m = words f [] stalledPage in
       let ok = fit [] stalledPage refl refl in
       let good = words f (blockAt400 0x0700_0000) (primedPage 0x80000) in
-      let later : Calm withSpan 3 = record { audio = refl; there = refl; awake = refl; few = refl } in
+      let later = calm-span 3 refl refl in
       let y : Tally = record { since = none; ever = frames 7 0 } in
       leads-then
       (leads-then leads-gone-back
@@ -223,8 +227,109 @@ module _ (a : Areas) (f : List ℕ) (l : Lendable a f) where
   leads-cleared : Leads withStack a (runBitCleared a f) start (standing Vbus false 0 494 494 false) fresh (record { since = none; ever = frames 7 0 })
   unfolding runBitCleared anySpan
   leads-cleared =
-      leads-then (leads-good true 0 _ refl refl)
+      leads-then (leads-good withStack calm-stack)
       (leads-left withStack a long refl refl 0 (words f [] stoppedPage) (fit [] stoppedPage refl refl) Stream 493 483 (omega arith) refl refl refl (pages .rs-stopped) (alike 7 0))
+
+  -- ---- the suspend span and the sleep span
+
+  abbrev good : Memory
+  good = words f (blockAt400 0x0700_0000) (primedPage 0x80000)
+
+  good-fit : Fit good
+  good-fit = fit (blockAt400 0x0700_0000) (primedPage 0x80000) refl refl
+
+  abbrev room : Memory
+  room = words f roomAt420 (primedPage 8)
+
+  leads-suspended : Leads withSleep a (thenSuspended a f) start (marked true Stream 494 483 false) fresh (alike 7 0)
+  unfolding thenSuspended anySpan
+  leads-suspended =
+      leads-then (leads-good withSleep (calm-sleep 0 refl))
+      (leads-suspends withSleep a long refl 1 (words f [] stalledPage) (fit [] stalledPage refl refl) Stream 493 483 (omega arith) refl refl (alike 7 0))
+
+  leads-resumed : Leads withSleep a (thenResumed a f) start (standing Stream false 0 495 483 false) fresh (alike 7 7)
+  unfolding thenResumed
+  leads-resumed =
+      leads-then leads-suspended
+      (resumes-silent withSleep a long 2 (calm-sleep 2 refl) room (fit roomAt420 (primedPage 8) refl refl) (pages .rs-out) 494 483 (omega arith) true (contents f .resumed-room) (alike 7 0))
+
+  leads-asleep : Leads withSleep a (thenAsleep a f) start (standing Stream false 0 496 483 false) fresh (alike 14 7)
+  unfolding thenAsleep
+  leads-asleep =
+      leads-then leads-resumed
+      (streams-brings withSleep a long 3 (calm-sleep 3 refl) good good-fit (pages .rs-in) 495 483 (omega arith) 1 false (contents f .good-block) (alike 7 7))
+
+  awake-sleep : (t : ℕ) → within (withSleep .suspend) t ≡ false → within (withSleep .sleep) t ≡ false → Awake withSleep t
+  unfolding anySpan
+  awake-sleep t e f = record { there = refl; awake = e; reads = f; stack = refl }
+
+  abbrev sleepers : List Call → Host
+  sleepers cs = after (newHost withSleep) cs
+
+  -- the last call of a list
+  last-is : (cs : List Call) (x : Call) → sleepers (cs ++ (x ∷ [])) ≡ step (sleepers cs) x
+  unfolding after
+  last-is cs x = after-append (newHost withSleep) cs (x ∷ [])
+
+  aside-before : asideHost (sleepers (oneBlock a f)) ≡ record { block = 368; channels = 12; asleep = 0 }
+  unfolding oneBlock toStream newHost
+  aside-before =
+      let k = awake-sleep 0 refl refl in
+      let s = aside-waits withSleep 0 k (lend a (words f [] stalledPage)) 492 (newHost withSleep) refl in
+      ap asideHost (last-is (toStream a f) (brings a f 0x0700_0000))
+      ∙ aside-step withSleep 0 k (lend a good) (sleepers (toStream a f)) (s .settings) .aside
+      ∙ s .aside
+
+  rests-before : Rests withSleep (oneBlock a f) false 0
+  rests-before =
+      let o = leads-good withSleep (calm-sleep 0 refl) .host (newHost withSleep) (on-new withSleep) in
+      record { suspended = ap (λ (x : Stand). x .suspended) (o .stands); asleep = ap (λ (x : Aside). x .asleep) aside-before }
+
+  aside-then : asideHost (sleepers (thenSuspended a f)) ≡ record { block = 368; channels = 12; asleep = 1 }
+  unfolding thenSuspended anySpan
+  aside-then =
+      let h = sleepers (oneBlock a f) in
+      let o = leads-good withSleep (calm-sleep 0 refl) .host (newHost withSleep) (on-new withSleep) in
+      let m = words f [] stalledPage in
+      let of-settings : h .settings ≡ withSleep = o .settings in
+      ap asideHost (last-is (oneBlock a f) (frame a f 1 [] stalledPage) ∙ step-is withSleep a long refl 1 m (fit [] stalledPage refl refl) (standing Stream false 0 493 483 false) (omega arith) h o)
+      ∙ aside-suspended 1 (worldOf h (lend a m)) (ap (λ (x : Settings). anySpan (x .gone) 0 (x .spans) 1) of-settings) (ap (λ (x : Settings). within (x .suspend) 1) of-settings)
+      ∙ ap slept aside-before
+
+  rests-suspended : Rests withSleep (thenSuspended a f) true 1
+  rests-suspended =
+      let o = leads-suspended .host (newHost withSleep) (on-new withSleep) in
+      record { suspended = ap (λ (x : Stand). x .suspended) (o .stands); asleep = ap (λ (x : Aside). x .asleep) aside-then }
+
+  aside-resumed : asideHost (sleepers (thenResumed a f)) ≡ record { block = 368; channels = 12; asleep = 1 }
+  unfolding thenResumed
+  aside-resumed =
+      ap asideHost (last-is (thenSuspended a f) (frame a f 2 roomAt420 (primedPage 8)))
+      ∙ aside-step withSleep 2 (awake-sleep 2 refl refl) (lend a room) (sleepers (thenSuspended a f)) (leads-suspended .host (newHost withSleep) (on-new withSleep) .settings) .aside
+      ∙ aside-then
+
+  rests-resumed : Rests withSleep (thenResumed a f) false 1
+  rests-resumed =
+      let o = leads-resumed .host (newHost withSleep) (on-new withSleep) in
+      record { suspended = ap (λ (x : Stand). x .suspended) (o .stands); asleep = ap (λ (x : Aside). x .asleep) aside-resumed }
+
+  aside-last : asideHost (sleepers (thenAsleep a f)) ≡ record { block = 368; channels = 12; asleep = 2 }
+  unfolding thenAsleep
+  aside-last =
+      let h = sleepers (thenResumed a f) in
+      let k = standing Stream false 0 495 483 false in
+      let o = leads-resumed .host (newHost withSleep) (on-new withSleep) in
+      let w = worldOf h (lend a good) in
+      let e = enters withSleep a long refl 3 good good-fit k (omega arith) h o in
+      let st = streams-of withSleep a long 3 (calm-sleep 3 refl) good good-fit (pages .rs-in) false 495 483 (omega arith) Stream w e refl in
+      ap asideHost (last-is (thenResumed a f) (frame a f 3 (blockAt400 0x0700_0000) (primedPage 0x80000)) ∙ step-is withSleep a long refl 3 good good-fit k (omega arith) h o)
+      ∙ aside-asleep 3 w st (ap (λ (x : Stand). x .phase) (o .stands)) (ap (λ (x : Settings). x .«device_stack») (o .settings)) (ap (λ (x : Settings). x .«midi_in») (o .settings)) (ap (λ (x : Settings). within (x .sleep) 3) (o .settings))
+      ∙ ap slept aside-resumed
+
+  rests-asleep : Rests withSleep (thenAsleep a f) false 2
+  rests-asleep =
+      let o = leads-asleep .host (newHost withSleep) (on-new withSleep) in
+      record { suspended = ap (λ (x : Stand). x .suspended) (o .stands); asleep = ap (λ (x : Aside). x .asleep) aside-last }
 
   -- ---- the bad block is read
 
@@ -235,11 +340,11 @@ module _ (a : Areas) (f : List ℕ) (l : Lendable a f) where
       let h = after (newHost plain) (toStream a f) in
       let k = standing Stream false 0 492 483 false in
       let ok = fit (blockAt400 0x0800_0000) (primedPage 0x80000) refl refl in
-      let o = leads-stream false 0 _ refl refl .host (newHost plain) (on-new plain) in
+      let o = leads-stream plain calm-plain .host (newHost plain) (on-new plain) in
       let e = enters plain a long refl 0 m ok k (omega arith) h o in
       let w = worldOf h (lend a m) in
-      let st = streams-of plain a long 0 (calm false 0 _ refl refl) m ok (pages .rs-in) false 492 483 (omega arith) Stream w e refl in
-      let is : openedMemory w ≡ m = opens-to plain a long 0 (calm false 0 _ refl refl) m ok (pages .rs-in) false 492 483 Stream w e in
+      let st = streams-of plain a long 0 calm-plain m ok (pages .rs-in) false 492 483 (omega arith) Stream w e refl in
+      let is : openedMemory w ≡ m = opens-to plain a long 0 calm-plain m ok (pages .rs-in) false 492 483 Stream w e in
       let ready : readyIn (framedMemory (openedMemory w)) ≡ true = ap (λ (x : Memory). readyIn (framedMemory x)) is ∙ contents f .bad-block .input in
       let small : bytesAsked (framedMemory (openedMemory w)) ≤ 368 = subst (λ (x : Memory). bytesAsked (framedMemory x) ≤ 368) (sym is) (contents f .bad-block .small) in
       record {
@@ -248,21 +353,25 @@ module _ (a : Areas) (f : List ℕ) (l : Lendable a f) where
       }
 
   pub reached : Reached a f
-  unfolding anySpan toStream oneBlock inAndOut inAndOutAtOnce badBlock rewritten goneAndBack goneAndAgain runBitCleared created settled
+  unfolding anySpan created settled
   reached =
       record {
-        made = (refl, (refl, refl));
-        stream = ends plain (toStream a f) _ none none 0 refl refl (leads-stream false 0 _ refl refl);
-        in-and-out = ends plain (inAndOut a f) _ (frames 7 7) (frames 7 7) 0 refl refl (leads-in-and-out false 0 _ refl refl);
-        at-once = ends plain (inAndOutAtOnce a f) _ (frames 7 7) (frames 7 7) 0 refl refl (leads-at-once false 0 _ refl refl);
-        bad = ends plain (badBlock a f) _ none none 0 refl refl (leads-bad false 0 _ refl refl);
+        made = (refl, (refl, (refl, refl)));
+        stream = ends plain (toStream a f) _ none none 0 refl (leads-stream plain calm-plain);
+        in-and-out = ends plain (inAndOut a f) _ (frames 7 7) (frames 7 7) 0 refl (leads-in-and-out plain calm-plain);
+        at-once = ends plain (inAndOutAtOnce a f) _ (frames 7 7) (frames 7 7) 0 refl (leads-at-once plain calm-plain);
+        bad = ends plain (badBlock a f) _ none none 0 refl (leads-bad plain calm-plain);
         bad-read = hears-bad;
-        other-descriptors = ends plain (rewritten a f) _ (frames 14 14) (frames 14 14) 0 refl refl (leads-others false 0 _ refl refl);
-        before-gone = ends withSpan (oneBlock a f) _ (frames 7 0) (frames 7 0) 7 refl refl (leads-good false 1 _ refl refl);
-        gone = ends withSpan (goneAndBack a f) _ none (frames 7 0) 0 refl refl leads-gone-back;
-        again = ends withSpan (goneAndAgain a f) _ (frames 7 0) (frames 14 0) 7 refl refl leads-again;
-        before-cleared = ends withStack (oneBlock a f) _ (frames 7 0) (frames 7 0) 7 refl refl (leads-good true 0 _ refl refl);
-        cleared = ends withStack (runBitCleared a f) _ none (frames 7 0) 0 refl refl leads-cleared;
+        other-descriptors = ends plain (rewritten a f) _ (frames 14 14) (frames 14 14) 0 refl (leads-others plain calm-plain);
+        before-gone = ends withSpan (oneBlock a f) _ (frames 7 0) (frames 7 0) 7 refl (leads-good withSpan (calm-span 0 refl refl));
+        gone = ends withSpan (goneAndBack a f) _ none (frames 7 0) 0 refl leads-gone-back;
+        again = ends withSpan (goneAndAgain a f) _ (frames 7 0) (frames 14 0) 7 refl leads-again;
+        before-suspend = (ends withSleep (oneBlock a f) _ (frames 7 0) (frames 7 0) 7 refl (leads-good withSleep (calm-sleep 0 refl)), rests-before);
+        suspended = (ends withSleep (thenSuspended a f) _ (frames 7 0) (frames 7 0) 7 refl leads-suspended, rests-suspended);
+        resumed = (ends withSleep (thenResumed a f) _ (frames 7 7) (frames 7 7) 0 refl leads-resumed, rests-resumed);
+        asleep = (ends withSleep (thenAsleep a f) _ (frames 14 7) (frames 14 7) 7 refl leads-asleep, rests-asleep);
+        before-cleared = ends withStack (oneBlock a f) _ (frames 7 0) (frames 7 0) 7 refl (leads-good withStack calm-stack);
+        cleared = ends withStack (runBitCleared a f) _ none (frames 7 0) 0 refl leads-cleared;
       }
 
 -- ---- such areas are there

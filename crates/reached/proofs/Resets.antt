@@ -38,7 +38,7 @@ use Rattle.reached.proofs.Waits.{standing, seen-is}
 
 -- ---- the tests of the sums, where the stream is not reached
 
-unreached : (t : ℕ) (w : World) (r : Bool) → reachesOutput t w ≡ false → ((g : Sums) → reset t w g ≡ pick r none g) → Tested t w r false 0 false
+pub unreached : (t : ℕ) (w : World) (r : Bool) → reachesOutput t w ≡ false → ((g : Sums) → reset t w g ≡ pick r none g) → Tested t w r false 0 false
 unfolding inputBy
 unreached t w r out fresh =
     record {

@@ -29,7 +29,7 @@ use Rattle.reached.proofs.Page.{framedMemory, resumedMemory}
 use Rattle.reached.proofs.Early.{streamingHeld, frame-ends, frame-streams}
 use Rattle.reached.proofs.Summed.{Tested, played, tested-tally, Streams, readyIn, readyOut, bytesAsked, bytesRead, ranMemory, tested-silent, tested-brings}
 use Rattle.reached.proofs.Leading.{Fit, Long, Queue, Enters, Goes, Leads, leads-then, leads-one}
-use Rattle.reached.proofs.Waits.{Calm, standing, streamsAt, seen-is, plain-of, leads-idle, waits-vbus, leads-powers, waits-reset, leads-resets, leads-posts, leads-stalls}
+use Rattle.reached.proofs.Waits.{Calm, standing, marked, streamsAt, seen-is, plain-of, leads-idle, waits-vbus, leads-powers, waits-reset, leads-resets, leads-posts, leads-stalls}
 
 -- ---- what memory brings at its start of frame
 
@@ -57,7 +57,7 @@ module _ (c : Settings) (a : Areas) (long : Long a) (t : ℕ) (calm : Calm c t) 
 
   -- b: it was suspended before
   abbrev pub From : Bool → Phase → ℕ → ℕ → Stand
-  From b q u s = record { phase = q; on = false; waiting = 0; uf = u; t = s; gone = false; suspended = b; wasRunning = stack }
+  From b q u s = marked b q u s stack
 
   -- the memory at the choice by phase
   abbrev pub opensTo : Bool → Memory
@@ -111,11 +111,11 @@ module _ (c : Settings) (a : Areas) (long : Long a) (t : ℕ) (calm : Calm c t) 
 
   -- ---- by what it is lent
 
-  silent-law : (b o : Bool) → Silent (opensTo b) o → (w : World) → Streams t w → openedMemory w ≡ opensTo b → w .state .audio .budget ≤ 32766 → Tested t w false false 0 o
+  pub silent-law : (b o : Bool) → Silent (opensTo b) o → (w : World) → Streams t w → openedMemory w ≡ opensTo b → w .state .audio .budget ≤ 32766 → Tested t w false false 0 o
   silent-law b o h w st e few =
       tested-silent t w st o (ap (λ (x : Memory). primed audioIn (framedMemory x .page)) e ∙ h .unprimed) (ap (λ (x : Memory). readyOut (framedMemory x)) e ∙ h .output)
 
-  brings-law : (n : ℕ) (o : Bool) → Brings m n o → (w : World) → Streams t w → openedMemory w ≡ m → w .state .audio .budget ≤ 32766 → Tested t w false true n o
+  pub brings-law : (n : ℕ) (o : Bool) → Brings m n o → (w : World) → Streams t w → openedMemory w ≡ m → w .state .audio .budget ≤ 32766 → Tested t w false true n o
   brings-law n o h w st e few =
       let asks = h .small in
       tested-brings t w st few (ap (λ (x : Memory). readyIn (framedMemory x)) e ∙ h .input) (omega (arith, ap (λ (x : Memory). bytesAsked (framedMemory x)) e, asks)) n o

@@ -46,6 +46,11 @@ abbrev pub standing : Phase → Bool → ℕ → ℕ → ℕ → Bool → Stand
 standing q on n uf t r =
     record { phase = q; on = on; waiting = n; uf = uf; t = t; gone = false; suspended = false; wasRunning = r }
 
+-- one that is suspended or not, and asks for nothing
+abbrev pub marked : Bool → Phase → ℕ → ℕ → Bool → Stand
+marked b q uf t r =
+    record { phase = q; on = false; waiting = 0; uf = uf; t = t; gone = false; suspended = b; wasRunning = r }
+
 pub seen-is : (stack : Bool) → pick stack true stack ≡ stack
 seen-is true = refl
 seen-is false = refl

@@ -1,20 +1,24 @@
 -- What the lists of calls come to: sums, credit, phase, and that no call was refused (document 01, "Host record"; demand 3 is not empty).
 use Prim.Native.Nat.{ℕ, _<_}
-use mathlib.Core.Bool.{true}
-use mathlib.Core.List.{List, [], _∷_}
+use mathlib.Core.Bool.{Bool, true, false}
+use mathlib.Core.List.{List, [], _∷_, _++_, flatMap}
 use mathlib.Core.Path.{_≡_}
-use lib.ListN.{length, getD, replicate}
+use lib.ListN.{length, getD, drop, replicate}
 use Rattle.record.specs.declared.Phase.{Phase}
 use Rattle.record.specs.declared.Phase.the-variants.{Vbus, Stream}
 use Rattle.record.specs.declared.Settings.{Settings}
-use Rattle.model.specs.Audio.{blocksOf}
-use Rattle.model.specs.Reach.{atInput, bytesAt}
+use Rattle.model.specs.Audio.{blocksOf, bytesOf, blockOf}
+use Rattle.model.specs.Reach.{atInput, atOutput, bytesAt}
+use Rattle.model.specs.Claims.{sendsAt}
+use Rattle.usbhost.specs.declared.Host.{Host}
 use Rattle.usbhost.specs.Host.{newHost, created}
+use Rattle.usbhost.specs.Calls.{frameTaken, takenFrame}
 use Rattle.usbhost.specs.Frame.{Lent, worldOf, lengthsOk}
-use Rattle.history.specs.Calls.{Call, after}
+use Rattle.history.specs.Calls.{Call, step, after}
+use Rattle.history.specs.Accepts.{numberOf, AtEach}
 use Rattle.history.specs.Sums as S
 use Rattle.history.specs.Sums.{Sums, none, inputReached, tally}
-use Rattle.reached.specs.Lists.{Areas, lend, words, blockAt400, primedPage, plain, withStack, withSpan, toStream, inAndOut, inAndOutAtOnce, badBlock, rewritten, oneBlock, goneAndBack, goneAndAgain, runBitCleared}
+use Rattle.reached.specs.Lists.{Areas, lend, words, blockAt400, primedPage, plain, withStack, withSpan, withSleep, toStream, inAndOut, inAndOutAtOnce, badBlock, rewritten, oneBlock, goneAndBack, goneAndAgain, thenSuspended, thenResumed, thenAsleep, runBitCleared, gives, heard, answering, answered, ringLeft, streamed, givenAndTaken}
 
 -- areas and static memory that every microframe accepts, and bytes in those where bytes are
 pub record Lendable (a : Areas) (f : List ℕ) : Type 0 where
@@ -31,8 +35,12 @@ frames received sent = record { received = received; sent = sent }
 abbrev pub Made : Settings → Type 0
 Made c = created c ≡ record { refusal = 0; host = newHost c }
 
+-- no call of a list is refused, each on the record that the ones before it left
+abbrev pub Accepted : Host → List Call → Type 0
+Accepted = AtEach (λ h c. numberOf h c ≡ 0)
+
 -- from a new host: the frames since the last reset, and through every reset, which the record's two counters say; the credit; the phase;
--- and no microframe of the list was refused, since each accepted one is counted
+-- and no call of the list was refused
 pub record Ends (c : Settings) (cs : List Call) (since ever : Sums) (credit : ℕ) (p : Phase) : Type 0 where
   pub sums : S.sums (newHost c) none cs ≡ since
   pub through : tally (newHost c) (record { since = none; ever = none }) cs .ever ≡ ever
@@ -40,15 +48,33 @@ pub record Ends (c : Settings) (cs : List Call) (since ever : Sums) (credit : �
   pub frames-in : after (newHost c) cs .stats .«in_frames» ≡ ever .received
   pub frames-out : after (newHost c) cs .stats .«out_frames» ≡ ever .sent
   pub phase : after (newHost c) cs .phase ≡ p
-  pub accepted : after (newHost c) cs .stats .microframes ≡ length cs
+  pub accepted : Accepted (newHost c) cs
 
 -- the microframe that comes next reaches its input step, whose endpoint is ready, and reads these blocks
 pub record Hears (c : Settings) (cs : List Call) (l : Lent) (blocks : List (List ℕ)) : Type 0 where
   pub heard : inputReached 0 (worldOf (after (newHost c) cs) l) ≡ true
   pub read : blocksOf (bytesAt (atInput (worldOf (after (newHost c) cs) l))) ≡ blocks
 
+-- a frame given is in the next block that goes out, behind its header of 32 bytes, each word big-endian, with silence behind it; the first
+-- frame of the block that came in is the one that is taken
+pub record Passes (a : Areas) (f x : List ℕ) : Type 0 where
+  pub ends : Ends plain (givenAndTaken a f x) (frames 7 7) (frames 7 7) 0 Stream
+  -- it waits, goes out and waits no longer
+  pub waits : step (streamed a f x) (gives a f x) .audio .sending .len ≡ 1
+  pub sends : sendsAt 0 (worldOf (heard a f x (streamed a f x)) (answering a f x (streamed a f x))) ≡ true
+  pub sent : drop 32 (blockOf (atOutput (worldOf (heard a f x (streamed a f x)) (answering a f x (streamed a f x))))) ≡ flatMap bytesOf x ++ replicate 288 0
+  pub gone : answered a f x (streamed a f x) .audio .sending .len ≡ 0
+  -- the answer of the frame taken: neither refused nor empty
+  pub taken : takenFrame (answered a f x (streamed a f x)) (ringLeft a f x (streamed a f x))
+      ≡ record { refusal = 0; empty = false; frame = 0x1234_5678 ∷ 0x9ABC_DEF0 ∷ replicate 10 0; host = frameTaken (answered a f x (streamed a f x)) }
+
+-- whether the bus is suspended then, and in how many microframes no MIDI was read so far (409, 427, 776)
+pub record Rests (c : Settings) (cs : List Call) (mark : Bool) (unread : ℕ) : Type 0 where
+  pub suspended : after (newHost c) cs .port .suspended ≡ mark
+  pub asleep : after (newHost c) cs .stats .«midi_asleep» ≡ unread
+
 pub record Reached (a : Areas) (f : List ℕ) : Type 0 where
-  pub made : Made plain × (Made withStack × Made withSpan)
+  pub made : Made plain × (Made withStack × (Made withSpan × Made withSleep))
   -- the stream begins
   pub stream : Ends plain (toStream a f) none none 0 Stream
   -- one good block in, and one out
@@ -63,6 +89,11 @@ pub record Reached (a : Areas) (f : List ℕ) : Type 0 where
   pub before-gone : Ends withSpan (oneBlock a f) (frames 7 0) (frames 7 0) 7 Stream
   pub gone : Ends withSpan (goneAndBack a f) none (frames 7 0) 0 Vbus
   pub again : Ends withSpan (goneAndAgain a f) (frames 7 0) (frames 14 0) 7 Stream
+  -- a block in; suspended: the credit stays; resumed: its block goes out; in the sleep span another comes in
+  pub before-suspend : Ends withSleep (oneBlock a f) (frames 7 0) (frames 7 0) 7 Stream × Rests withSleep (oneBlock a f) false 0
+  pub suspended : Ends withSleep (thenSuspended a f) (frames 7 0) (frames 7 0) 7 Stream × Rests withSleep (thenSuspended a f) true 1
+  pub resumed : Ends withSleep (thenResumed a f) (frames 7 7) (frames 7 7) 0 Stream × Rests withSleep (thenResumed a f) false 1
+  pub asleep : Ends withSleep (thenAsleep a f) (frames 14 7) (frames 14 7) 7 Stream × Rests withSleep (thenAsleep a f) false 2
   -- a block in; RS cleared: a reset
   pub before-cleared : Ends withStack (oneBlock a f) (frames 7 0) (frames 7 0) 7 Stream
   pub cleared : Ends withStack (runBitCleared a f) none (frames 7 0) 0 Vbus

@@ -7,8 +7,11 @@ use Rattle.bus.specs.Memory.{Memory, memory}
 use Rattle.bus.specs.Words.{wordPut}
 use Rattle.usbdev.specs.Offsets.{USBCMD, EPLISTADDR, EPSR, EPCR0}
 use Rattle.record.specs.declared.Settings.{Settings}
-use Rattle.usbhost.specs.Frame.{Lent}
-use Rattle.history.specs.Calls.{Call, microframe}
+use Rattle.usbhost.specs.declared.Host.{Host}
+use Rattle.usbhost.specs.Host.{newHost}
+use Rattle.usbhost.specs.Calls.{givenRing}
+use Rattle.usbhost.specs.Frame.{Lent, framed}
+use Rattle.history.specs.Calls.{Call, microframe, frameGive, frameTake, step, after}
 
 -- ---- what is lent
 
@@ -23,6 +26,11 @@ pub record Areas : Type 0 where
 abbrev pub lend : Areas → Memory → Lent
 lend a m =
     record { memory = m; reply = a .reply; config = a .config; receive = a .receive; received = a .received; sending = a .sending }
+
+-- the same with other rings: frames received, and frames to send
+abbrev pub withRings : Areas → List ℕ → List ℕ → Areas
+withRings a received sending =
+    record { reply = a .reply; config = a .config; receive = a .receive; received = received; sending = sending }
 
 -- the smallest that are accepted, all zeros (document 01, "Numbers of refusal", 2), and a static memory of zeros
 abbrev pub smallAreas : Areas
@@ -77,6 +85,10 @@ outHead pointer = (0x188, pointer)
 abbrev pub blockAt400 : ℕ → List (ℕ × ℕ)
 blockAt400 x = inHead 0x4000_0400 ∷ (0x400, 1) ∷ (0x404, 0x0170_8080) ∷ (0x408, 0x4000_0800) ∷ (0x800, x) ∷ []
 
+-- the same with two words in its first frame, which begins at 820 (usbhost.rs 882-887)
+abbrev pub soundAt400 : List (ℕ × ℕ)
+soundAt400 = blockAt400 0x0700_0000 ++ ((0x820, 0x1234_5678) ∷ (0x824, 0x9ABC_DEF0) ∷ [])
+
 -- another: a descriptor at 600 without IOC, its data at A00
 abbrev pub blockAt600 : List (ℕ × ℕ)
 blockAt600 = inHead 0x4000_0600 ∷ (0x600, 1) ∷ (0x604, 0x0170_0080) ∷ (0x608, 0x4000_0A00) ∷ (0xA00, 0x0712_3456) ∷ []
@@ -113,6 +125,20 @@ withStack = audioSettings true 0 (replicate 32 0)
 -- the host is gone from 1 to 2
 abbrev pub withSpan : Settings
 withSpan = audioSettings false 1 (1 ∷ 2 ∷ replicate 30 0)
+
+-- MIDI input; suspended from 1 to 2, and no MIDI is read from 3 to 4
+abbrev pub withSleep : Settings
+withSleep =
+    record {
+      «device_stack» = false;
+      «midi_in» = true;
+      cdc = false;
+      «midi_every» = 0;
+      sleep = record { from = 3; to = 4 };
+      suspend = record { from = 1; to = 2 };
+      spans = 0;
+      gone = replicate 32 0;
+    }
 
 -- ---- the lists; a and f: the areas and the static memory that every call is lent
 
@@ -161,6 +187,51 @@ module _ (a : Areas) (f : List ℕ) where
   unfoldable pub goneAndAgain : List Call
   goneAndAgain = goneAndBack ++ replicate 491 (frame 3 [] stalledPage) ++ (frame 3 (blockAt400 0x0700_0000) (primedPage 0x80000) ∷ [])
 
+  -- or it is suspended at the time 1 and resumed at 2, with room for a block, and at 3, in the sleep span, another block comes in
+  unfoldable pub thenSuspended : List Call
+  thenSuspended = oneBlock ++ (frame 1 [] stalledPage ∷ [])
+
+  unfoldable pub thenResumed : List Call
+  thenResumed = thenSuspended ++ (frame 2 roomAt420 (primedPage 8) ∷ [])
+
+  unfoldable pub thenAsleep : List Call
+  thenAsleep = thenResumed ++ (frame 3 (blockAt400 0x0700_0000) (primedPage 0x80000) ∷ [])
+
   -- or RS is clear
   unfoldable pub runBitCleared : List Call
   runBitCleared = oneBlock ++ (frame 0 [] stoppedPage ∷ [])
+
+-- ---- a frame x is given and sent, and one is taken; h: the host that streams. The rings are lent in each call as the last call left them
+
+module _ (a : Areas) (f x : List ℕ) where
+  abbrev pub gives : Call
+  gives = frameGive x (a .sending)
+
+  module _ (h : Host) where
+    -- a block comes in
+    abbrev pub hearing : Lent
+    hearing = lend (withRings a (a .received) (givenRing h x (a .sending))) (words f soundAt400 (primedPage 0x80000))
+
+    abbrev pub heard : Host
+    heard = step (step h gives) (microframe 0 hearing)
+
+    -- room for one
+    abbrev pub answering : Lent
+    answering =
+        lend (withRings a (framed 0 (step h gives) hearing .received) (givenRing h x (a .sending))) (words f roomAt420 (primedPage 8))
+
+    abbrev pub answered : Host
+    answered = step heard (microframe 0 answering)
+
+    -- the received ring then
+    abbrev pub ringLeft : List ℕ
+    ringLeft = framed 0 heard answering .received
+
+    unfoldable pub passing : List Call
+    passing = gives ∷ microframe 0 hearing ∷ microframe 0 answering ∷ frameTake ringLeft ∷ []
+
+  abbrev pub streamed : Host
+  streamed = after (newHost plain) (toStream a f)
+
+  unfoldable pub givenAndTaken : List Call
+  givenAndTaken = toStream a f ++ passing streamed
