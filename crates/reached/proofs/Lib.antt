@@ -13,4 +13,5 @@ pub mod Resets
 pub mod Sleeping
 pub mod Lendings
 pub mod Rings
+pub mod Passed
 pub mod Reached

@@ -24,19 +24,21 @@ use Rattle.history.specs.Calls.{Call, microframe, midiSend, serialSend, frameGi
 use Rattle.history.specs.Sums.{Sums, Tally, none, summed, sums, tallied, tally}
 use Rattle.history.proofs.History.{history}
 use Rattle.history.proofs.Table.{table-counters}
-use Rattle.reached.specs.Lists.{Areas, lend, smallAreas, zeroStatic, words, stalledPage, stoppedPage, primedPage, blockAt400, blockAt600, roomAt420, roomAt620, plain, withStack, withSpan, withSleep, frame, brings, takes, toStream, inAndOut, inAndOutAtOnce, badBlock, rewritten, oneBlock, goneAndBack, goneAndAgain, thenSuspended, thenResumed, thenAsleep, runBitCleared}
-use Rattle.reached.specs.Claims.{Lendable, frames, Accepted, Ends, Hears, Rests, Reached}
+use Rattle.reached.specs.Lists.{Areas, lend, smallAreas, zeroStatic, words, stalledPage, stoppedPage, primedPage, blockAt400, blockAt600, roomAt420, roomAt620, plain, withStack, withSpan, withSleep, frame, brings, takes, toStream, inAndOut, inAndOutAtOnce, badBlock, rewritten, oneBlock, goneAndBack, goneAndAgain, thenSuspended, thenResumed, thenAsleep, runBitCleared, gives, hearing, heard, answering, answered, passing, streamed, givenAndTaken}
+use Rattle.reached.specs.Claims.{Lendable, frames, Accepted, Ends, Hears, Passes, Rests, Reached}
 use Rattle.reached.proofs.Standing.{Stand}
 use Rattle.reached.proofs.Page.{framedMemory}
 use Rattle.reached.proofs.Opening.{openedMemory}
 use Rattle.reached.proofs.Summed.{played, readyIn, bytesAsked, bytesRead, hears-brings, reads-brings}
-use Rattle.reached.proofs.Leading.{Fit, Long, On, Leads, after-append, leads-then, enters, step-is}
+use Rattle.reached.proofs.Leading.{Fit, Long, On, Leads, after-append, tally-append, accepted-append, leads-then, enters, step-is}
 use Rattle.reached.proofs.Queued.{below-zeros, queue-new}
 use Rattle.reached.proofs.Waits.{Calm, standing, marked}
 use Rattle.reached.proofs.Streamed.{streams-of, opens-to, ends-silent, streams-silent, resumes-silent, streams-brings, from-vbus, to-enumerated}
 use Rattle.reached.proofs.Resets.{leads-gone, leads-back, leads-left}
 use Rattle.reached.proofs.Aside.{Aside, slept, aside-suspended}
 use Rattle.reached.proofs.Sleeping.{leads-suspends, aside-asleep, asideHost, Awake, aside-step, aside-waits}
+use Rattle.reached.proofs.Rings.{Few, few-waits}
+use Rattle.reached.proofs.Passed.{waits, sends, sent, gone, taken, heard-sums, answered-sums, passing-sums, passing-phase, passing-numbers}
 use Rattle.reached.proofs.Lendings.{allWords, pageWords, fit-words, pages, contents}
 
 -- ---- the sums since the last reset are those of the tally
@@ -331,6 +333,72 @@ module _ (a : Areas) (f : List ℕ) (l : Lendable a f) where
       let o = leads-asleep .host (newHost withSleep) (on-new withSleep) in
       record { suspended = ap (λ (x : Stand). x .suspended) (o .stands); asleep = ap (λ (x : Aside). x .asleep) aside-last }
 
+  -- ---- a frame given and one taken
+
+  module _ (x : List ℕ) (twelve-words : length x ≡ 12) where
+    abbrev h : Host
+    h = streamed a f x
+
+    awake-plain : Awake plain 0
+    unfolding anySpan
+    awake-plain = record { there = refl; awake = refl; reads = refl; stack = refl }
+
+    on-streamed : On plain a (standing Stream false 0 492 483 false) h
+    on-streamed = leads-stream plain calm-plain .host (newHost plain) (on-new plain)
+
+    tally-streamed : tally (newHost plain) fresh (toStream a f) ≡ fresh
+    tally-streamed = leads-stream plain calm-plain .sums (newHost plain) (on-new plain)
+
+    few-streamed : Few h 0 0
+    unfolding toStream newHost
+    few-streamed =
+        subst (λ (y : Tally). Few h (y .ever .received) 0) tally-streamed
+        (few-waits 0 (lend a (words f [] stalledPage)) 0 492 (newHost plain) fresh (record { received = omega arith; sending = omega arith }))
+
+    none-in : h .audio .received .len ≡ 0
+    none-in = omega (arith, few-streamed .received)
+
+    none-out : h .audio .sending .len ≡ 0
+    none-out = omega (arith, few-streamed .sending)
+
+    aside-streamed : asideHost h ≡ record { block = 368; channels = 12; asleep = 0 }
+    unfolding toStream newHost
+    aside-streamed = aside-waits plain 0 awake-plain (lend a (words f [] stalledPage)) 492 (newHost plain) refl .aside
+
+    -- the sums after more calls, and the counter of sent frames
+    more-sums : (cs : List Call) (y : Tally) → tally h fresh cs ≡ y → tally (newHost plain) fresh (toStream a f ++ cs) ≡ y
+    more-sums cs y e = tally-append (newHost plain) fresh (toStream a f) cs ∙ ap (λ (z : Tally). tally h z cs) tally-streamed ∙ e
+
+    counter-is : (cs : List Call) (y : Tally) → tally h fresh cs ≡ y → after h cs .stats .«out_frames» ≡ y .ever .sent
+    counter-is cs y e =
+        ap (λ (g : Host). g .stats .«out_frames») (sym (after-append (newHost plain) (toStream a f) cs))
+        ∙ table-counters plain (toStream a f ++ cs) .sent
+        ∙ ap (λ (z : Tally). z .ever .sent) (more-sums cs y e)
+
+    sent-before : heard a f x h .stats .«out_frames» ≡ 0
+    unfolding after
+    sent-before = counter-is (gives a f x ∷ microframe 0 (hearing a f x h) ∷ []) (alike 7 0) (heard-sums a f long (l .static-length) (l .static-bytes) calm-plain awake-plain x twelve-words h on-streamed none-in none-out aside-streamed)
+
+    sent-now : answered a f x h .stats .«out_frames» ≡ 7
+    unfolding after
+    sent-now = counter-is (gives a f x ∷ microframe 0 (hearing a f x h) ∷ microframe 0 (answering a f x h) ∷ []) (alike 7 7) (answered-sums a f long (l .static-length) (l .static-bytes) calm-plain awake-plain x twelve-words h on-streamed none-in none-out aside-streamed)
+
+    passes : Passes a f x
+    unfolding givenAndTaken
+    passes =
+        let goes-out = sends a f long (l .static-length) (l .static-bytes) calm-plain awake-plain x twelve-words h on-streamed none-in none-out aside-streamed sent-before sent-now in
+        record {
+          ends =
+              ends-by plain (givenAndTaken a f x) Stream (frames 7 7) (frames 7 7) 0 refl (more-sums (passing a f x h) (alike 7 7) (passing-sums a f long (l .static-length) (l .static-bytes) calm-plain awake-plain x twelve-words h on-streamed none-in none-out aside-streamed))
+              (ap (λ (g : Host). g .phase) (after-append (newHost plain) (toStream a f) (passing a f x h)) ∙ passing-phase a f long (l .static-length) (l .static-bytes) calm-plain awake-plain x twelve-words h on-streamed none-in none-out aside-streamed)
+              (accepted-append (newHost plain) (toStream a f) (passing a f x h) (leads-stream plain calm-plain .numbers (newHost plain) (on-new plain)) (passing-numbers a f long (l .static-length) (l .static-bytes) calm-plain awake-plain x twelve-words h on-streamed none-in none-out aside-streamed));
+          waits = waits a f long (l .static-length) (l .static-bytes) calm-plain awake-plain x twelve-words h on-streamed none-in none-out aside-streamed;
+          sends = goes-out;
+          sent = sent a f long (l .static-length) (l .static-bytes) calm-plain awake-plain x twelve-words h on-streamed none-in none-out aside-streamed;
+          gone = gone a f long (l .static-length) (l .static-bytes) calm-plain awake-plain x twelve-words h on-streamed none-in none-out aside-streamed goes-out;
+          taken = taken a f long (l .static-length) (l .static-bytes) calm-plain awake-plain x twelve-words h on-streamed none-in none-out aside-streamed;
+        }
+
   -- ---- the bad block is read
 
   hears-bad : Hears plain (toStream a f) (lend a (words f (blockAt400 0x0800_0000) (primedPage 0x80000))) ((8 ∷ replicate 367 0) ∷ [])
@@ -366,6 +434,7 @@ module _ (a : Areas) (f : List ℕ) (l : Lendable a f) where
         before-gone = ends withSpan (oneBlock a f) _ (frames 7 0) (frames 7 0) 7 refl (leads-good withSpan (calm-span 0 refl refl));
         gone = ends withSpan (goneAndBack a f) _ none (frames 7 0) 0 refl leads-gone-back;
         again = ends withSpan (goneAndAgain a f) _ (frames 7 0) (frames 14 0) 7 refl leads-again;
+        passes = passes;
         before-suspend = (ends withSleep (oneBlock a f) _ (frames 7 0) (frames 7 0) 7 refl (leads-good withSleep (calm-sleep 0 refl)), rests-before);
         suspended = (ends withSleep (thenSuspended a f) _ (frames 7 0) (frames 7 0) 7 refl leads-suspended, rests-suspended);
         resumed = (ends withSleep (thenResumed a f) _ (frames 7 7) (frames 7 7) 0 refl leads-resumed, rests-resumed);

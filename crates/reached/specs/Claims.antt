@@ -89,6 +89,8 @@ pub record Reached (a : Areas) (f : List ℕ) : Type 0 where
   pub before-gone : Ends withSpan (oneBlock a f) (frames 7 0) (frames 7 0) 7 Stream
   pub gone : Ends withSpan (goneAndBack a f) none (frames 7 0) 0 Vbus
   pub again : Ends withSpan (goneAndAgain a f) (frames 7 0) (frames 14 0) 7 Stream
+  -- a frame given is sent, and one is taken, whatever its twelve words
+  pub passes : (x : List ℕ) → length x ≡ 12 → Passes a f x
   -- a block in; suspended: the credit stays; resumed: its block goes out; in the sleep span another comes in
   pub before-suspend : Ends withSleep (oneBlock a f) (frames 7 0) (frames 7 0) 7 Stream × Rests withSleep (oneBlock a f) false 0
   pub suspended : Ends withSleep (thenSuspended a f) (frames 7 0) (frames 7 0) 7 Stream × Rests withSleep (thenSuspended a f) true 1
