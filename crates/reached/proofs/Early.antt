@@ -194,7 +194,7 @@ module _ (t : ℕ) (w : World) (p : Plain t w) where
   asked-held = keeps-frame there ∙ opened-held t w p
 
   -- in Enumerate and in Stream: the start of frame, control, the transfers
-  frame-talks : (q : Phase) → w .state .phase ≡ q → left (atPhase (w .settings) t true q) there ≡ left (talks (w .settings) t true) there
+  pub frame-talks : (q : Phase) → w .state .phase ≡ q → left (atPhase (w .settings) t true q) there ≡ left (talks (w .settings) t true) there
       → heldOf (left (microframe t) w) ≡ heldOf (left (controls stack) asked)
   unfolding talks enumerates
   frame-talks q e f =

@@ -169,7 +169,7 @@ module _ (c : Settings) (a : Areas) (long : Long a) (few : leb (c .spans) 16 ≡
     unfolding step
     step-is = ap hostIn framed-is
 
-    tallied-is : (y : Tally) → tallied h y (microframe t (lend a m)) ≡ tallyOf t w y
+    pub tallied-is : (y : Tally) → tallied h y (microframe t (lend a m)) ≡ tallyOf t w y
     unfolding tallied summed
     tallied-is y =
         ap (λ (n : ℕ). record { since = pick (eqb n 0) (tallyOf t w y .since) (y .since); ever = pick (eqb n 0) (tallyOf t w y .ever) (y .ever) }) accepted
@@ -188,7 +188,7 @@ module _ (c : Settings) (a : Areas) (long : Long a) (few : leb (c .spans) 16 ≡
           second = b .second;
         }
 
-    next : (k′ : Stand) (y y′ : Tally) → Goes t w k′ y y′ → On c a k′ (step h (microframe t (lend a m)))
+    pub next : (k′ : Stand) (y y′ : Tally) → Goes t w k′ y y′ → On c a k′ (step h (microframe t (lend a m)))
     next k′ y y′ p =
         subst (On c a k′) (sym step-is)
         (record {

@@ -9,24 +9,25 @@ use lib.Dec.{eqb, leb, ltb}
 use lib.ListN.{length, replicate, length-replicate}
 use borrow.Author.Tests.{ltb-true, leb-true}
 use Rattle.bits.specs.Word.{any}
-use Rattle.bus.specs.Memory.{word, at, place, read, write, peek8, peek32, poke8, poke32, after}
+use Rattle.bus.specs.Memory.{Memory, word, at, place, read, write, peek8, peek32, poke8, poke32, after}
 use Rattle.bus.specs.Sized.{isPower, isSized}
 use Rattle.bus.specs.Words.{wordAt, wordPut}
 use Rattle.bus.specs.Steps.{andThen}
-use Rattle.bus.specs.Stores.{putting, when, store}
+use Rattle.bus.specs.Stores.{bus, Store, irq, putting, when, store, stored}
+use Rattle.bus.specs.Stores as S
 use Rattle.bus.proofs.Registers.{length-put, put-lt, word-apart}
-use Rattle.usbdev.specs.Offsets.{USBCMD, USBSTS, EPCR0}
+use Rattle.usbdev.specs.Offsets.{BASE, USBCMD, USBSTS, EPSR, EPCOMPLETE, EPCR0}
 use Rattle.usbdev.specs.Registers as R
 use Rattle.usbdev.specs.Registers.{setting, lineOf}
 use Rattle.usbdev.specs.Transfer.{nextFrindex, totalOf, tokenAfter}
 use Rattle.transfer.specs.Transfer.{pointers, bytesIn, tabulate, dataAddr}
-use Rattle.dtd.specs.Dtd.{primed, queueHead, nextOf, nextActive, runDtds, turns, settled, joined, turning, dataOut, moves, bytesOf, retiring, closing, advancing, completing, framed, followed, following, settling, unpriming, reporting, listEnds}
+use Rattle.dtd.specs.Dtd.{endpoint, primed, queueHead, nextOf, nextActive, runDtds, turns, settled, joined, turning, dataOut, moves, bytesOf, retiring, closing, advancing, completing, framed, followed, following, settling, unpriming, reporting, listEnds}
 use Rattle.model.specs.Audio.{blocksOf, blocks, good}
 use Rattle.model.specs.Ring.{framesFrom, framesOfBlock, framesOfBlocks, framesRead}
 use Rattle.model.specs.Earned.{goodBlocks}
 use Rattle.gptimers.specs.Timer as T
 use Rattle.bits.proofs.Tests.{and-first, and-second, or-case}
-use Rattle.reached.specs.Lists.{puts, window, words, stalledPage, stoppedPage, primedPage, blockAt400, soundAt400, blockAt600, roomAt420, roomAt620}
+use Rattle.reached.specs.Lists.{puts, window, words, stalledPage, stoppedPage, primedPage, blockAt400, soundAt400, blockAt600, roomAt420, roomAt620, noData, deviceAnswer, headerAnswer, wholeAnswer}
 use Rattle.reached.proofs.Page.{framedPage, framedMemory, resumedPage, resumedMemory, Stopped}
 use Rattle.reached.proofs.Summed.{bytesAsked, bytesRead, ranMemory}
 use Rattle.reached.proofs.Leading.{Fit}
@@ -113,11 +114,14 @@ pub record Pages : Type 0 where
   pub rs-in : any (wordAt (window (primedPage 0x80000)) USBCMD) 1 ≡ true
   pub rs-out : any (wordAt (window (primedPage 8)) USBCMD) 1 ≡ true
   pub rs-both : any (wordAt (window (primedPage 0x80008)) USBCMD) 1 ≡ true
+  pub rs-rests : any (wordAt (window (primedPage 0)) USBCMD) 1 ≡ true
+  pub uri-rests : any (wordAt (window (primedPage 0)) USBSTS) 0x40 ≡ false
+  pub rs-asked : any (wordAt (window (primedPage 0x10001)) USBCMD) 1 ≡ true
   pub rs-stopped : any (wordAt (window stoppedPage) USBCMD) 1 ≡ false
 
 pub pages : Pages
 unfolding puts wordAt wordPut word
-pages = record { rs-stalled = refl; uri-stalled = refl; stall = refl; rs-in = refl; rs-out = refl; rs-both = refl; rs-stopped = refl }
+pages = record { rs-stalled = refl; uri-stalled = refl; stall = refl; rs-in = refl; rs-out = refl; rs-both = refl; rs-rests = refl; uri-rests = refl; rs-asked = refl; rs-stopped = refl }
 
 -- the memories of the lists
 pub record Contents (f : List ℕ) : Type 0 where
@@ -131,6 +135,7 @@ pub record Contents (f : List ℕ) : Type 0 where
   pub room : Silent (words f roomAt420 (primedPage 8)) true
   pub other-room : Silent (words f roomAt620 (primedPage 8)) true
   pub resumed-room : Silent (resumedMemory (words f roomAt420 (primedPage 8))) true
+  pub rests : Silent (words f [] (primedPage 0)) false
   pub both : Brings (words f (blockAt400 0x0700_0000 ++ roomAt420) (primedPage 0x80008)) 1 true
 
 module _ (f : List ℕ) where
@@ -148,5 +153,62 @@ module _ (f : List ℕ) where
         room = record { unprimed = refl; output = refl };
         other-room = record { unprimed = refl; output = refl };
         resumed-room = record { unprimed = refl; output = refl };
+        rests = record { unprimed = refl; output = refl };
         both = record { input = refl; small = leb-true (bytesAsked (framedMemory (words f (blockAt400 0x0700_0000 ++ roomAt420) (primedPage 0x80008)))) 368 refl; blocks = refl; output = λ l. refl };
       }
+
+-- ---- answers on endpoint 0
+
+-- endpoint 0 is not stalled: the input run brings these bytes, and it and the output run after it flag their completion
+pub record Replies (m : Memory) (bs : List ℕ) : Type 0 where
+  pub free : any (wordAt (framedMemory m .page) EPCR0) 0x10001 ≡ false
+  pub bytes : (l : Bool) → runDtds (endpoint 0 true) [] (bus (framedMemory m) l) .bytes ≡ bs
+  pub done : (l : Bool) → runDtds (endpoint 0 true) [] (bus (framedMemory m) l) .done ≡ true
+  pub status : (l : Bool) → runDtds (endpoint 0 false) [] (stored (runDtds (endpoint 0 true) [] (bus (framedMemory m) l) .stores) (bus (framedMemory m) l)) .done ≡ true
+
+-- what the input run stores (585-619): token, frame number, current pointer, next pointer, token copy, completion, un-primed, UI
+abbrev inputStores : List Store
+inputStores =
+    S.word 0x4000_0404 0x8000 ∷ S.word 0x4000_040C 0 ∷ S.word 0x4000_0044 0x4000_0400 ∷ S.word 0x4000_0048 1 ∷ S.word 0x4000_004C 0x8000
+    ∷ S.word (BASE + EPCOMPLETE) 0x10000 ∷ S.word (BASE + EPSR) 1 ∷ S.word (BASE + USBSTS) 0x81 ∷ irq false ∷ []
+
+-- the output run is that on the memory with those stores
+record Stored (m : Memory) : Type 0 where
+  stores : (l : Bool) → runDtds (endpoint 0 true) [] (bus (framedMemory m) l) .stores ≡ inputStores
+  status : (l : Bool) → runDtds (endpoint 0 false) [] (stored inputStores (bus (framedMemory m) l)) .done ≡ true
+
+status-of : (m : Memory) → Stored m → (l : Bool) → runDtds (endpoint 0 false) [] (stored (runDtds (endpoint 0 true) [] (bus (framedMemory m) l) .stores) (bus (framedMemory m) l)) .done ≡ true
+status-of m k l = ap (λ (ss : List Store). runDtds (endpoint 0 false) [] (stored ss (bus (framedMemory m) l)) .done) (k .stores l) ∙ k .status l
+
+module _ (f : List ℕ) where
+  stored-no-data : Stored (words f noData (primedPage 0x10001))
+  unfolding puts framedPage primed nextActive nextOf queueHead wordAt wordPut word at place read peek8 peek32 after nextFrindex totalOf runDtds turns settled joined turning dataOut moves bytesOf retiring closing advancing completing framed followed following settling unpriming reporting listEnds andThen putting when store setting R.following R.store R.onBus lineOf poke8 poke32 write tokenAfter pointers bytesIn tabulate dataAddr
+  stored-no-data = record { stores = λ l. refl; status = λ l. refl }
+
+  pub no-data : Replies (words f noData (primedPage 0x10001)) []
+  unfolding puts framedPage primed nextActive nextOf queueHead wordAt wordPut word at place read peek8 peek32 after nextFrindex totalOf runDtds turns settled joined turning dataOut moves bytesOf retiring closing advancing completing framed followed following settling unpriming reporting listEnds andThen putting when store setting R.following R.store R.onBus lineOf poke8 poke32 write tokenAfter pointers bytesIn tabulate dataAddr
+  no-data = record { free = refl; bytes = λ l. refl; done = λ l. refl; status = status-of (words f noData (primedPage 0x10001)) stored-no-data }
+
+  stored-device : Stored (words f deviceAnswer (primedPage 0x10001))
+  unfolding puts framedPage primed nextActive nextOf queueHead wordAt wordPut word at place read peek8 peek32 after nextFrindex totalOf runDtds turns settled joined turning dataOut moves bytesOf retiring closing advancing completing framed followed following settling unpriming reporting listEnds andThen putting when store setting R.following R.store R.onBus lineOf poke8 poke32 write tokenAfter pointers bytesIn tabulate dataAddr
+  stored-device = record { stores = λ l. refl; status = λ l. refl }
+
+  pub device : Replies (words f deviceAnswer (primedPage 0x10001)) (0x12 ∷ 1 ∷ 0 ∷ 2 ∷ replicate 14 0)
+  unfolding puts framedPage primed nextActive nextOf queueHead wordAt wordPut word at place read peek8 peek32 after nextFrindex totalOf runDtds turns settled joined turning dataOut moves bytesOf retiring closing advancing completing framed followed following settling unpriming reporting listEnds andThen putting when store setting R.following R.store R.onBus lineOf poke8 poke32 write tokenAfter pointers bytesIn tabulate dataAddr
+  device = record { free = refl; bytes = λ l. refl; done = λ l. refl; status = status-of (words f deviceAnswer (primedPage 0x10001)) stored-device }
+
+  stored-header : Stored (words f headerAnswer (primedPage 0x10001))
+  unfolding puts framedPage primed nextActive nextOf queueHead wordAt wordPut word at place read peek8 peek32 after nextFrindex totalOf runDtds turns settled joined turning dataOut moves bytesOf retiring closing advancing completing framed followed following settling unpriming reporting listEnds andThen putting when store setting R.following R.store R.onBus lineOf poke8 poke32 write tokenAfter pointers bytesIn tabulate dataAddr
+  stored-header = record { stores = λ l. refl; status = λ l. refl }
+
+  pub header : Replies (words f headerAnswer (primedPage 0x10001)) (9 ∷ 2 ∷ 32 ∷ replicate 6 0)
+  unfolding puts framedPage primed nextActive nextOf queueHead wordAt wordPut word at place read peek8 peek32 after nextFrindex totalOf runDtds turns settled joined turning dataOut moves bytesOf retiring closing advancing completing framed followed following settling unpriming reporting listEnds andThen putting when store setting R.following R.store R.onBus lineOf poke8 poke32 write tokenAfter pointers bytesIn tabulate dataAddr
+  header = record { free = refl; bytes = λ l. refl; done = λ l. refl; status = status-of (words f headerAnswer (primedPage 0x10001)) stored-header }
+
+  stored-whole : Stored (words f wholeAnswer (primedPage 0x10001))
+  unfolding puts framedPage primed nextActive nextOf queueHead wordAt wordPut word at place read peek8 peek32 after nextFrindex totalOf runDtds turns settled joined turning dataOut moves bytesOf retiring closing advancing completing framed followed following settling unpriming reporting listEnds andThen putting when store setting R.following R.store R.onBus lineOf poke8 poke32 write tokenAfter pointers bytesIn tabulate dataAddr
+  stored-whole = record { stores = λ l. refl; status = λ l. refl }
+
+  pub whole : Replies (words f wholeAnswer (primedPage 0x10001)) (9 ∷ 2 ∷ 32 ∷ replicate 29 0)
+  unfolding puts framedPage primed nextActive nextOf queueHead wordAt wordPut word at place read peek8 peek32 after nextFrindex totalOf runDtds turns settled joined turning dataOut moves bytesOf retiring closing advancing completing framed followed following settling unpriming reporting listEnds andThen putting when store setting R.following R.store R.onBus lineOf poke8 poke32 write tokenAfter pointers bytesIn tabulate dataAddr
+  whole = record { free = refl; bytes = λ l. refl; done = λ l. refl; status = status-of (words f wholeAnswer (primedPage 0x10001)) stored-whole }

@@ -4,6 +4,8 @@ pub mod Aside
 pub mod Opening
 pub mod Page
 pub mod Early
+pub mod Controls
+pub mod Enumerated
 pub mod Summed
 pub mod Leading
 pub mod Queued
@@ -12,6 +14,7 @@ pub mod Streamed
 pub mod Resets
 pub mod Sleeping
 pub mod Lendings
+pub mod Asking
 pub mod Rings
 pub mod Passed
 pub mod Reached

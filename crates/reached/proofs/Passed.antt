@@ -1,7 +1,7 @@
 -- From any host that streams with both rings empty: a frame is given, a block comes in, one goes out with the frame, and a frame is taken.
 use Prim.Native.Nat.{ℕ, _+_, _-_, _*_, _/_, _%_, _^_, _≤_, _<_, min}
 use mathlib.Core.Path.{_≡_, refl, ap, ap₂, sym, subst, _∙_}
-use mathlib.Core.Bool.{Bool, true, false, not, _&&_}
+use mathlib.Core.Bool.{Bool, true, false, _&&_}
 use mathlib.Core.List.{List, [], _∷_, _++_, append-assoc, flatMap}
 use native.Mathlib.Nat.{mod-lt}
 use native.Mathlib.Omega.{arith}
@@ -10,11 +10,8 @@ use lib.ListN.{length, getD, take, drop, replicate}
 use lib.Seq.{sets, length-sets, length-take-le, sets-eq, take-at, drop-at}
 use borrow.Author.Tests.{leb-true, lt-ltb}
 use Rattle.bits.specs.Pick.{pick}
-use Rattle.bits.specs.Word.{any}
 use Rattle.bits.proofs.Tests.{and-first, and-second}
 use Rattle.bus.specs.Memory.{Memory}
-use Rattle.bus.specs.Words.{wordAt}
-use Rattle.usbdev.specs.Offsets.{USBCMD}
 use Rattle.record.specs.declared.Phase.the-variants.{Stream}
 use Rattle.record.specs.declared.Ring.{Ring}
 use Rattle.record.specs.declared.Settings.{Settings}
@@ -26,17 +23,16 @@ use Rattle.model.specs.Reach.{reachesInput, reachesOutput, atInput, atOutput, o
 use Rattle.model.specs.Earned.{Out, outOf, sentOut}
 use Rattle.model.specs.Ring.{frameIn, contents, ringFrames, framesRead, lastOf, inBytes}
 use Rattle.model.specs.Claims.{sendsAt}
-use Rattle.model.proofs.OneBlock.{one-block, no-block, out-microframe}
+use Rattle.model.proofs.OneBlock.{one-block, no-block}
 use Rattle.model.proofs.InputStep.{input-step, no-input}
-use Rattle.bounds.specs.Bounds.{MOST, inBounds, enumeratingOk, countsOk, audioOk, areasOk, sendingOk}
+use Rattle.bounds.specs.Bounds.{areasOk, sendingOk}
 use Rattle.kept.proofs.Shape.{Shape, shape-kept}
 use Rattle.usbhost.specs.declared.Host.{Host}
 use Rattle.usbhost.specs.Host.{stateOf}
 use Rattle.usbhost.specs.Calls.{fewSpans, sendingLength, giveNumber, framePut, frameGiven, given, givenRing, takeNumber, frameTaken, oldest, holdsFrame, takenFrame}
-use Rattle.usbhost.specs.Frame.{worldOf, hostIn, lengthsOk, framed}
+use Rattle.usbhost.specs.Frame.{worldOf, lengthsOk, framed}
 use Rattle.usbhost.proofs.Kept.{Kept, give-kept, ring-kept}
-use Rattle.history.specs.Calls.{Call, microframe, frameGive, frameTake, step, after}
-use Rattle.history.specs.Sums as S
+use Rattle.history.specs.Calls.{microframe, step, after}
 use Rattle.history.specs.Sums.{Tally, tallied, tally}
 use Rattle.history.specs.Accepts.{numberOf, AtEach}
 use Rattle.history.proofs.History.{by-test}
@@ -47,7 +43,7 @@ use Rattle.reached.proofs.Opening.{openedMemory}
 use Rattle.reached.proofs.Page.{framedMemory}
 use Rattle.reached.proofs.Aside.{Aside, asideOf, aside-output}
 use Rattle.reached.proofs.Summed.{readyIn, bytesAsked, bytesRead, hears-brings, reads-brings}
-use Rattle.reached.proofs.Leading.{Fit, Long, On, Leads, Enters, enters, accepted, framed-is, step-is, tally-append}
+use Rattle.reached.proofs.Leading.{Fit, Long, On, Leads, Enters, enters, accepted, framed-is}
 use Rattle.reached.proofs.Queued.{Below}
 use Rattle.reached.proofs.Waits.{Calm, standing}
 use Rattle.reached.proofs.Streamed.{streams-of, opens-to, silent-law, brings-law, streams-silent, streams-brings}

@@ -40,7 +40,7 @@ below-zeros (suc n) zero = omega arith
 below-zeros (suc n) (suc k) = below-zeros n k
 
 -- by a test of each
-abbrev allBelow : List ℕ → Bool
+abbrev pub allBelow : List ℕ → Bool
 allBelow [] = true
 allBelow (x ∷ l) = ltb x 256 && allBelow l
 
@@ -52,8 +52,11 @@ below-sets (v ∷ vs) l i e p =
 pub queue-new : Queue (replicate 2056 0)
 queue-new = record { long = length-replicate {A = ℕ} 2056 0; bytes = below-zeros 2056 }
 
+pub queue-sets : (q : List ℕ) (i : ℕ) (vs : List ℕ) → allBelow vs ≡ true → Queue q → Queue (sets q i vs)
+queue-sets q i vs e h = record { long = length-sets q i vs ∙ h .long; bytes = below-sets vs q i e (h .bytes) }
+
 pub queue-first : (q : List ℕ) (i : ℕ) → Queue q → Queue (sets q i firstSetups)
-queue-first q i h = record { long = length-sets q i firstSetups ∙ h .long; bytes = below-sets firstSetups q i refl (h .bytes) }
+queue-first q i h = queue-sets q i firstSetups refl h
 
 pub queue-posted : (q : List ℕ) (n : ℕ) → n ≤ 2056 → Queue q → Queue (drained q n 8)
 unfolding drained

@@ -1,17 +1,21 @@
 -- The lists of calls come to what specs/Claims says: demand 3's history is about hosts that receive and send.
-use Prim.Native.Nat.{ℕ, _+_, _≤_, _<_}
+use Prim.Native.Nat.{ℕ, suc, _+_, _-_, _*_, _/_, _^_, _≤_, _<_}
 use mathlib.Core.Path.{_≡_, refl, ap, ap₂, sym, subst, _∙_}
 use mathlib.Core.Bool.{Bool, true, false, _&&_}
 use mathlib.Core.List.{List, [], _∷_, _++_, append-assoc}
 use native.Mathlib.Omega.{arith}
 use lib.Dec.{eqb, leb, leb·zero}
-use lib.ListN.{length, replicate, length-replicate}
+use lib.ListN.{length, take, drop, replicate, length-replicate}
 use borrow.Author.Tests.{leb-true}
+use Rattle.bits.specs.Word.{any}
 use Rattle.bus.specs.Memory.{Memory}
 use Rattle.record.specs.declared.Phase.{Phase}
-use Rattle.record.specs.declared.Phase.the-variants.{Idle, Vbus, Stream}
+use Rattle.record.specs.declared.Phase.the-variants.{Idle, Vbus, Enumerate, Stream}
 use Rattle.record.specs.declared.Settings.{Settings}
-use Rattle.model.specs.Phases.{within, anySpan}
+use Rattle.record.specs.Record.{wrapped}
+use Rattle.record.specs.Setups.{little}
+use Rattle.model.specs.Phases.{within, anySpan, firstSetups}
+use Rattle.model.specs.Control.{fixedSetups}
 use Rattle.model.specs.Audio.{blocksOf}
 use Rattle.bits.proofs.Tests.{and-first, and-second}
 use Rattle.bounds.specs.Bounds.{MOST, areasOk}
@@ -24,8 +28,8 @@ use Rattle.history.specs.Calls.{Call, microframe, midiSend, serialSend, frameGi
 use Rattle.history.specs.Sums.{Sums, Tally, none, summed, sums, tallied, tally}
 use Rattle.history.proofs.History.{history}
 use Rattle.history.proofs.Table.{table-counters}
-use Rattle.reached.specs.Lists.{Areas, lend, smallAreas, zeroStatic, words, stalledPage, stoppedPage, primedPage, blockAt400, blockAt600, roomAt420, roomAt620, plain, withStack, withSpan, withSleep, frame, brings, takes, toStream, inAndOut, inAndOutAtOnce, badBlock, rewritten, oneBlock, goneAndBack, goneAndAgain, thenSuspended, thenResumed, thenAsleep, runBitCleared, gives, hearing, heard, answering, answered, passing, streamed, givenAndTaken}
-use Rattle.reached.specs.Claims.{Lendable, frames, Accepted, Ends, Hears, Passes, Rests, Reached}
+use Rattle.reached.specs.Lists.{Areas, lend, smallAreas, zeroStatic, words, stalledPage, stoppedPage, primedPage, blockAt400, blockAt600, roomAt420, roomAt620, plain, withStack, withSpan, withSleep, withInput, noData, deviceAnswer, headerAnswer, wholeAnswer, frame, rests, asked, brings, takes, toStream, inAndOut, inAndOutAtOnce, badBlock, rewritten, oneBlock, goneAndBack, goneAndAgain, thenSuspended, thenResumed, thenAsleep, answersSetups, thenStreams, thenInAndOut, runBitCleared, gives, hearing, heard, answering, answered, passing, streamed, givenAndTaken}
+use Rattle.reached.specs.Claims.{Lendable, frames, Accepted, Ends, Hears, Passes, Rests, Settled, Reached}
 use Rattle.reached.proofs.Standing.{Stand}
 use Rattle.reached.proofs.Page.{framedMemory}
 use Rattle.reached.proofs.Opening.{openedMemory}
@@ -37,9 +41,11 @@ use Rattle.reached.proofs.Streamed.{streams-of, opens-to, ends-silent, 
 use Rattle.reached.proofs.Resets.{leads-gone, leads-back, leads-left}
 use Rattle.reached.proofs.Aside.{Aside, slept, aside-suspended}
 use Rattle.reached.proofs.Sleeping.{leads-suspends, aside-asleep, asideHost, Awake, aside-step, aside-waits}
+use Rattle.reached.proofs.Controls.{asks}
+use Rattle.reached.proofs.Asking.{Does, does-then, Waiting, Running, ended-by, does-powered, does-resets, does-posts, answers-plain, answers-device, answers-header, answers-whole}
 use Rattle.reached.proofs.Rings.{Few, few-waits}
 use Rattle.reached.proofs.Passed.{waits, sends, sent, gone, taken, heard-sums, answered-sums, passing-sums, passing-phase, passing-numbers}
-use Rattle.reached.proofs.Lendings.{allWords, pageWords, fit-words, pages, contents}
+use Rattle.reached.proofs.Lendings.{allWords, pageWords, fit-words, pages, contents, no-data, device, header, whole}
 
 -- ---- the sums since the last reset are those of the tally
 
@@ -333,6 +339,161 @@ module _ (a : Areas) (f : List ℕ) (l : Lendable a f) where
       let o = leads-asleep .host (newHost withSleep) (on-new withSleep) in
       record { suspended = ap (λ (x : Stand). x .suspended) (o .stands); asleep = ap (λ (x : Aside). x .asleep) aside-last }
 
+  -- ---- every setup is answered
+
+  calm-input : Calm withInput 0
+  unfolding anySpan
+  calm-input = record { audio = refl; there = refl; awake = refl; few = refl }
+
+  abbrev restMemory : Memory
+  restMemory = words f [] (primedPage 0)
+
+  rest-fit : Fit restMemory
+  rest-fit = fit [] (primedPage 0) refl refl
+
+  abbrev deviceBytes : List ℕ
+  deviceBytes = 0x12 ∷ 1 ∷ 0 ∷ 2 ∷ replicate 14 0
+
+  -- a setup that is posted, and then the memory that answers it
+  module _ (i u : ℕ) (ws : List ℕ) (size : length ws ≡ 8 * suc i) (few : i < 200) (early : u < 600) where
+    abbrev Before : Host → Type 0
+    Before = Waiting a (standing Enumerate false (suc i) u 483 false) ws 0
+
+    posts : Does (rests a f ∷ []) Before (Running a (standing Enumerate true i (u + 1) 483 false) (drop 8 ws) 0 (little ws 0) (little ws 4))
+    posts = does-posts a long calm-input restMemory rest-fit (pages .rs-rests) i u 483 0 ws size (omega (arith, few)) (omega (arith, early))
+
+    later : u + 1 < MOST
+    later = omega (arith, early)
+
+    asked-plain : length (drop 8 ws) ≡ 8 * i → eqb (little ws 4 / 2 ^ 16) 0 ≡ true → asks 2 (little ws 0) ≡ false
+        → Does (asked a f noData) Before (Waiting a (standing Enumerate false i (u + 1 + 1) 483 false) (drop 8 ws) 0)
+    asked-plain rest none other =
+        does-then posts
+        (answers-plain a long calm-input (words f noData (primedPage 0x10001)) (fit noData (primedPage 0x10001) refl refl) (pages .rs-asked) _ (no-data f) i (u + 1) 483 0 later (little ws 0) (little ws 4) (drop 8 ws) rest none other)
+
+    asked-device : length (drop 8 ws) ≡ 8 * i → eqb (little ws 4 / 2 ^ 16) 0 ≡ false → any (little ws 0) 0x80 ≡ true → take (little ws 4 / 2 ^ 16 - 0) deviceBytes ≡ deviceBytes → asks 2 (little ws 0) ≡ false
+        → Does (asked a f deviceAnswer) Before (Waiting a (standing Enumerate false i (u + 1 + 1) 483 false) (drop 8 ws) 0)
+    asked-device rest some input whole other =
+        does-then posts
+        (answers-device a long calm-input (words f deviceAnswer (primedPage 0x10001)) (fit deviceAnswer (primedPage 0x10001) refl refl) (pages .rs-asked) _ (device f) i (u + 1) 483 0 later (little ws 0) (little ws 4) (drop 8 ws) rest some input whole other)
+
+  -- the configuration request of 32 bytes
+  abbrev wholeSetup : List ℕ
+  wholeSetup = 0x80 ∷ 6 ∷ 0 ∷ 2 ∷ 0 ∷ 0 ∷ 32 ∷ 0 ∷ []
+
+  asked-header : Does (asked a f headerAnswer) (Waiting a (standing Enumerate false 1 489 483 false) (drop 24 firstSetups) 0) (Waiting a (standing Enumerate false 1 491 483 false) wholeSetup 0)
+  asked-header =
+      does-then (posts 0 489 (drop 24 firstSetups) refl (omega arith) (omega arith))
+      (answers-header a long calm-input (words f headerAnswer (primedPage 0x10001)) (fit headerAnswer (primedPage 0x10001) refl refl) (pages .rs-asked) _ (header f) 0 490 483 0 (omega arith)
+      (little (drop 24 firstSetups) 0) (little (drop 24 firstSetups) 4) [] refl refl refl refl refl refl refl 32 0 refl refl refl)
+
+  asked-whole : Does (asked a f wholeAnswer) (Waiting a (standing Enumerate false 1 491 483 false) wholeSetup 0) (Waiting a (standing Enumerate false 3 493 483 false) fixedSetups 0)
+  asked-whole =
+      does-then (posts 0 491 wholeSetup refl (omega arith) (omega arith))
+      (answers-whole a long calm-input (words f wholeAnswer (primedPage 0x10001)) (fit wholeAnswer (primedPage 0x10001) refl refl) (pages .rs-asked) _ (whole f) 0 492 483 0 (omega arith)
+      (little wholeSetup 0) (little wholeSetup 4) [] refl refl refl refl refl refl (omega arith))
+
+  does-answers : Does (answersSetups a f) (Waiting a start [] 0) (Waiting a (standing Enumerate false 0 499 483 false) [] 0)
+  unfolding answersSetups
+  does-answers =
+      does-then
+      (does-then
+      (does-then
+      (does-then
+      (does-then
+      (does-then
+      (does-then
+      (does-then
+      (does-then {cs = replicate 482 (rests a f)} {ds = rests a f ∷ []} (does-powered a long calm-input restMemory rest-fit (pages .rs-rests) 0) (does-resets a long calm-input restMemory rest-fit (pages .rs-rests) (pages .uri-rests) 0))
+      (asked-device 3 483 firstSetups refl (omega arith) (omega arith) refl refl refl refl refl))
+      (asked-plain 2 485 (drop 8 firstSetups) refl (omega arith) (omega arith) refl refl refl))
+      (asked-device 1 487 (drop 16 firstSetups) refl (omega arith) (omega arith) refl refl refl refl refl))
+      asked-header)
+      asked-whole)
+      (asked-plain 2 493 fixedSetups refl (omega arith) (omega arith) refl refl refl))
+      (asked-plain 1 495 (drop 8 fixedSetups) refl (omega arith) (omega arith) refl refl refl))
+      (asked-plain 0 497 (drop 16 fixedSetups) refl (omega arith) (omega arith) refl refl refl)
+
+  waiting-new : Waiting a start [] 0 (newHost withInput)
+  unfolding newHost
+  waiting-new = record { on = on-new withInput; waits = refl; ended = refl }
+
+  abbrev asker : Host
+  asker = after (newHost withInput) (answersSetups a f)
+
+  waiting-answered : Waiting a (standing Enumerate false 0 499 483 false) [] 0 asker
+  waiting-answered = does-answers .host (newHost withInput) waiting-new
+
+  leads-begins : Leads withInput a (rests a f ∷ []) (standing Enumerate false 0 499 483 false) (standing Stream false 0 500 483 false) fresh fresh
+  leads-begins = ends-silent withInput a long 0 calm-input restMemory rest-fit (pages .rs-rests) 499 483 (omega arith) false (contents f .rests) fresh
+
+  leads-heard : Leads withInput a (brings a f 0x0700_0000 ∷ []) (standing Stream false 0 500 483 false) (standing Stream false 0 501 483 false) fresh (alike 7 0)
+  leads-heard = streams-brings withInput a long 0 calm-input good good-fit (pages .rs-in) 500 483 (omega arith) 1 false (contents f .good-block) fresh
+
+  leads-sent : Leads withInput a (takes a f ∷ []) (standing Stream false 0 501 483 false) (standing Stream false 0 502 483 false) (alike 7 0) (alike 7 7)
+  leads-sent = streams-silent withInput a long 0 calm-input room (fit roomAt420 (primedPage 8) refl refl) (pages .rs-out) 501 483 (omega arith) true (contents f .room) (alike 7 0)
+
+  -- calls behind them
+  ends-behind : (cs : List Call) (k : Stand) (since ever : Sums) (credit : ℕ) → since .received ≡ since .sent + credit
+      → Leads withInput a cs (standing Enumerate false 0 499 483 false) k fresh (record { since = since; ever = ever }) → Ends withInput (answersSetups a f ++ cs) since ever credit (k .phase)
+  ends-behind cs k since ever credit sum p =
+      let o = waiting-answered .on in
+      ends-by withInput (answersSetups a f ++ cs) (k .phase) since ever credit sum
+      (tally-append (newHost withInput) fresh (answersSetups a f) cs ∙ ap (λ (y : Tally). tally asker y cs) (does-answers .sums (newHost withInput) waiting-new fresh) ∙ p .sums asker o)
+      (ap (λ (g : Host). g .phase) (after-append (newHost withInput) (answersSetups a f) cs) ∙ ap (λ (x : Stand). x .phase) (p .host asker o .stands))
+      (accepted-append (newHost withInput) (answersSetups a f) cs (does-answers .numbers (newHost withInput) waiting-new) (p .numbers asker o))
+
+  settled-behind : (cs : List Call) (q : Phase) (u n : ℕ) → On withInput a (standing q false 0 u 483 false) (after asker cs) → after asker cs .stats .enumerations ≡ n → Settled withInput (answersSetups a f ++ cs) n
+  settled-behind cs q u n o e =
+      let is = after-append (newHost withInput) (answersSetups a f) cs in
+      record {
+        ended = ap (λ (g : Host). g .stats .enumerations) is ∙ e;
+        free = ap (λ (g : Host). g .control .on) is ∙ ap (λ (x : Stand). x .on) (o .stands);
+        none-waits = ap (λ (g : Host). g .lengths .setups) is ∙ ap (λ (x : Stand). x .waiting) (o .stands);
+      }
+
+  answers-end : Ends withInput (answersSetups a f) none none 0 Enumerate × Settled withInput (answersSetups a f) 0
+  answers-end =
+      let p = waiting-answered in (
+        ends-by withInput (answersSetups a f) Enumerate none none 0 refl (does-answers .sums (newHost withInput) waiting-new fresh) (ap (λ (x : Stand). x .phase) (p .on .stands)) (does-answers .numbers (newHost withInput) waiting-new),
+        record { ended = p .ended; free = ap (λ (x : Stand). x .on) (p .on .stands); none-waits = ap (λ (x : Stand). x .waiting) (p .on .stands) },
+      )
+
+  -- enumeration ends once
+  on-begun : On withInput a (standing Stream false 0 500 483 false) (after asker (rests a f ∷ []))
+  on-begun = leads-begins .host asker (waiting-answered .on)
+
+  ended-once : after asker (rests a f ∷ []) .stats .enumerations ≡ 1
+  unfolding after
+  ended-once =
+      ended-by a long calm-input restMemory rest-fit (pages .rs-rests) (standing Enumerate false 0 499 483 false) (omega arith) refl asker (waiting-answered .on)
+      ∙ ap (λ (n : ℕ). wrapped (n + 1)) (waiting-answered .ended)
+
+  begun-end : Ends withInput (thenStreams a f) none none 0 Stream × Settled withInput (thenStreams a f) 1
+  unfolding thenStreams
+  begun-end =
+      (ends-behind (rests a f ∷ []) _ none none 0 refl leads-begins, settled-behind (rests a f ∷ []) Stream 500 1 on-begun ended-once)
+
+  leads-all : Leads withInput a ((rests a f ∷ []) ++ (brings a f 0x0700_0000 ∷ takes a f ∷ [])) (standing Enumerate false 0 499 483 false) (standing Stream false 0 502 483 false) fresh (alike 7 7)
+  leads-all = leads-then leads-begins (leads-then leads-heard leads-sent)
+
+  ended-still : after asker ((rests a f ∷ []) ++ (brings a f 0x0700_0000 ∷ takes a f ∷ [])) .stats .enumerations ≡ 1
+  unfolding after
+  ended-still =
+      let h = after asker (rests a f ∷ []) in
+      ended-by a long calm-input room (fit roomAt420 (primedPage 8) refl refl) (pages .rs-out) (standing Stream false 0 501 483 false) (omega arith) refl (step h (brings a f 0x0700_0000)) (leads-heard .host h on-begun)
+      ∙ ended-by a long calm-input good good-fit (pages .rs-in) (standing Stream false 0 500 483 false) (omega arith) refl h on-begun
+      ∙ ended-once
+
+  in-and-out-end : Ends withInput (thenInAndOut a f) (frames 7 7) (frames 7 7) 0 Stream × Settled withInput (thenInAndOut a f) 1
+  unfolding thenInAndOut thenStreams
+  in-and-out-end =
+      subst (λ (cs : List Call). Ends withInput cs (frames 7 7) (frames 7 7) 0 Stream × Settled withInput cs 1)
+      (sym (append-assoc (answersSetups a f) (rests a f ∷ []) (brings a f 0x0700_0000 ∷ takes a f ∷ []))) (
+        ends-behind ((rests a f ∷ []) ++ (brings a f 0x0700_0000 ∷ takes a f ∷ [])) _ (frames 7 7) (frames 7 7) 0 refl leads-all,
+        settled-behind ((rests a f ∷ []) ++ (brings a f 0x0700_0000 ∷ takes a f ∷ [])) Stream 502 1 (leads-all .host asker (waiting-answered .on)) ended-still,
+      )
+
   -- ---- a frame given and one taken
 
   module _ (x : List ℕ) (twelve-words : length x ≡ 12) where
@@ -424,7 +585,7 @@ module _ (a : Areas) (f : List ℕ) (l : Lendable a f) where
   unfolding anySpan created settled
   reached =
       record {
-        made = (refl, (refl, (refl, refl)));
+        made = (refl, (refl, (refl, (refl, refl))));
         stream = ends plain (toStream a f) _ none none 0 refl (leads-stream plain calm-plain);
         in-and-out = ends plain (inAndOut a f) _ (frames 7 7) (frames 7 7) 0 refl (leads-in-and-out plain calm-plain);
         at-once = ends plain (inAndOutAtOnce a f) _ (frames 7 7) (frames 7 7) 0 refl (leads-at-once plain calm-plain);
@@ -435,6 +596,9 @@ module _ (a : Areas) (f : List ℕ) (l : Lendable a f) where
         gone = ends withSpan (goneAndBack a f) _ none (frames 7 0) 0 refl leads-gone-back;
         again = ends withSpan (goneAndAgain a f) _ (frames 7 0) (frames 14 0) 7 refl leads-again;
         passes = passes;
+        answered = answers-end;
+        answered-streams = begun-end;
+        answered-in-and-out = in-and-out-end;
         before-suspend = (ends withSleep (oneBlock a f) _ (frames 7 0) (frames 7 0) 7 refl (leads-good withSleep (calm-sleep 0 refl)), rests-before);
         suspended = (ends withSleep (thenSuspended a f) _ (frames 7 0) (frames 7 0) 7 refl leads-suspended, rests-suspended);
         resumed = (ends withSleep (thenResumed a f) _ (frames 7 7) (frames 7 7) 0 refl leads-resumed, rests-resumed);

@@ -1,6 +1,6 @@
 -- The rings of frames through microframes: the received ring holds no more than was received, the sending ring only loses frames, and its words stay.
-use Prim.Native.Nat.{ℕ, zero, suc, _+_, _-_, _*_, _%_, _≤_, min}
-use mathlib.Core.Path.{_≡_, refl, ap, sym, subst, _∙_}
+use Prim.Native.Nat.{ℕ, zero, suc, _+_, _-_, _*_, _%_, _≤_}
+use mathlib.Core.Path.{_≡_, refl, ap, sym, _∙_}
 use mathlib.Core.Bool.{Bool, true, false, _&&_}
 use mathlib.Core.List.{List, [], _∷_, _++_}
 use native.Mathlib.Omega.{arith}
@@ -11,13 +11,13 @@ use Rattle.bits.specs.Pick.{pick}
 use Rattle.bits.proofs.Tests.{and-first, and-second}
 use Rattle.bus.specs.Steps.{replay}
 use Rattle.record.specs.World.{World}
-use Rattle.record.specs.Change.{Change, bus, ran, lost, count, uf, phase, started, gone, suspended, wasRunning, credit, budget, counter, block, timers, control, queued, popped, pushed, cleared, reply, device, config, forgot, midi, serial, received, frame, taken, takenFrom, apply, Step, left, FRAMES}
+use Rattle.record.specs.Change.{Change, bus, ran, lost, count, uf, phase, started, gone, suspended, wasRunning, credit, budget, counter, block, timers, control, queued, popped, pushed, cleared, reply, device, config, forgot, midi, serial, received, frame, taken, takenFrom, apply, left, FRAMES}
 use Rattle.model.specs.Audio.{good, blocksOf, streamIn}
 use Rattle.model.specs.Microframe as M
 use Rattle.model.specs.Microframe.{rsSet, enumerates}
-use Rattle.model.specs.Reach.{toPhase, phaseBy, streamBy, reachesInput, atInput, atOutput, inputReady, bytesAt}
+use Rattle.model.specs.Reach.{toPhase, phaseBy, streamBy, reachesInput, atInput, atOutput}
 use Rattle.model.specs.Earned.{Out, outOf, sentOut, goodBlocks}
-use Rattle.model.specs.Ring.{contents, ringFrames, InOrder, RingInOrder, framesFrom, framesOfBlock, framesOfBlocks, framesRead, lastOf, inBytes}
+use Rattle.model.specs.Ring.{contents, ringFrames, RingInOrder, framesFrom, framesOfBlock, framesOfBlocks, framesRead, inBytes}
 use Rattle.model.specs.Claims.{sendsAt}
 use Rattle.model.proofs.Reading.{silent-keeps, silent-hears}
 use Rattle.model.proofs.Out.{outs, out-leaves, outReading, outLasting, outUnheard}
@@ -29,7 +29,7 @@ use Rattle.usbhost.specs.Host.{stateOf}
 use Rattle.usbhost.specs.Calls.{bounded}
 use Rattle.usbhost.specs.Frame.{Lent, worldOf, hostIn, lengthsOk, boundsOk, frameNumber, framed}
 use Rattle.usbhost.proofs.Frame.{accepted-tests}
-use Rattle.history.specs.Calls.{Call, microframe, step, after}
+use Rattle.history.specs.Calls.{microframe, step, after}
 use Rattle.history.specs.Sums as S
 use Rattle.history.specs.Sums.{Sums, Tally, receive, send, readAt, heard, reset, answeredEver, tallied, tally}
 use Rattle.history.proofs.History.{by-test}

@@ -2,7 +2,7 @@
 use Prim.Native.Nat.{ℕ, zero, suc, _+_, _<_}
 use mathlib.Core.Path.{_≡_, refl, ap, ap₂, sym, subst, _∙_}
 use mathlib.Core.Bool.{Bool, true, false, not, _&&_}
-use mathlib.Core.List.{List, [], _∷_}
+use mathlib.Core.List.{[], _∷_}
 use native.Mathlib.Omega.{arith}
 use lib.Dec.{eqb, leb}
 use lib.ListN.{replicate}
@@ -29,7 +29,7 @@ use Rattle.bounds.specs.Bounds.{MOST}
 use Rattle.kept.proofs.Shape.{Shape, shape-kept}
 use Rattle.usbhost.specs.declared.Host.{Host}
 use Rattle.usbhost.specs.Frame.{Lent, worldOf, hostIn, frameNumber, framed}
-use Rattle.history.specs.Calls.{Call, microframe, step, after}
+use Rattle.history.specs.Calls.{microframe, step, after}
 use Rattle.history.specs.Sums.{Sums, Tally, none}
 use Rattle.reached.specs.Lists.{Areas, lend}
 use Rattle.reached.proofs.Standing.{Stand, Held, heldOf, held}

@@ -112,7 +112,7 @@ module _ (c : Settings) (a : Areas) (long : Long a) (t : ℕ) (calm : Calm c t) 
     past : (n : ℕ) → n ≤ 400 → s + n < u + 1 → ltb (wrapped (s + n)) (u + 1) ≡ true
     past n small h = lt-ltb (wrapped (s + n)) (u + 1) (omega (arith, few, begun, small, h))
 
-    wait-vbus : u + 1 ≤ s + 400 → (y : Tally) → Leads c a (call ∷ []) (standing Vbus false 0 u s stack) (standing Vbus false 0 (u + 1) s stack) y y
+    pub wait-vbus : u + 1 ≤ s + 400 → (y : Tally) → Leads c a (call ∷ []) (standing Vbus false 0 u s stack) (standing Vbus false 0 (u + 1) s stack) y y
     wait-vbus h y =
         early (standing Vbus false 0 u s stack) openedHeld y refl few refl (λ q x. x)
         (λ w p e f. frame-vbus t w p (ap (λ (x : Stand). x .phase) e) (ap (λ (x : Stand). ltb (wrapped (x .t + 400)) (x .uf + 1)) e ∙ before-reset 400 (omega arith) h))
@@ -124,7 +124,7 @@ module _ (c : Settings) (a : Areas) (long : Long a) (t : ℕ) (calm : Calm c t) 
         (λ w p e f. frame-powers t w p (ap (λ (x : Stand). x .phase) e) (ap (λ (x : Stand). ltb (wrapped (x .t + 400)) (x .uf + 1)) e ∙ past 400 (omega arith) h))
         (standing Reset false 0 (u + 1) (u + 1) stack) (λ q. ap (λ (b : Bool). standing Reset false 0 (u + 1) (u + 1) b) (seen-is stack))
 
-    wait-reset : u + 1 ≤ s + 80 → (y : Tally) → Leads c a (call ∷ []) (standing Reset false 0 u s stack) (standing Reset false 0 (u + 1) s stack) y y
+    pub wait-reset : u + 1 ≤ s + 80 → (y : Tally) → Leads c a (call ∷ []) (standing Reset false 0 u s stack) (standing Reset false 0 (u + 1) s stack) y y
     wait-reset h y =
         early (standing Reset false 0 u s stack) openedHeld y refl few refl (λ q x. x)
         (λ w p e f. frame-reset t w p (ap (λ (x : Stand). x .phase) e) (ap (λ (x : Stand). ltb (wrapped (x .t + 80)) (x .uf + 1)) e ∙ before-reset 80 (omega arith) h))

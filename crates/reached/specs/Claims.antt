@@ -5,7 +5,7 @@ use mathlib.Core.List.{List, [], _∷_, _++_, flatMap}
 use mathlib.Core.Path.{_≡_}
 use lib.ListN.{length, getD, drop, replicate}
 use Rattle.record.specs.declared.Phase.{Phase}
-use Rattle.record.specs.declared.Phase.the-variants.{Vbus, Stream}
+use Rattle.record.specs.declared.Phase.the-variants.{Vbus, Enumerate, Stream}
 use Rattle.record.specs.declared.Settings.{Settings}
 use Rattle.model.specs.Audio.{blocksOf, bytesOf, blockOf}
 use Rattle.model.specs.Reach.{atInput, atOutput, bytesAt}
@@ -18,7 +18,7 @@ use Rattle.history.specs.Calls.{Call, step, after}
 use Rattle.history.specs.Accepts.{numberOf, AtEach}
 use Rattle.history.specs.Sums as S
 use Rattle.history.specs.Sums.{Sums, none, inputReached, tally}
-use Rattle.reached.specs.Lists.{Areas, lend, words, blockAt400, primedPage, plain, withStack, withSpan, withSleep, toStream, inAndOut, inAndOutAtOnce, badBlock, rewritten, oneBlock, goneAndBack, goneAndAgain, thenSuspended, thenResumed, thenAsleep, runBitCleared, gives, heard, answering, answered, ringLeft, streamed, givenAndTaken}
+use Rattle.reached.specs.Lists.{Areas, lend, words, blockAt400, primedPage, plain, withStack, withSpan, withSleep, withInput, toStream, inAndOut, inAndOutAtOnce, badBlock, rewritten, oneBlock, goneAndBack, goneAndAgain, thenSuspended, thenResumed, thenAsleep, answersSetups, thenStreams, thenInAndOut, runBitCleared, gives, heard, answering, answered, ringLeft, streamed, givenAndTaken}
 
 -- areas and static memory that every microframe accepts, and bytes in those where bytes are
 pub record Lendable (a : Areas) (f : List ℕ) : Type 0 where
@@ -73,8 +73,14 @@ pub record Rests (c : Settings) (cs : List Call) (mark : Bool) (unread : ℕ) : 
   pub suspended : after (newHost c) cs .port .suspended ≡ mark
   pub asleep : after (newHost c) cs .stats .«midi_asleep» ≡ unread
 
+-- no request runs and no setup waits then, and enumeration has ended so often (626-629)
+pub record Settled (c : Settings) (cs : List Call) (n : ℕ) : Type 0 where
+  pub ended : after (newHost c) cs .stats .enumerations ≡ n
+  pub free : after (newHost c) cs .control .on ≡ false
+  pub none-waits : after (newHost c) cs .lengths .setups ≡ 0
+
 pub record Reached (a : Areas) (f : List ℕ) : Type 0 where
-  pub made : Made plain × (Made withStack × (Made withSpan × Made withSleep))
+  pub made : Made plain × (Made withStack × (Made withSpan × (Made withSleep × Made withInput)))
   -- the stream begins
   pub stream : Ends plain (toStream a f) none none 0 Stream
   -- one good block in, and one out
@@ -91,6 +97,10 @@ pub record Reached (a : Areas) (f : List ℕ) : Type 0 where
   pub again : Ends withSpan (goneAndAgain a f) (frames 7 0) (frames 14 0) 7 Stream
   -- a frame given is sent, and one is taken, whatever its twelve words
   pub passes : (x : List ℕ) → length x ≡ 12 → Passes a f x
+  -- all eight setups are answered, none is stalled and none times out; enumeration ends once, and then a block in and one out
+  pub answered : Ends withInput (answersSetups a f) none none 0 Enumerate × Settled withInput (answersSetups a f) 0
+  pub answered-streams : Ends withInput (thenStreams a f) none none 0 Stream × Settled withInput (thenStreams a f) 1
+  pub answered-in-and-out : Ends withInput (thenInAndOut a f) (frames 7 7) (frames 7 7) 0 Stream × Settled withInput (thenInAndOut a f) 1
   -- a block in; suspended: the credit stays; resumed: its block goes out; in the sleep span another comes in
   pub before-suspend : Ends withSleep (oneBlock a f) (frames 7 0) (frames 7 0) 7 Stream × Rests withSleep (oneBlock a f) false 0
   pub suspended : Ends withSleep (thenSuspended a f) (frames 7 0) (frames 7 0) 7 Stream × Rests withSleep (thenSuspended a f) true 1

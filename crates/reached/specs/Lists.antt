@@ -1,5 +1,5 @@
 -- Lists of calls from a new host (document 01, "Host record"), and what each call brings.
-use Prim.Native.Nat.{ℕ}
+use Prim.Native.Nat.{ℕ, _+_, _*_, _^_}
 use mathlib.Core.Bool.{Bool, true, false}
 use mathlib.Core.List.{List, [], _∷_, _++_}
 use lib.ListN.{replicate}
@@ -100,6 +100,27 @@ roomAt420 = outHead 0x4000_0420 ∷ (0x420, 1) ∷ (0x424, 0x0170_8080) ∷ (0x4
 abbrev pub roomAt620 : List (ℕ × ℕ)
 roomAt620 = outHead 0x4000_0620 ∷ (0x620, 1) ∷ (0x624, 0x0170_0080) ∷ (0x628, 0x4000_0E00) ∷ []
 
+-- an answer on endpoint 0, whose queue heads stand at 0 (OUT) and 40 (IN): a descriptor at 400 that brings n bytes, its data at 800, and
+-- one at 420 without bytes, for the status stage; both with IOC, active
+abbrev pub answerOf : ℕ → List (ℕ × ℕ) → List (ℕ × ℕ)
+answerOf n ds =
+    (0x48, 0x4000_0400) ∷ (0x400, 1) ∷ (0x404, n * 2 ^ 16 + 0x8080) ∷ (0x408, 0x4000_0800) ∷ (0x8, 0x4000_0420) ∷ (0x420, 1) ∷ (0x424, 0x8080) ∷ ds
+
+-- no bytes: the status stage of a request without data
+abbrev pub noData : List (ℕ × ℕ)
+noData = answerOf 0 []
+
+-- a device descriptor: 18 bytes, type 1 (USB 2.0, 9.6.1)
+abbrev pub deviceAnswer : List (ℕ × ℕ)
+deviceAnswer = answerOf 18 ((0x800, 0x1201_0002) ∷ [])
+
+-- a configuration of 32 bytes: 9 bytes, type 2, the total length low byte first (USB 2.0, 9.6.3): its header, and the whole of it
+abbrev pub headerAnswer : List (ℕ × ℕ)
+headerAnswer = answerOf 9 ((0x800, 0x0902_2000) ∷ [])
+
+abbrev pub wholeAnswer : List (ℕ × ℕ)
+wholeAnswer = answerOf 32 ((0x800, 0x0902_2000) ∷ [])
+
 -- ---- settings (document 01, "Host record")
 
 -- neither MIDI input nor a serial device, no span of sleep or suspend; b: the device stack; n gone spans, in a table
@@ -125,6 +146,20 @@ withStack = audioSettings true 0 (replicate 32 0)
 -- the host is gone from 1 to 2
 abbrev pub withSpan : Settings
 withSpan = audioSettings false 1 (1 ∷ 2 ∷ replicate 30 0)
+
+-- MIDI input, no span
+abbrev pub withInput : Settings
+withInput =
+    record {
+      «device_stack» = false;
+      «midi_in» = true;
+      cdc = false;
+      «midi_every» = 0;
+      sleep = record { from = 0; to = 0 };
+      suspend = record { from = 0; to = 0 };
+      spans = 0;
+      gone = replicate 32 0;
+    }
 
 -- MIDI input; suspended from 1 to 2, and no MIDI is read from 3 to 4
 abbrev pub withSleep : Settings
@@ -196,6 +231,28 @@ module _ (a : Areas) (f : List ℕ) where
 
   unfoldable pub thenAsleep : List Call
   thenAsleep = thenResumed ++ (frame 3 (blockAt400 0x0700_0000) (primedPage 0x80000) ∷ [])
+
+  -- or every setup is answered: 483 microframes with no endpoint primed up to enumeration, and for each setup one in which it is posted and
+  -- one with endpoint 0 IN, bit 16, and OUT, bit 0, primed (623-700)
+  abbrev pub rests : Call
+  rests = frame 0 [] (primedPage 0)
+
+  abbrev pub asked : List (ℕ × ℕ) → List Call
+  asked ds = rests ∷ frame 0 ds (primedPage 0x10001) ∷ []
+
+  -- device descriptor of 64 bytes, address, device descriptor, configuration header (477-482); the whole configuration (713); set
+  -- configuration, and alternate 3 of two interfaces (729-735)
+  unfoldable pub answersSetups : List Call
+  answersSetups =
+      replicate 483 rests ++ asked deviceAnswer ++ asked noData ++ asked deviceAnswer ++ asked headerAnswer ++ asked wholeAnswer ++ asked noData
+      ++ asked noData ++ asked noData
+
+  -- the stream begins
+  unfoldable pub thenStreams : List Call
+  thenStreams = answersSetups ++ (rests ∷ [])
+
+  unfoldable pub thenInAndOut : List Call
+  thenInAndOut = thenStreams ++ (brings 0x0700_0000 ∷ takes ∷ [])
 
   -- or RS is clear
   unfoldable pub runBitCleared : List Call
