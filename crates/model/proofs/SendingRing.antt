@@ -58,7 +58,7 @@ words-kept (c ∷ cs) w = words-kept cs (apply c w) ∙ words-change c w
 pub words-microframe : (t : ℕ) (w : World) → left (microframe t) w .sending ≡ w .sending
 words-microframe t w = words-kept (microframe t w) w
 
-words-output : (w : World) → atOutput w .sending ≡ w .sending
+pub words-output : (w : World) → atOutput w .sending ≡ w .sending
 unfolding streamBy phaseBy
 words-output w =
     let v = left (toPhase (w .settings) (rsSet w)) w in

@@ -21,9 +21,11 @@ use Rattle.model.specs.Audio.{bytesOf, frameAt, channelBytes, frameBytes, block
 use Rattle.model.specs.Microframe as M
 use Rattle.model.specs.Reach.{reachesInput, reachesOutput, atInput, atOutput, outputReady}
 use Rattle.model.specs.Earned.{Out, outOf, sentOut}
-use Rattle.model.specs.Ring.{frameIn, contents, ringFrames, framesRead, lastOf, inBytes}
+use Rattle.model.specs.Ring.{frameIn, oldestFirst, contents, ringFrames, framesRead, lastOf, inBytes}
 use Rattle.model.specs.Claims.{sendsAt}
-use Rattle.model.proofs.OneBlock.{one-block, no-block}
+use Rattle.model.proofs.OldestFirst.{ring-length}
+use Rattle.model.proofs.OneBlock.{one-block, no-block, out-output}
+use Rattle.model.proofs.SendingRing.{words-output}
 use Rattle.model.proofs.InputStep.{input-step, no-input}
 use Rattle.bounds.specs.Bounds.{areasOk, sendingOk}
 use Rattle.kept.proofs.Shape.{Shape, shape-kept}
@@ -36,6 +38,7 @@ use Rattle.history.specs.Calls.{microframe, step, after}
 use Rattle.history.specs.Sums.{Tally, tallied, tally}
 use Rattle.history.specs.Accepts.{numberOf, AtEach}
 use Rattle.history.proofs.History.{by-test}
+use Rattle.history.proofs.OneCall.{accepted-ring}
 use Rattle.reached.specs.Lists.{Areas, lend, withRings, words, primedPage, soundAt400, roomAt420, plain, gives, hearing, answering, passing}
 use Rattle.reached.specs.Claims.{frames, Accepted}
 use Rattle.reached.proofs.Standing.{Stand}
@@ -49,7 +52,6 @@ use Rattle.reached.proofs.Waits.{Calm, standing}
 use Rattle.reached.proofs.Streamed.{streams-of, opens-to, silent-law, brings-law, streams-silent, streams-brings}
 use Rattle.reached.proofs.Sleeping.{Awake, asideHost, aside-step}
 use Rattle.reached.proofs.Lendings.{fit-words, pages, contents as memories}
-use Rattle.reached.proofs.Rings.{length-contents, order-of, out-output, ring-output}
 
 -- ---- twelve words
 
@@ -241,7 +243,7 @@ module _ (a : Areas) (f : List ℕ) (long : Long a) (static-length : length f �
   on-heard = leads₂ .host h₁ on₁
 
   empty : ringFrames w₂ ≡ []
-  unfolding contents frameGiven
+  unfolding oldestFirst frameGiven
   empty =
       ap (λ (g : Host). contents (a .received) (g .audio .received .start) (g .audio .received .len)) step-give
       ∙ ap (λ (n : ℕ). contents (a .received) (h .audio .received .start) n) none-in
@@ -255,7 +257,7 @@ module _ (a : Areas) (f : List ℕ) (long : Long a) (static-length : length f �
       let ready : readyIn (framedMemory (openedMemory w₂)) ≡ true = ap (λ (m : Memory). readyIn (framedMemory m)) opens ∙ memories f .sound .input in
       let small : bytesAsked (framedMemory (openedMemory w₂)) ≤ 368 = subst (λ (m : Memory). bytesAsked (framedMemory m) ≤ 368) (sym opens) (memories f .sound .small) in
       let reached = hears-brings 0 w₂ st (enters₂ .budget) ready small in
-      let s = input-step 0 w₂ (order-of h₁ (lend areas₁ m₂) number₂) (and-first (reachesInput 0 w₂) _ reached) (and-second (reachesInput 0 w₂) _ reached) in
+      let s = input-step 0 w₂ (accepted-ring h₁ (lend areas₁ m₂) number₂) (and-first (reachesInput 0 w₂) _ reached) (and-second (reachesInput 0 w₂) _ reached) in
       let bytes : inBytes (atInput w₂) ≡ bytesRead (framedMemory m₂) = sym (s .bytes) ∙ reads-brings 0 w₂ st (enters₂ .budget) ready small ∙ ap (λ (m : Memory). bytesRead (framedMemory m)) opens in
       ap ringFrames framed₂
       ∙ s .after
@@ -368,7 +370,7 @@ module _ (a : Areas) (f : List ℕ) (long : Long a) (static-length : length f �
   first-frame =
       let s = h .audio .sending .start in
       let n = h .audio .sending .len in
-      let words : atOutput w₃ .sending ≡ sets ring ((s + n) % (length ring / 12) * 12) x = ring-output w₃ ∙ ring-is in
+      let words : atOutput w₃ .sending ≡ sets ring ((s + n) % (length ring / 12) * 12) x = words-output w₃ ∙ ring-is in
       let inside : s % (length ring / 12) < length ring / 12 = mod-lt s {m = length ring / 12} (omega (arith, most)) in
       let same₁ : s + 0 ≡ s = omega arith in
       let same₂ : s + n ≡ s = omega (arith, none-out) in
@@ -394,12 +396,12 @@ module _ (a : Areas) (f : List ℕ) (long : Long a) (static-length : length f �
       let st = streams-of plain areas₂ long₂ 0 calm m₃ fit₃ (pages .rs-out) false 493 483 (omega arith) Stream w₃ enters₃ refl in
       let opens : openedMemory w₃ ≡ m₃ = opens-to plain areas₂ long₂ 0 calm m₃ fit₃ (pages .rs-out) false 493 483 Stream w₃ enters₃ in
       let tested = silent-law plain areas₂ long₂ 0 calm m₃ fit₃ (pages .rs-out) false true (memories f .room) w₃ st opens (enters₃ .budget) in
-      ap ringFrames framed₃ ∙ no-input 0 w₃ (order-of h₂ (lend areas₂ m₃) number₃) (tested .heard) .frames ∙ frames₂
+      ap ringFrames framed₃ ∙ no-input 0 w₃ (accepted-ring h₂ (lend areas₂ m₃) number₃) (tested .heard) .frames ∙ frames₂
 
   seven : h₃ .audio .received .len ≡ 7
   unfolding step
   seven =
-      sym (length-contents ring₃ (framed 0 h₂ (lend areas₂ m₃) .state .audio .received .start) (framed 0 h₂ (lend areas₂ m₃) .state .audio .received .len)) ∙ ap length frames₃
+      sym (ring-length 48000 ring₃ (framed 0 h₂ (lend areas₂ m₃) .state .audio .received .start) (framed 0 h₂ (lend areas₂ m₃) .state .audio .received .len)) ∙ ap length frames₃
 
   pub take-number : takeNumber h₃ ring₃ ≡ 0
   unfolding takeNumber lengthsOk
@@ -414,7 +416,7 @@ module _ (a : Areas) (f : List ℕ) (long : Long a) (static-length : length f �
       simp (whole, spans, on₃ .bounds .record-bounds, on₃ .bounds .received)
 
   oldest-is : oldest h₃ ring₃ ≡ 0x1234_5678 ∷ 0x9ABC_DEF0 ∷ replicate 10 0
-  unfolding oldest contents frameIn step firstOf
+  unfolding oldest oldestFirst frameIn step firstOf
   oldest-is =
       sym (ap (λ (n : ℕ). firstOf (contents ring₃ (framed 0 h₂ (lend areas₂ m₃) .state .audio .received .start) n)) seven)
       ∙ ap firstOf frames₃
