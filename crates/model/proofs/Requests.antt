@@ -278,14 +278,14 @@ status-runs : (stack : Bool) (u : World) → late (requestOf u) ≡ false → st
 status-runs stack u l d =
     ap requestOf
     (left-status stack u
-    ∙ if-false (λ v. statusRun u .done) _ _ (statusLeft u) d
+    ∙ if-false _ _ _ (statusLeft u) d
     ∙ when-false timedOut dropsRequest (statusLeft u) (ap late (request-ran u) ∙ l))
     ∙ request-ran u
 
 -- a completion: it is finished
 status-ends : (stack : Bool) (u : World) → statusRun u .done ≡ true → briefOf (left (statusStage stack) u) ≡ off (requestOf u)
 status-ends stack u d =
-    ap briefOf (left-status stack u ∙ if-true (λ v. statusRun u .done) _ _ (statusLeft u) d)
+    ap briefOf (left-status stack u ∙ if-true _ _ _ (statusLeft u) d)
     ∙ finishes-off stack (statusLeft u)
     ∙ ap off (request-ran u)
 
@@ -298,7 +298,7 @@ status-late stack u l = by (statusRun u .done) refl
     by false d =
         ap briefOf
         (left-status stack u
-        ∙ if-false (λ v. statusRun u .done) _ _ (statusLeft u) d
+        ∙ if-false _ _ _ (statusLeft u) d
         ∙ when-true timedOut dropsRequest (statusLeft u) (ap late (request-ran u) ∙ l))
         ∙ drops (statusLeft u)
         ∙ ap off (request-ran u)
@@ -556,7 +556,7 @@ module _ (t : ℕ) (w : World) (p : Present t w) (e : w .state .phase ≡ Enumer
     unfolding controls
     controls-posts =
         if-false (λ v. v .state .control .on) _ _ asked (asked-on false idle)
-        ∙ if-false (λ v. eqb (v .state .lengths .setups) 0) configured posts asked (ne-eqb (asked .state .lengths .setups) 0 (λ z. omega (arith, z, waiting-asked, some)))
+        ∙ if-false _ configured posts asked (ne-eqb (asked .state .lengths .setups) 0 (λ z. omega (arith, z, waiting-asked, some)))
 
     posts-stand : standOf (left posts asked) ≡ postedStand (little (w .setups) 0) (little (w .setups) 4) (opened t w p)
     posts-stand = stand-posts asked ∙ ap (λ (k : Stand). postedStand (little (k .queue) 0) (little (k .queue) 4) k) asked-stand
@@ -706,7 +706,7 @@ module _ (t : ℕ) (w : World) (p : Present t w) (e : w .state .phase ≡ Enumer
     unfolding controls
     controls-ends =
         if-false (λ v. v .state .control .on) _ _ asked (asked-on false idle)
-        ∙ if-true (λ v. eqb (v .state .lengths .setups) 0) configured posts asked (ap (λ (n : ℕ). eqb n 0) (waiting-asked ∙ none))
+        ∙ if-true _ configured posts asked (ap (λ (n : ℕ). eqb n 0) (waiting-asked ∙ none))
 
     ends-stand : standOf (left (microframe t) w) ≡ streamingStand (opened t w p)
     ends-stand =

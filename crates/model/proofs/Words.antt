@@ -29,7 +29,7 @@ use Rattle.record.specs.World.{World, busOf}
 use Rattle.record.specs.Change.{Change, apply, Step, left, _then_, nothing, if, one, here, onPage}
 use Rattle.record.proofs.Laws.{replay-bus}
 use Rattle.model.specs.Phases.{changing, counts, ticks, dropsRequest, forgets, returns, cable, suspends, enters, departs, leaves, startsFrame}
-use Rattle.model.specs.Microframe.{opens}
+use Rattle.model.specs.Microframe.{rsSet, opens}
 use Rattle.model.specs.Reach.{toPhase, phaseBy}
 
 -- a page of 4,096 bytes, with the URI and the EPCR0 of another
@@ -47,9 +47,10 @@ alike-then x y = record { long = y .long; uri = y .uri ∙ x .uri; stall = y .st
 -- ---- two tests of registers, by the byte that has the bit (a page is big-endian)
 
 -- USBCMD is at 0x140: RS is bit 0 of byte 0x143
-pub rs-byte : (p : List ℕ) → any (wordAt p USBCMD) 1 ≡ eqb (getD p 0x143 0 % 2) 1
+pub rs-byte : (w : World) → rsSet w ≡ eqb (getD (w .memory .page) 0x143 0 % 2) 1
 unfolding bit wordAt word
-rs-byte p =
+rs-byte w =
+    let p = w .memory .page in
     let same : bit 0 (wordAt p USBCMD) ≡ getD p 0x143 0 % 2 = omega arith in
     any-bit 0 (wordAt p USBCMD) ∙ ap (λ (x : ℕ). eqb x 1) same
 
