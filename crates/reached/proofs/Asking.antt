@@ -53,7 +53,7 @@ use Rattle.reached.proofs.Summed.{tested-tally, tested-early}
 use Rattle.reached.proofs.Leading.{Fit, Long, Queue, On, Enters, Leads, enters, accepted, step-is, next, tallied-is, after-append, tally-append, accepted-append}
 use Rattle.reached.proofs.Queued.{allBelow, queue-sets, queue-posted}
 use Rattle.reached.proofs.Waits.{Calm, standing, streamsAt, plain-of, leads-idle, wait-vbus, leads-powers, wait-reset}
-use Rattle.reached.proofs.Lendings.{Replies}
+use Rattle.reached.proofs.Lendings.{Flags, Replies}
 
 -- ---- the array of setups, by the bytes that wait
 
@@ -348,7 +348,7 @@ module _ (a : Areas) (long : Long a) (calm : Calm withInput 0) (m : Memory) (fit
 
   -- ---- and answered
 
-  module _ (bs : List ℕ) (answers : Replies m bs) (i u s n : ℕ) (few : u < MOST) (first second : ℕ) (ws : List ℕ) (size : length ws ≡ 8 * i) where
+  module _ (flags : Flags m) (i u s n : ℕ) (few : u < MOST) (first second : ℕ) (ws : List ℕ) (size : length ws ≡ 8 * i) where
     abbrev asks-now : Stand
     asks-now = standing Enumerate true i u s false
 
@@ -378,17 +378,13 @@ module _ (a : Areas) (long : Long a) (calm : Calm withInput 0) (m : Memory) (fit
       bus-is = ap (λ (z : Memory). bus z (x .state .port .line)) memory-is
 
       free : stalled x ≡ false
-      free = ap (λ (z : Memory). any (wordAt (z .page) EPCR0) 0x10001) memory-is ∙ answers .free
+      free = ap (λ (z : Memory). any (wordAt (z .page) EPCR0) 0x10001) memory-is ∙ flags .free
 
       stage-is : x .state .control .stage ≡ Data
       stage-is = ap (λ (c : Control). c .stage) control-is ∙ p .request .stage
 
       done-is : runDtds (endpoint 0 true) [] (busOf x) .done ≡ true
-      done-is = ap (λ (b : Bus). runDtds (endpoint 0 true) [] b .done) bus-is ∙ answers .done (x .state .port .line)
-
-      status-is : runDtds (endpoint 0 false) [] (stored (runDtds (endpoint 0 true) [] (busOf x) .stores) (busOf x)) .done ≡ true
-      status-is =
-          ap (λ (b : Bus). runDtds (endpoint 0 false) [] (stored (runDtds (endpoint 0 true) [] b .stores) b) .done) bus-is ∙ answers .status (x .state .port .line)
+      done-is = ap (λ (b : Bus). runDtds (endpoint 0 true) [] b .done) bus-is ∙ flags .done (x .state .port .line)
 
       first-is : x .state .control .first ≡ first
       first-is = ap (λ (c : Control). c .first) control-is ∙ p .request .first-word
@@ -398,11 +394,6 @@ module _ (a : Areas) (long : Long a) (calm : Calm withInput 0) (m : Memory) (fit
 
       got-is : x .state .control .got ≡ 0
       got-is = ap (λ (c : Control). c .got) control-is ∙ p .request .none-yet
-
-      bytes-is : take (wLength (x .state .control) - 0) (runDtds (endpoint 0 true) [] (busOf x) .bytes) ≡ take (second / 2 ^ 16 - 0) bs
-      bytes-is =
-          ap₂ (λ (z : ℕ) (l : List ℕ). take (z / 2 ^ 16 - 0) l) second-is
-          (ap (λ (b : Bus). runDtds (endpoint 0 true) [] b .bytes) bus-is ∙ answers .bytes (x .state .port .line))
 
       -- what is held at the end of the microframe, by what the request's end makes of it
       held-by : (z : World) → Ending false x z → (f : Held → Held) → heldOf (left (finishes false) z) ≡ f (onHeld false (heldOf z))
@@ -417,7 +408,16 @@ module _ (a : Areas) (long : Long a) (calm : Calm withInput 0) (m : Memory) (fit
 
       -- ---- with data from the device
 
-      module _ (some : eqb (second / 2 ^ 16) 0 ≡ false) (input : any first 0x80 ≡ true) (whole : take (second / 2 ^ 16 - 0) bs ≡ bs) where
+      module _ (bs : List ℕ) (replies : Replies m bs) (some : eqb (second / 2 ^ 16) 0 ≡ false) (input : any first 0x80 ≡ true) (whole : take (second / 2 ^ 16 - 0) bs ≡ bs) where
+        status-is : runDtds (endpoint 0 false) [] (stored (runDtds (endpoint 0 true) [] (busOf x) .stores) (busOf x)) .done ≡ true
+        status-is =
+            ap (λ (b : Bus). runDtds (endpoint 0 false) [] (stored (runDtds (endpoint 0 true) [] b .stores) b) .done) bus-is ∙ replies .status (x .state .port .line)
+
+        bytes-is : take (wLength (x .state .control) - 0) (runDtds (endpoint 0 true) [] (busOf x) .bytes) ≡ take (second / 2 ^ 16 - 0) bs
+        bytes-is =
+            ap₂ (λ (z : ℕ) (l : List ℕ). take (z / 2 ^ 16 - 0) l) second-is
+            (ap (λ (b : Bus). runDtds (endpoint 0 true) [] b .bytes) bus-is ∙ replies .bytes (x .state .port .line))
+
         some-is : eqb (wLength (x .state .control)) 0 ≡ false
         some-is = ap (λ (z : ℕ). eqb (z / 2 ^ 16) 0) second-is ∙ some
 
@@ -488,9 +488,9 @@ module _ (a : Areas) (long : Long a) (calm : Calm withInput 0) (m : Memory) (fit
     pub answers-plain : eqb (second / 2 ^ 16) 0 ≡ true → asks 2 first ≡ false → Does (call ∷ []) (Running a asks-now ws n first second) (Waiting a (standing Enumerate false i (u + 1) s false) ws n)
     answers-plain none other = ends-by i ws (λ h. h .setups) (λ h p. plain-held h p none other) (λ h p. p .waiting .on .queue) (λ h p. p .waiting .waits)
 
-    module _ (some : eqb (second / 2 ^ 16) 0 ≡ false) (input : any first 0x80 ≡ true) (whole : take (second / 2 ^ 16 - 0) bs ≡ bs) where
+    module _ (bs : List ℕ) (replies : Replies m bs) (some : eqb (second / 2 ^ 16) 0 ≡ false) (input : any first 0x80 ≡ true) (whole : take (second / 2 ^ 16 - 0) bs ≡ bs) where
       pub answers-device : asks 2 first ≡ false → Does (call ∷ []) (Running a asks-now ws n first second) (Waiting a (standing Enumerate false i (u + 1) s false) ws n)
-      answers-device other = ends-by i ws (λ h. h .setups) (λ h p. device-held h p some input whole other) (λ h p. p .waiting .on .queue) (λ h p. p .waiting .waits)
+      answers-device other = ends-by i ws (λ h. h .setups) (λ h p. device-held h p bs replies some input whole other) (λ h p. p .waiting .on .queue) (λ h p. p .waiting .waits)
 
       -- where none waits: the whole configuration is asked for
       pub answers-header : asks 2 first ≡ true → length bs ≡ 9 → i ≡ 0 → (b₂ b₃ : ℕ) → getD bs 2 0 ≡ b₂ → getD bs 3 0 ≡ b₃ → allBelow (0x80 ∷ 6 ∷ 0 ∷ 2 ∷ 0 ∷ 0 ∷ b₂ ∷ b₃ ∷ []) ≡ true
@@ -499,7 +499,7 @@ module _ (a : Areas) (long : Long a) (calm : Calm withInput 0) (m : Memory) (fit
           let vs : List ℕ = 0x80 ∷ 6 ∷ 0 ∷ 2 ∷ 0 ∷ 0 ∷ b₂ ∷ b₃ ∷ [] in
           ends-by 1 vs (λ h. sets (h .setups) 0 vs)
           (λ h p.
-          header-held h p some input whole other nine
+          header-held h p bs replies some input whole other nine
           ∙ ap₂ (λ (y₂ y₃ : ℕ). pushedHeld (0x80 ∷ 6 ∷ 0 ∷ 2 ∷ 0 ∷ 0 ∷ y₂ ∷ y₃ ∷ []) (record { stand = standing Enumerate false i (u + 1) s false; queue = h .setups })) e₂ e₃
           ∙ ap (λ (j : ℕ). pushedHeld vs (record { stand = standing Enumerate false j (u + 1) s false; queue = h .setups })) zero-wait)
           (λ h p. queue-sets (h .setups) 0 vs below (p .waiting .on .queue))
@@ -510,6 +510,6 @@ module _ (a : Areas) (long : Long a) (calm : Calm withInput 0) (m : Memory) (fit
           → Does (call ∷ []) (Running a asks-now ws n first second) (Waiting a (standing Enumerate false (i + 3) (u + 1) s false) (ws ++ fixedSetups) n)
       answers-whole other more room =
           ends-by (i + 3) (ws ++ fixedSetups) (λ h. sets (h .setups) (8 * i) fixedSetups)
-          (λ h p. whole-held h p some input whole other more)
+          (λ h p. whole-held h p bs replies some input whole other more)
           (λ h p. queue-sets (h .setups) (8 * i) fixedSetups refl (p .waiting .on .queue))
           (λ h p. take-behind (h .setups) ws fixedSetups (8 * i) (p .waiting .waits) (sym size) (omega (arith, size, room, p .waiting .on .queue .long)))

@@ -159,11 +159,15 @@ module _ (f : List ℕ) where
 
 -- ---- answers on endpoint 0
 
--- endpoint 0 is not stalled: the input run brings these bytes, and it and the output run after it flag their completion
-pub record Replies (m : Memory) (bs : List ℕ) : Type 0 where
+-- endpoint 0 is not stalled, and the input run flags its completion
+pub record Flags (m : Memory) : Type 0 where
   pub free : any (wordAt (framedMemory m .page) EPCR0) 0x10001 ≡ false
-  pub bytes : (l : Bool) → runDtds (endpoint 0 true) [] (bus (framedMemory m) l) .bytes ≡ bs
   pub done : (l : Bool) → runDtds (endpoint 0 true) [] (bus (framedMemory m) l) .done ≡ true
+
+-- it brings these bytes, and the output run after it flags its completion too
+pub record Replies (m : Memory) (bs : List ℕ) : Type 0 where
+  pub flags : Flags m
+  pub bytes : (l : Bool) → runDtds (endpoint 0 true) [] (bus (framedMemory m) l) .bytes ≡ bs
   pub status : (l : Bool) → runDtds (endpoint 0 false) [] (stored (runDtds (endpoint 0 true) [] (bus (framedMemory m) l) .stores) (bus (framedMemory m) l)) .done ≡ true
 
 -- what the input run stores (585-619): token, frame number, current pointer, next pointer, token copy, completion, un-primed, UI
@@ -181,13 +185,9 @@ status-of : (m : Memory) → Stored m → (l : Bool) → runDtds (endpoint 0 fal
 status-of m k l = ap (λ (ss : List Store). runDtds (endpoint 0 false) [] (stored ss (bus (framedMemory m) l)) .done) (k .stores l) ∙ k .status l
 
 module _ (f : List ℕ) where
-  stored-no-data : Stored (words f noData (primedPage 0x10001))
+  pub no-data : Flags (words f noData (primedPage 0x10001))
   unfolding puts framedPage primed nextActive nextOf queueHead wordAt wordPut word at place read peek8 peek32 after nextFrindex totalOf runDtds turns settled joined turning dataOut moves bytesOf retiring closing advancing completing framed followed following settling unpriming reporting listEnds andThen putting when store setting R.following R.store R.onBus lineOf poke8 poke32 write tokenAfter pointers bytesIn tabulate dataAddr
-  stored-no-data = record { stores = λ l. refl; status = λ l. refl }
-
-  pub no-data : Replies (words f noData (primedPage 0x10001)) []
-  unfolding puts framedPage primed nextActive nextOf queueHead wordAt wordPut word at place read peek8 peek32 after nextFrindex totalOf runDtds turns settled joined turning dataOut moves bytesOf retiring closing advancing completing framed followed following settling unpriming reporting listEnds andThen putting when store setting R.following R.store R.onBus lineOf poke8 poke32 write tokenAfter pointers bytesIn tabulate dataAddr
-  no-data = record { free = refl; bytes = λ l. refl; done = λ l. refl; status = status-of (words f noData (primedPage 0x10001)) stored-no-data }
+  no-data = record { free = refl; done = λ l. refl }
 
   stored-device : Stored (words f deviceAnswer (primedPage 0x10001))
   unfolding puts framedPage primed nextActive nextOf queueHead wordAt wordPut word at place read peek8 peek32 after nextFrindex totalOf runDtds turns settled joined turning dataOut moves bytesOf retiring closing advancing completing framed followed following settling unpriming reporting listEnds andThen putting when store setting R.following R.store R.onBus lineOf poke8 poke32 write tokenAfter pointers bytesIn tabulate dataAddr
@@ -195,7 +195,7 @@ module _ (f : List ℕ) where
 
   pub device : Replies (words f deviceAnswer (primedPage 0x10001)) (0x12 ∷ 1 ∷ 0 ∷ 2 ∷ replicate 14 0)
   unfolding puts framedPage primed nextActive nextOf queueHead wordAt wordPut word at place read peek8 peek32 after nextFrindex totalOf runDtds turns settled joined turning dataOut moves bytesOf retiring closing advancing completing framed followed following settling unpriming reporting listEnds andThen putting when store setting R.following R.store R.onBus lineOf poke8 poke32 write tokenAfter pointers bytesIn tabulate dataAddr
-  device = record { free = refl; bytes = λ l. refl; done = λ l. refl; status = status-of (words f deviceAnswer (primedPage 0x10001)) stored-device }
+  device = record { flags = record { free = refl; done = λ l. refl }; bytes = λ l. refl; status = status-of (words f deviceAnswer (primedPage 0x10001)) stored-device }
 
   stored-header : Stored (words f headerAnswer (primedPage 0x10001))
   unfolding puts framedPage primed nextActive nextOf queueHead wordAt wordPut word at place read peek8 peek32 after nextFrindex totalOf runDtds turns settled joined turning dataOut moves bytesOf retiring closing advancing completing framed followed following settling unpriming reporting listEnds andThen putting when store setting R.following R.store R.onBus lineOf poke8 poke32 write tokenAfter pointers bytesIn tabulate dataAddr
@@ -203,7 +203,7 @@ module _ (f : List ℕ) where
 
   pub header : Replies (words f headerAnswer (primedPage 0x10001)) (9 ∷ 2 ∷ 32 ∷ replicate 6 0)
   unfolding puts framedPage primed nextActive nextOf queueHead wordAt wordPut word at place read peek8 peek32 after nextFrindex totalOf runDtds turns settled joined turning dataOut moves bytesOf retiring closing advancing completing framed followed following settling unpriming reporting listEnds andThen putting when store setting R.following R.store R.onBus lineOf poke8 poke32 write tokenAfter pointers bytesIn tabulate dataAddr
-  header = record { free = refl; bytes = λ l. refl; done = λ l. refl; status = status-of (words f headerAnswer (primedPage 0x10001)) stored-header }
+  header = record { flags = record { free = refl; done = λ l. refl }; bytes = λ l. refl; status = status-of (words f headerAnswer (primedPage 0x10001)) stored-header }
 
   stored-whole : Stored (words f wholeAnswer (primedPage 0x10001))
   unfolding puts framedPage primed nextActive nextOf queueHead wordAt wordPut word at place read peek8 peek32 after nextFrindex totalOf runDtds turns settled joined turning dataOut moves bytesOf retiring closing advancing completing framed followed following settling unpriming reporting listEnds andThen putting when store setting R.following R.store R.onBus lineOf poke8 poke32 write tokenAfter pointers bytesIn tabulate dataAddr
@@ -211,4 +211,4 @@ module _ (f : List ℕ) where
 
   pub whole : Replies (words f wholeAnswer (primedPage 0x10001)) (9 ∷ 2 ∷ 32 ∷ replicate 29 0)
   unfolding puts framedPage primed nextActive nextOf queueHead wordAt wordPut word at place read peek8 peek32 after nextFrindex totalOf runDtds turns settled joined turning dataOut moves bytesOf retiring closing advancing completing framed followed following settling unpriming reporting listEnds andThen putting when store setting R.following R.store R.onBus lineOf poke8 poke32 write tokenAfter pointers bytesIn tabulate dataAddr
-  whole = record { free = refl; bytes = λ l. refl; done = λ l. refl; status = status-of (words f wholeAnswer (primedPage 0x10001)) stored-whole }
+  whole = record { flags = record { free = refl; done = λ l. refl }; bytes = λ l. refl; status = status-of (words f wholeAnswer (primedPage 0x10001)) stored-whole }

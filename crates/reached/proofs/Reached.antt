@@ -369,13 +369,13 @@ module _ (a : Areas) (f : List ℕ) (l : Lendable a f) where
         → Does (asked a f noData) Before (Waiting a (standing Enumerate false i (u + 1 + 1) 483 false) (drop 8 ws) 0)
     asked-plain rest none other =
         does-then posts
-        (answers-plain a long calm-input (words f noData (primedPage 0x10001)) (fit noData (primedPage 0x10001) refl refl) (pages .rs-asked) _ (no-data f) i (u + 1) 483 0 later (little ws 0) (little ws 4) (drop 8 ws) rest none other)
+        (answers-plain a long calm-input (words f noData (primedPage 0x10001)) (fit noData (primedPage 0x10001) refl refl) (pages .rs-asked) (no-data f) i (u + 1) 483 0 later (little ws 0) (little ws 4) (drop 8 ws) rest none other)
 
     asked-device : length (drop 8 ws) ≡ 8 * i → eqb (little ws 4 / 2 ^ 16) 0 ≡ false → any (little ws 0) 0x80 ≡ true → take (little ws 4 / 2 ^ 16 - 0) deviceBytes ≡ deviceBytes → asks 2 (little ws 0) ≡ false
         → Does (asked a f deviceAnswer) Before (Waiting a (standing Enumerate false i (u + 1 + 1) 483 false) (drop 8 ws) 0)
     asked-device rest some input whole other =
         does-then posts
-        (answers-device a long calm-input (words f deviceAnswer (primedPage 0x10001)) (fit deviceAnswer (primedPage 0x10001) refl refl) (pages .rs-asked) _ (device f) i (u + 1) 483 0 later (little ws 0) (little ws 4) (drop 8 ws) rest some input whole other)
+        (answers-device a long calm-input (words f deviceAnswer (primedPage 0x10001)) (fit deviceAnswer (primedPage 0x10001) refl refl) (pages .rs-asked) (device f .flags) i (u + 1) 483 0 later (little ws 0) (little ws 4) (drop 8 ws) rest deviceBytes (device f) some input whole other)
 
   -- the configuration request of 32 bytes
   abbrev wholeSetup : List ℕ
@@ -384,14 +384,14 @@ module _ (a : Areas) (f : List ℕ) (l : Lendable a f) where
   asked-header : Does (asked a f headerAnswer) (Waiting a (standing Enumerate false 1 489 483 false) (drop 24 firstSetups) 0) (Waiting a (standing Enumerate false 1 491 483 false) wholeSetup 0)
   asked-header =
       does-then (posts 0 489 (drop 24 firstSetups) refl (omega arith) (omega arith))
-      (answers-header a long calm-input (words f headerAnswer (primedPage 0x10001)) (fit headerAnswer (primedPage 0x10001) refl refl) (pages .rs-asked) _ (header f) 0 490 483 0 (omega arith)
-      (little (drop 24 firstSetups) 0) (little (drop 24 firstSetups) 4) [] refl refl refl refl refl refl refl 32 0 refl refl refl)
+      (answers-header a long calm-input (words f headerAnswer (primedPage 0x10001)) (fit headerAnswer (primedPage 0x10001) refl refl) (pages .rs-asked) (header f .flags) 0 490 483 0 (omega arith)
+      (little (drop 24 firstSetups) 0) (little (drop 24 firstSetups) 4) [] refl _ (header f) refl refl refl refl refl refl 32 0 refl refl refl)
 
   asked-whole : Does (asked a f wholeAnswer) (Waiting a (standing Enumerate false 1 491 483 false) wholeSetup 0) (Waiting a (standing Enumerate false 3 493 483 false) fixedSetups 0)
   asked-whole =
       does-then (posts 0 491 wholeSetup refl (omega arith) (omega arith))
-      (answers-whole a long calm-input (words f wholeAnswer (primedPage 0x10001)) (fit wholeAnswer (primedPage 0x10001) refl refl) (pages .rs-asked) _ (whole f) 0 492 483 0 (omega arith)
-      (little wholeSetup 0) (little wholeSetup 4) [] refl refl refl refl refl refl (omega arith))
+      (answers-whole a long calm-input (words f wholeAnswer (primedPage 0x10001)) (fit wholeAnswer (primedPage 0x10001) refl refl) (pages .rs-asked) (whole f .flags) 0 492 483 0 (omega arith)
+      (little wholeSetup 0) (little wholeSetup 4) [] refl _ (whole f) refl refl refl refl refl (omega arith))
 
   does-answers : Does (answersSetups a f) (Waiting a start [] 0) (Waiting a (standing Enumerate false 0 499 483 false) [] 0)
   unfolding answersSetups
