@@ -28,8 +28,8 @@ use Rattle.history.specs.Calls.{Call, microframe, midiSend, serialSend, frameGi
 use Rattle.history.specs.Sums.{Sums, Tally, none, summed, sums, tallied, tally}
 use Rattle.history.proofs.History.{history}
 use Rattle.history.proofs.Table.{table-counters}
-use Rattle.reached.specs.Lists.{Areas, lend, smallAreas, zeroStatic, words, stalledPage, stoppedPage, primedPage, blockAt400, blockAt600, roomAt420, roomAt620, plain, withStack, withSpan, withSleep, withInput, noData, deviceAnswer, headerAnswer, wholeAnswer, frame, rests, asked, brings, takes, toStream, inAndOut, inAndOutAtOnce, badBlock, rewritten, oneBlock, goneAndBack, goneAndAgain, thenSuspended, thenResumed, thenAsleep, answersSetups, thenStreams, thenInAndOut, runBitCleared, gives, hearing, heard, answering, answered, passing, streamed, givenAndTaken}
-use Rattle.reached.specs.Claims.{Lendable, frames, Accepted, Ends, Hears, Passes, Rests, Settled, Reached}
+use Rattle.reached.specs.Lists.{Areas, lend, smallAreas, zeroStatic, words, stalledPage, stoppedPage, primedPage, blockAt400, blockAt600, roomAt420, roomAt620, plain, withStack, withSpan, withSleep, withInput, noData, deviceAnswer, headerAnswer, wholeAnswer, frame, rests, asked, brings, takes, toStream, inAndOut, inAndOutAtOnce, badBlock, rewritten, oneBlock, goneAndBack, goneAndAgain, thenSuspended, thenResumed, thenAsleep, toEnumerate, answersHeader, answersWhole, answersSetups, thenStreams, thenInAndOut, runBitCleared, gives, hearing, heard, answering, answered, passing, streamed, givenAndTaken}
+use Rattle.reached.specs.Claims.{Lendable, frames, Accepted, Ends, Hears, Passes, Rests, Waits, Settled, Reached}
 use Rattle.reached.proofs.Standing.{Stand}
 use Rattle.reached.proofs.Page.{framedMemory}
 use Rattle.reached.proofs.Opening.{openedMemory}
@@ -393,23 +393,34 @@ module _ (a : Areas) (f : List ℕ) (l : Lendable a f) where
       (answers-whole a long calm-input (words f wholeAnswer (primedPage 0x10001)) (fit wholeAnswer (primedPage 0x10001) refl refl) (pages .rs-asked) (whole f .flags) 0 492 483 0 (omega arith)
       (little wholeSetup 0) (little wholeSetup 4) [] refl _ (whole f) refl refl refl refl refl (omega arith))
 
+  does-first : Does (toEnumerate a f) (Waiting a start [] 0) (Waiting a (standing Enumerate false 4 483 483 false) firstSetups 0)
+  unfolding toEnumerate
+  does-first =
+      does-then {cs = replicate 482 (rests a f)} {ds = rests a f ∷ []} (does-powered a long calm-input restMemory rest-fit (pages .rs-rests) 0)
+      (does-resets a long calm-input restMemory rest-fit (pages .rs-rests) (pages .uri-rests) 0)
+
+  does-header : Does (answersHeader a f) (Waiting a start [] 0) (Waiting a (standing Enumerate false 1 491 483 false) wholeSetup 0)
+  unfolding answersHeader
+  does-header =
+      does-then
+      (does-then
+      (does-then
+      (does-then does-first
+      (asked-device 3 483 firstSetups refl (omega arith) (omega arith) refl refl refl refl refl))
+      (asked-plain 2 485 (drop 8 firstSetups) refl (omega arith) (omega arith) refl refl refl))
+      (asked-device 1 487 (drop 16 firstSetups) refl (omega arith) (omega arith) refl refl refl refl refl))
+      asked-header
+
+  does-whole : Does (answersWhole a f) (Waiting a start [] 0) (Waiting a (standing Enumerate false 3 493 483 false) fixedSetups 0)
+  unfolding answersWhole
+  does-whole = does-then does-header asked-whole
+
   does-answers : Does (answersSetups a f) (Waiting a start [] 0) (Waiting a (standing Enumerate false 0 499 483 false) [] 0)
   unfolding answersSetups
   does-answers =
       does-then
       (does-then
-      (does-then
-      (does-then
-      (does-then
-      (does-then
-      (does-then
-      (does-then
-      (does-then {cs = replicate 482 (rests a f)} {ds = rests a f ∷ []} (does-powered a long calm-input restMemory rest-fit (pages .rs-rests) 0) (does-resets a long calm-input restMemory rest-fit (pages .rs-rests) (pages .uri-rests) 0))
-      (asked-device 3 483 firstSetups refl (omega arith) (omega arith) refl refl refl refl refl))
-      (asked-plain 2 485 (drop 8 firstSetups) refl (omega arith) (omega arith) refl refl refl))
-      (asked-device 1 487 (drop 16 firstSetups) refl (omega arith) (omega arith) refl refl refl refl refl))
-      asked-header)
-      asked-whole)
+      (does-then does-whole
       (asked-plain 2 493 fixedSetups refl (omega arith) (omega arith) refl refl refl))
       (asked-plain 1 495 (drop 8 fixedSetups) refl (omega arith) (omega arith) refl refl refl))
       (asked-plain 0 497 (drop 16 fixedSetups) refl (omega arith) (omega arith) refl refl refl)
@@ -417,6 +428,15 @@ module _ (a : Areas) (f : List ℕ) (l : Lendable a f) where
   waiting-new : Waiting a start [] 0 (newHost withInput)
   unfolding newHost
   waiting-new = record { on = on-new withInput; waits = refl; ended = refl }
+
+  waits-after : (cs : List Call) (i u : ℕ) (ws : List ℕ) → Does cs (Waiting a start [] 0) (Waiting a (standing Enumerate false i u 483 false) ws 0) → 8 * i ≡ length ws → Waits withInput cs ws
+  waits-after cs i u ws p size =
+      let w = p .host (newHost withInput) waiting-new in
+      record {
+        free = ap (λ (x : Stand). x .on) (w .on .stands);
+        number = ap (λ (x : Stand). 8 * x .waiting) (w .on .stands) ∙ size;
+        setups = w .waits;
+      }
 
   abbrev asker : Host
   asker = after (newHost withInput) (answersSetups a f)
@@ -596,6 +616,9 @@ module _ (a : Areas) (f : List ℕ) (l : Lendable a f) where
         gone = ends withSpan (goneAndBack a f) _ none (frames 7 0) 0 refl leads-gone-back;
         again = ends withSpan (goneAndAgain a f) _ (frames 7 0) (frames 14 0) 7 refl leads-again;
         passes = passes;
+        asks-first = waits-after (toEnumerate a f) 4 483 firstSetups does-first refl;
+        asks-whole = waits-after (answersHeader a f) 1 491 wholeSetup does-header refl;
+        asks-last = waits-after (answersWhole a f) 3 493 fixedSetups does-whole refl;
         answered = answers-end;
         answered-streams = begun-end;
         answered-in-and-out = in-and-out-end;

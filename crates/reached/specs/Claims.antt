@@ -1,9 +1,9 @@
 -- What the lists of calls come to: sums, credit, phase, and that no call was refused (document 01, "Host record"; demand 3 is not empty).
-use Prim.Native.Nat.{ℕ, _<_}
+use Prim.Native.Nat.{ℕ, _*_, _<_}
 use mathlib.Core.Bool.{Bool, true, false}
 use mathlib.Core.List.{List, [], _∷_, _++_, flatMap}
 use mathlib.Core.Path.{_≡_}
-use lib.ListN.{length, getD, drop, replicate}
+use lib.ListN.{length, getD, take, drop, replicate}
 use Rattle.record.specs.declared.Phase.{Phase}
 use Rattle.record.specs.declared.Phase.the-variants.{Vbus, Enumerate, Stream}
 use Rattle.record.specs.declared.Settings.{Settings}
@@ -18,7 +18,7 @@ use Rattle.history.specs.Calls.{Call, step, after}
 use Rattle.history.specs.Accepts.{numberOf, AtEach}
 use Rattle.history.specs.Sums as S
 use Rattle.history.specs.Sums.{Sums, none, inputReached, tally}
-use Rattle.reached.specs.Lists.{Areas, lend, words, blockAt400, primedPage, plain, withStack, withSpan, withSleep, withInput, toStream, inAndOut, inAndOutAtOnce, badBlock, rewritten, oneBlock, goneAndBack, goneAndAgain, thenSuspended, thenResumed, thenAsleep, answersSetups, thenStreams, thenInAndOut, runBitCleared, gives, heard, answering, answered, ringLeft, streamed, givenAndTaken}
+use Rattle.reached.specs.Lists.{Areas, lend, words, blockAt400, primedPage, plain, withStack, withSpan, withSleep, withInput, toStream, inAndOut, inAndOutAtOnce, badBlock, rewritten, oneBlock, goneAndBack, goneAndAgain, thenSuspended, thenResumed, thenAsleep, toEnumerate, answersHeader, answersWhole, answersSetups, thenStreams, thenInAndOut, runBitCleared, gives, heard, answering, answered, ringLeft, streamed, givenAndTaken}
 
 -- areas and static memory that every microframe accepts, and bytes in those where bytes are
 pub record Lendable (a : Areas) (f : List ℕ) : Type 0 where
@@ -73,6 +73,12 @@ pub record Rests (c : Settings) (cs : List Call) (mark : Bool) (unread : ℕ) : 
   pub suspended : after (newHost c) cs .port .suspended ≡ mark
   pub asleep : after (newHost c) cs .stats .«midi_asleep» ≡ unread
 
+-- no request runs then, and the setups that wait are these bytes
+pub record Waits (c : Settings) (cs : List Call) (ws : List ℕ) : Type 0 where
+  pub free : after (newHost c) cs .control .on ≡ false
+  pub number : 8 * after (newHost c) cs .lengths .setups ≡ length ws
+  pub setups : take (length ws) (after (newHost c) cs .setups) ≡ ws
+
 -- no request runs and no setup waits then, and enumeration has ended so often (626-629)
 pub record Settled (c : Settings) (cs : List Call) (n : ℕ) : Type 0 where
   pub ended : after (newHost c) cs .stats .enumerations ≡ n
@@ -98,6 +104,13 @@ pub record Reached (a : Areas) (f : List ℕ) : Type 0 where
   -- a frame given is sent, and one is taken, whatever its twelve words
   pub passes : (x : List ℕ) → length x ≡ 12 → Passes a f x
   -- all eight setups are answered, none is stalled and none times out; enumeration ends once, and then a block in and one out
+  -- the first four setups (USB 2.0, 9.4.3, 9.4.6); the configuration's total length, 32, is asked for once its header has come; and then it
+  -- is set, with alternate 3 of interfaces 1 and 2 (9.4.7, 9.4.10)
+  pub asks-first : Waits withInput (toEnumerate a f)
+      (0x80 ∷ 6 ∷ 0 ∷ 1 ∷ 0 ∷ 0 ∷ 64 ∷ 0 ∷ 0 ∷ 5 ∷ 7 ∷ 0 ∷ 0 ∷ 0 ∷ 0 ∷ 0 ∷ 0x80 ∷ 6 ∷ 0 ∷ 1 ∷ 0 ∷ 0 ∷ 18 ∷ 0 ∷ 0x80 ∷ 6 ∷ 0 ∷ 2 ∷ 0 ∷ 0 ∷ 9 ∷ 0 ∷ [])
+  pub asks-whole : Waits withInput (answersHeader a f) (0x80 ∷ 6 ∷ 0 ∷ 2 ∷ 0 ∷ 0 ∷ 32 ∷ 0 ∷ [])
+  pub asks-last : Waits withInput (answersWhole a f)
+      (0 ∷ 9 ∷ 1 ∷ 0 ∷ 0 ∷ 0 ∷ 0 ∷ 0 ∷ 1 ∷ 11 ∷ 3 ∷ 0 ∷ 1 ∷ 0 ∷ 0 ∷ 0 ∷ 1 ∷ 11 ∷ 3 ∷ 0 ∷ 2 ∷ 0 ∷ 0 ∷ 0 ∷ [])
   pub answered : Ends withInput (answersSetups a f) none none 0 Enumerate × Settled withInput (answersSetups a f) 0
   pub answered-streams : Ends withInput (thenStreams a f) none none 0 Stream × Settled withInput (thenStreams a f) 1
   pub answered-in-and-out : Ends withInput (thenInAndOut a f) (frames 7 7) (frames 7 7) 0 Stream × Settled withInput (thenInAndOut a f) 1

@@ -240,12 +240,20 @@ module _ (a : Areas) (f : List ℕ) where
   abbrev pub asked : List (ℕ × ℕ) → List Call
   asked ds = rests ∷ frame 0 ds (primedPage 0x10001) ∷ []
 
-  -- device descriptor of 64 bytes, address, device descriptor, configuration header (477-482); the whole configuration (713); set
-  -- configuration, and alternate 3 of two interfaces (729-735)
+  unfoldable pub toEnumerate : List Call
+  toEnumerate = replicate 483 rests
+
+  -- device descriptor of 64 bytes, address, device descriptor, configuration header (477-482)
+  unfoldable pub answersHeader : List Call
+  answersHeader = toEnumerate ++ asked deviceAnswer ++ asked noData ++ asked deviceAnswer ++ asked headerAnswer
+
+  -- the whole configuration (713)
+  unfoldable pub answersWhole : List Call
+  answersWhole = answersHeader ++ asked wholeAnswer
+
+  -- set configuration, and alternate 3 of two interfaces (729-735)
   unfoldable pub answersSetups : List Call
-  answersSetups =
-      replicate 483 rests ++ asked deviceAnswer ++ asked noData ++ asked deviceAnswer ++ asked headerAnswer ++ asked wholeAnswer ++ asked noData
-      ++ asked noData ++ asked noData
+  answersSetups = answersWhole ++ asked noData ++ asked noData ++ asked noData
 
   -- the stream begins
   unfoldable pub thenStreams : List Call
