@@ -17,7 +17,7 @@ use Rattle.bus.specs.Words.{wordAt, wordPut}
 use Rattle.bus.specs.Steps.{replay, exec, andThen, replay-append, exec-then, exec-choose}
 use Rattle.bus.specs.Stores as S
 use Rattle.bus.proofs.Registers.{length-put, word-apart}
-use Rattle.usbdev.specs.Offsets.{USBCMD, USBSTS, EPCR0}
+use Rattle.usbdev.specs.Offsets.{USBSTS, EPCR0}
 use Rattle.usbdev.specs.Registers as R
 use Rattle.usbdev.specs.Registers.{Registers, registers, PageStore, put, irq, store, PageStep, lifted, setting, following, raising}
 use Rattle.usbdev.proofs.Laws.{Inside, on-bus}
@@ -29,7 +29,7 @@ use Rattle.record.specs.World.{World, busOf}
 use Rattle.record.specs.Change.{Change, apply, Step, left, _then_, nothing, if, one, here, onPage}
 use Rattle.record.proofs.Laws.{replay-bus}
 use Rattle.model.specs.Phases.{changing, counts, ticks, dropsRequest, forgets, returns, cable, suspends, enters, departs, leaves, startsFrame}
-use Rattle.model.specs.Microframe.{rsSet, opens}
+use Rattle.model.specs.Microframe.{opens}
 use Rattle.model.specs.Reach.{toPhase, phaseBy}
 
 -- a page of 4,096 bytes, with the URI and the EPCR0 of another
@@ -44,15 +44,7 @@ alike-self p h = record { long = h; uri = refl; stall = refl }
 pub alike-then : {p q r : List ℕ} → Alike p q → Alike q r → Alike p r
 alike-then x y = record { long = y .long; uri = y .uri ∙ x .uri; stall = y .stall ∙ x .stall }
 
--- ---- two tests of registers, by the byte that has the bit (a page is big-endian)
-
--- USBCMD is at 0x140: RS is bit 0 of byte 0x143
-pub rs-byte : (w : World) → rsSet w ≡ eqb (getD (w .memory .page) 0x143 0 % 2) 1
-unfolding bit wordAt word
-rs-byte w =
-    let p = w .memory .page in
-    let same : bit 0 (wordAt p USBCMD) ≡ getD p 0x143 0 % 2 = omega arith in
-    any-bit 0 (wordAt p USBCMD) ∙ ap (λ (x : ℕ). eqb x 1) same
+-- ---- URI by the byte that has it (a page is big-endian)
 
 -- USBSTS is at 0x144: URI is bit 6 of byte 0x147
 pub uri-byte : (p : List ℕ) → any (wordAt p USBSTS) 0x40 ≡ eqb (getD p 0x147 0 / 64 % 2) 1
