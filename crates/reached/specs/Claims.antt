@@ -1,5 +1,5 @@
 -- What the lists of calls come to: sums, credit, phase, and that no call was refused (document 01, "Host record"; demand 3 is not empty).
-use Prim.Native.Nat.{ℕ, _*_, _<_}
+use Prim.Native.Nat.{ℕ, _*_, _/_, _%_, _^_, _<_}
 use mathlib.Core.Bool.{Bool, true, false}
 use mathlib.Core.List.{List, [], _∷_, _++_, flatMap}
 use mathlib.Core.Path.{_≡_}
@@ -7,7 +7,7 @@ use lib.ListN.{length, getD, take, drop, replicate}
 use Rattle.record.specs.declared.Phase.{Phase}
 use Rattle.record.specs.declared.Phase.the-variants.{Vbus, Enumerate, Stream}
 use Rattle.record.specs.declared.Settings.{Settings}
-use Rattle.model.specs.Audio.{blocksOf, bytesOf, blockOf}
+use Rattle.model.specs.Audio.{blocksOf, blockOf}
 use Rattle.model.specs.Reach.{atInput, atOutput, bytesAt}
 use Rattle.model.specs.Claims.{sendsAt}
 use Rattle.usbhost.specs.declared.Host.{Host}
@@ -55,6 +55,10 @@ pub record Hears (c : Settings) (cs : List Call) (l : Lent) (blocks : List (List
   pub heard : inputReached 0 (worldOf (after (newHost c) cs) l) ≡ true
   pub read : blocksOf (bytesAt (atInput (worldOf (after (newHost c) cs) l))) ≡ blocks
 
+-- a word's bytes, the high one first
+abbrev pub bigEndian : ℕ → List ℕ
+bigEndian v = v / 2 ^ 24 % 256 ∷ v / 2 ^ 16 % 256 ∷ v / 2 ^ 8 % 256 ∷ v % 256 ∷ []
+
 -- a frame given is in the next block that goes out, behind its header of 32 bytes, each word big-endian, with silence behind it; the first
 -- frame of the block that came in is the one that is taken
 pub record Passes (a : Areas) (f x : List ℕ) : Type 0 where
@@ -62,7 +66,7 @@ pub record Passes (a : Areas) (f x : List ℕ) : Type 0 where
   -- it waits, goes out and waits no longer
   pub waits : step (streamed a f x) (gives a f x) .audio .sending .len ≡ 1
   pub sends : sendsAt 0 (worldOf (heard a f x (streamed a f x)) (answering a f x (streamed a f x))) ≡ true
-  pub sent : drop 32 (blockOf (atOutput (worldOf (heard a f x (streamed a f x)) (answering a f x (streamed a f x))))) ≡ flatMap bytesOf x ++ replicate 288 0
+  pub sent : drop 32 (blockOf (atOutput (worldOf (heard a f x (streamed a f x)) (answering a f x (streamed a f x))))) ≡ flatMap bigEndian x ++ replicate 288 0
   pub gone : answered a f x (streamed a f x) .audio .sending .len ≡ 0
   -- the answer of the frame taken: neither refused nor empty
   pub taken : takenFrame (answered a f x (streamed a f x)) (ringLeft a f x (streamed a f x))
