@@ -12,7 +12,7 @@ use Rattle.gptimers.specs.Timer.{STEP, tickingBoth, tickedBoth}
 use Rattle.record.specs.declared.Settings.{Settings}
 use Rattle.record.specs.Record.{counted, wrapped}
 use Rattle.record.specs.World.{World}
-use Rattle.record.specs.Change.{apply, Step, left, _then_, nothing, if, when, one, here, onPage}
+use Rattle.record.specs.Change.{apply, Step, left, nothing, if, when, one, here, onPage}
 use Rattle.record.specs.Change as Ch
 use Rattle.model.specs.Phases.{registersOf, counts, ticks, cable, resuming, suspends, leaves}
 use Rattle.record.specs.declared.Phase.{Phase}
