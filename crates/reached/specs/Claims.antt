@@ -107,7 +107,6 @@ pub record Reached (a : Areas) (f : List ℕ) : Type 0 where
   pub again : Ends withSpan (goneAndAgain a f) (frames 7 0) (frames 14 0) 7 Stream
   -- a frame given is sent, and one is taken, whatever its twelve words
   pub passes : (x : List ℕ) → length x ≡ 12 → Passes a f x
-  -- all eight setups are answered, none is stalled and none times out; enumeration ends once, and then a block in and one out
   -- the first four setups (USB 2.0, 9.4.3, 9.4.6); the configuration's total length, 32, is asked for once its header has come; and then it
   -- is set, with alternate 3 of interfaces 1 and 2 (9.4.7, 9.4.10)
   pub asks-first : Waits withInput (toEnumerate a f)
@@ -115,6 +114,7 @@ pub record Reached (a : Areas) (f : List ℕ) : Type 0 where
   pub asks-whole : Waits withInput (answersHeader a f) (0x80 ∷ 6 ∷ 0 ∷ 2 ∷ 0 ∷ 0 ∷ 32 ∷ 0 ∷ [])
   pub asks-last : Waits withInput (answersWhole a f)
       (0 ∷ 9 ∷ 1 ∷ 0 ∷ 0 ∷ 0 ∷ 0 ∷ 0 ∷ 1 ∷ 11 ∷ 3 ∷ 0 ∷ 1 ∷ 0 ∷ 0 ∷ 0 ∷ 1 ∷ 11 ∷ 3 ∷ 0 ∷ 2 ∷ 0 ∷ 0 ∷ 0 ∷ [])
+  -- all eight setups are answered: no request runs and none waits, none is stalled and none times out; enumeration ends once, and then a block in and one out
   pub answered : Ends withInput (answersSetups a f) none none 0 Enumerate × Settled withInput (answersSetups a f) 0
   pub answered-streams : Ends withInput (thenStreams a f) none none 0 Stream × Settled withInput (thenStreams a f) 1
   pub answered-in-and-out : Ends withInput (thenInAndOut a f) (frames 7 7) (frames 7 7) 0 Stream × Settled withInput (thenInAndOut a f) 1
