@@ -56,8 +56,8 @@ pub record Hears (c : Settings) (cs : List Call) (l : Lent) (blocks : List (List
   pub read : blocksOf (bytesAt (atInput (worldOf (after (newHost c) cs) l))) ≡ blocks
 
 -- a word's bytes, the high one first
-abbrev pub bigEndian : ℕ → List ℕ
-bigEndian v = v / 2 ^ 24 % 256 ∷ v / 2 ^ 16 % 256 ∷ v / 2 ^ 8 % 256 ∷ v % 256 ∷ []
+abbrev pub wordBytes : ℕ → List ℕ
+wordBytes v = v / 2 ^ 24 % 256 ∷ v / 2 ^ 16 % 256 ∷ v / 2 ^ 8 % 256 ∷ v % 256 ∷ []
 
 -- a frame given is in the next block that goes out, behind its header of 32 bytes, each word big-endian, with silence behind it; the first
 -- frame of the block that came in is the one that is taken
@@ -66,7 +66,7 @@ pub record Passes (a : Areas) (f x : List ℕ) : Type 0 where
   -- it waits, goes out and waits no longer
   pub waits : step (streamed a f x) (gives a f x) .audio .sending .len ≡ 1
   pub sends : sendsAt 0 (worldOf (heard a f x (streamed a f x)) (answering a f x (streamed a f x))) ≡ true
-  pub sent : drop 32 (blockOf (atOutput (worldOf (heard a f x (streamed a f x)) (answering a f x (streamed a f x))))) ≡ flatMap bigEndian x ++ replicate 288 0
+  pub sent : drop 32 (blockOf (atOutput (worldOf (heard a f x (streamed a f x)) (answering a f x (streamed a f x))))) ≡ flatMap wordBytes x ++ replicate 288 0
   pub gone : answered a f x (streamed a f x) .audio .sending .len ≡ 0
   -- the answer of the frame taken: neither refused nor empty
   pub taken : takenFrame (answered a f x (streamed a f x)) (ringLeft a f x (streamed a f x))
