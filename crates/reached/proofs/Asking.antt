@@ -31,6 +31,7 @@ use Rattle.model.specs.Microframe as M
 use Rattle.model.specs.Microframe.{enumerates, talks}
 use Rattle.model.specs.Reach.{phaseBy, toPhase}
 use Rattle.model.proofs.Fields.{fields-then, keeps-if, keeps-nothing}
+use Rattle.model.proofs.Progress.{if-false, when-true}
 use Rattle.bounds.specs.Bounds.{MOST}
 use Rattle.kept.proofs.Asked.{Asked, askedOf}
 use Rattle.kept.proofs.Asked as K
@@ -44,7 +45,7 @@ use Rattle.history.specs.Accepts.{numberOf, AtEach}
 use Rattle.reached.specs.Lists.{Areas, lend, withInput}
 use Rattle.reached.specs.Claims.{Accepted}
 use Rattle.reached.proofs.Standing.{Stand, Held, heldOf}
-use Rattle.reached.proofs.Opening.{if-false, when-true, openedHeld, Plain, awake-memory, ticked, phase-ticked, frame-in}
+use Rattle.reached.proofs.Opening.{openedHeld, Plain, awake-memory, ticked, phase-ticked, frame-in}
 use Rattle.reached.proofs.Page.{framedMemory, framed-memory}
 use Rattle.reached.proofs.Early.{asking, enteredHeld, postedHeld, onHeld, asked, asked-held, asked-on, asked-waiting, frame-talks, frame-posts, frame-resets}
 use Rattle.reached.proofs.Controls.{pushedHeld, fixedHeld, asks, finishes-other, finishes-header, finishes-whole, Runs, runs-posted, Ending, plainEnd, ends-plain, dataEnd, ends-data, data-got, data-reply}

@@ -21,9 +21,9 @@ use Rattle.record.proofs.Laws.{replay-bus}
 use Rattle.model.specs.Phases.{dropsRequest}
 use Rattle.model.specs.Control.{wLength, toHost, posted, toStatus, inStatus, timedOut, keepsReply, dataIn, dataOut, dataStage, asksFor, asksWhole, fixedSetups, configures, keepsDevice, takesConfiguration, finishes, statusOut, statusEnds, statusStage, stalled, unstalls, dataThenStatus, stages, requests, controls}
 use Rattle.model.proofs.Fields.{fields-then, left-runs, fields-ran, ranWorld}
+use Rattle.model.proofs.Progress.{if-true, if-false, when-true, when-false}
 use Rattle.kept.proofs.Asked.{Asked, asked}
 use Rattle.reached.proofs.Standing.{Held, heldOf, held}
-use Rattle.reached.proofs.Opening.{if-true, if-false, when-true, when-false}
 use Rattle.reached.proofs.Early.{onHeld}
 
 -- ---- a run leaves the bus as its stores do

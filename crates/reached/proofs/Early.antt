@@ -23,10 +23,11 @@ use Rattle.model.specs.Control.{begun, posted, posts, enumerating, configured, 
 use Rattle.model.specs.Microframe.{enumerates, talks, atPhase, microframe}
 use Rattle.model.specs.Reach.{phaseBy}
 use Rattle.model.proofs.Fields.{fields-then, keeps-page, keeps-bus, keeps-one}
+use Rattle.model.proofs.Progress.{if-true, if-false, when-true, when-false}
 use Rattle.reached.proofs.Standing.{Stand, Held, standOf, heldOf, held}
 use Rattle.reached.proofs.Keeping.{keeps-frame, keeps-transfers}
 use Rattle.reached.proofs.Page.{framedMemory, framed-memory, framed-word}
-use Rattle.reached.proofs.Opening.{if-true, if-false, when-true, when-false, opened, openedHeld, Plain, opened-held, awake-memory, frame-in}
+use Rattle.reached.proofs.Opening.{opened, openedHeld, Plain, opened-held, awake-memory, frame-in}
 
 -- a phase begins
 abbrev pub entered : Phase → Stand → Stand

@@ -22,8 +22,9 @@ use Rattle.model.specs.Microframe as M
 use Rattle.model.specs.Microframe.{others, transfers, enumerates, talks, atPhase}
 use Rattle.model.specs.Reach.{phaseBy}
 use Rattle.model.proofs.Fields.{Fields, Keeps, fields-then, fields-if, keeps-then, keeps-if, keeps-nothing, keeps-one, keeps-bus, keeps-page, keeps-runs, keeps-here}
+use Rattle.model.proofs.Progress.{when-true}
 use Rattle.reached.proofs.Standing.{Held}
-use Rattle.reached.proofs.Opening.{when-true, Plain, ticked, phase-ticked, frame-in}
+use Rattle.reached.proofs.Opening.{Plain, ticked, phase-ticked, frame-in}
 use Rattle.reached.proofs.Early.{asked, asked-held}
 
 abbrev pub enumeratedOf : World → ℕ

@@ -1,4 +1,4 @@
--- A microframe up to the choice by phase, of a host that neither goes nor sleeps, and the forms of a step by its tests.
+-- A microframe up to the choice by phase, of a host that neither goes nor sleeps.
 use Prim.Native.Nat.{ℕ, _+_, _<_}
 use mathlib.Core.Path.{_≡_, refl, ap, ap₂, sym, subst, _∙_}
 use mathlib.Core.Bool.{Bool, true, false}
@@ -6,53 +6,28 @@ use mathlib.Core.List.{List, map}
 use native.Mathlib.Omega.{arith}
 use Rattle.bits.specs.Pick.{pick}
 use Rattle.bus.specs.Memory.{Memory}
-use Rattle.bus.specs.Steps.{replay, andThen, exec-then, exec-choose}
+use Rattle.bus.specs.Steps.{replay, andThen, exec-then}
 use Rattle.usbdev.specs.Registers.{PageStore, onBus}
 use Rattle.gptimers.specs.Timer.{STEP, tickingBoth, tickedBoth}
 use Rattle.record.specs.declared.Settings.{Settings}
 use Rattle.record.specs.Record.{counted, wrapped}
 use Rattle.record.specs.World.{World}
-use Rattle.record.specs.Change.{apply, Step, left, nothing, if, when, one, here, onPage}
+use Rattle.record.specs.Change.{apply, left, nothing, when, one, here, onPage}
 use Rattle.record.specs.Change as Ch
 use Rattle.model.specs.Phases.{registersOf, counts, ticks, cable, resuming, suspends, leaves}
 use Rattle.record.specs.declared.Phase.{Phase}
 use Rattle.bounds.specs.Bounds.{MOST}
-use Rattle.model.specs.Microframe.{rsSet, goneAt, asleepAt, opens, frameOf, byPhase, atPhase, microframe}
+use Rattle.model.specs.Microframe.{rsSet, goneAt, asleepAt, opens, byPhase, atPhase, microframe}
 use Rattle.model.proofs.Fields.{fields-then, keeps-nothing, keeps-if, keeps-page}
 use Rattle.model.proofs.Reading.{silent-keeps, silent-ticks, silent-suspends}
+use Rattle.model.proofs.Progress.{when-true, when-false, frame-plain}
 use Rattle.model.proofs.Budget.{budgets, budgetReading}
-use Rattle.model.proofs.History.{four}
 use Rattle.model.specs.Reach.{toPhase, phaseBy}
 use Rattle.reached.proofs.Standing.{Stand, Held, heldOf, held}
 use Rattle.reached.proofs.Keeping.{keeps-ticks}
 use Rattle.reached.proofs.Page.{resumedMemory, resumed-memory, Stopped, ticking-nothing}
 
--- ---- a step by its test
-
-pub if-true : (t : World → Bool) (f g : Step) (w : World) → t w ≡ true → left (if t f g) w ≡ left f w
-if-true t f g w e = exec-choose apply t f g w ∙ ap (λ (b : Bool). pick b (left f w) (left g w)) e
-
-pub if-false : (t : World → Bool) (f g : Step) (w : World) → t w ≡ false → left (if t f g) w ≡ left g w
-if-false t f g w e = exec-choose apply t f g w ∙ ap (λ (b : Bool). pick b (left f w) (left g w)) e
-
-pub when-true : (t : World → Bool) (f : Step) (w : World) → t w ≡ true → left (when t f) w ≡ left f w
-when-true t f w e = if-true t f nothing w e
-
-pub when-false : (t : World → Bool) (f : Step) (w : World) → t w ≡ false → left (when t f) w ≡ w
-unfolding nothing
-when-false t f w e = if-false t f nothing w e
-
 -- ---- the microframe up to the choice by phase
-
-by-tests : (t : ℕ) (rs g s : Bool) (w : World) → g ≡ false → s ≡ false → left (frameOf (w .settings) t rs g s) w ≡ left (byPhase (w .settings) t rs) (phaseBy rs w)
-unfolding frameOf phaseBy toPhase
-by-tests t rs true s w e f = let z : _≡_ {A = ℕ} 0 1 = cc in absurd (omega arith)
-by-tests t rs false true w e f = let z : _≡_ {A = ℕ} 0 1 = cc in absurd (omega arith)
-by-tests t rs false false w e f = four (opens (w .settings) false) (suspends false) (leaves (w .settings .«device_stack») rs) (byPhase (w .settings) t rs) w
-
-pub frame-plain : (t : ℕ) (w : World) → goneAt t w ≡ false → asleepAt t w ≡ false → left (microframe t) w ≡ left (byPhase (w .settings) t (rsSet w)) (phaseBy (rsSet w) w)
-unfolding microframe here
-frame-plain t w e f = by-tests t (rsSet w) (goneAt t w) (asleepAt t w) w e f
 
 -- with MIDI input the timers tick
 abbrev pub ticked : Settings → World → World

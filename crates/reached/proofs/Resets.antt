@@ -24,13 +24,14 @@ use Rattle.model.specs.Microframe as M
 use Rattle.model.specs.Microframe.{rsSet, goneAt, asleepAt, opens, frameOf, byPhase, atPhase}
 use Rattle.model.specs.Reach.{streamsIn, outputBy, withinBudget, inputBy, backBy, leftBy, toPhase, phaseBy, streamBy, reachesOutput, comesBack, deviceLeft, atInput, atOutput, inputReady, outputReady}
 use Rattle.model.proofs.Fields.{fields-then, keeps-page}
+use Rattle.model.proofs.Progress.{when-true, when-false, frame-plain}
 use Rattle.bounds.specs.Bounds.{MOST}
 use Rattle.history.specs.Calls.{Call, microframe}
 use Rattle.history.specs.Sums.{Sums, Tally, none, reset}
 use Rattle.reached.specs.Lists.{Areas, lend}
 use Rattle.reached.proofs.Standing.{Stand, Held, heldOf, held}
 use Rattle.reached.proofs.Keeping.{keeps-sleeps}
-use Rattle.reached.proofs.Opening.{when-true, when-false, frame-plain, phase-plain, held-counts, held-leaves, counting, seeing}
+use Rattle.reached.proofs.Opening.{phase-plain, held-counts, held-leaves, counting, seeing}
 use Rattle.reached.proofs.Early.{enteredHeld, held-idles}
 use Rattle.reached.proofs.Summed.{Tested, played, tested-tally}
 use Rattle.reached.proofs.Leading.{Fit, Long, Queue, Enters, Goes, Leads, leads-one}
