@@ -1,10 +1,10 @@
--- Fields that change with the port's marks and with MIDI alone: which steps of a microframe leave them. One law for each step serves every choice
--- of such fields.
+-- Fields that few changes touch: which steps of a microframe leave them. One law for each step serves every choice of such fields.
 use Prim.Native.Nat.{ℕ, zero, suc}
-use mathlib.Core.Path.{_≡_, refl}
-use mathlib.Core.Bool.{Bool, true, false}
+use mathlib.Core.Path.{_≡_, refl, sym}
+use mathlib.Core.Bool.{Bool, true, false, not, _&&_}
 use mathlib.Core.List.{List, [], _∷_}
 use Rattle.bits.specs.Pick.{pick}
+use Rattle.bits.proofs.Tests.{false-true}
 use Rattle.dtd.specs.Dtd.{Run}
 use Rattle.config.specs.Config.{Choice}
 use Rattle.record.specs.declared.Phase.{Phase}
@@ -12,63 +12,83 @@ use Rattle.record.specs.declared.Settings.{Settings}
 use Rattle.record.specs.Record.{Counter, microframes, «in_transfers», «out_transfers», «in_frames», «out_frames», «bad_blocks», «midi_dtds», «midi_asleep», «out_underruns», «midi_packets_out», «vendor_in_bytes», restarts, enumerations}
 use Rattle.record.specs.World.{World}
 use Rattle.record.specs.Change.{Change, bus, ran, lost, count, uf, phase, started, gone, suspended, wasRunning, credit, budget, counter, block, timers, control, queued, popped, pushed, cleared, reply, device, config, forgot, midi, serial, received, frame, taken, Step, one}
-use Rattle.model.specs.Phases.{counts, ticks, dropsRequest, forgets, returns, enters, idles, powers, resets, startsFrame}
+use Rattle.model.specs.Phases.{within, counts, ticks, dropsRequest, forgets, returns, cable, suspends, enters, idles, powers, resets, startsFrame}
 use Rattle.model.specs.Control.{toStatus, posted, posts, configured, keepsReply, dataStage, asksWhole, chooses, configures, finishes, statusEnds, statusStage, unstalls, stages, controls}
-use Rattle.model.specs.Streams.{naks, drainsMidi, midiOut, readsVendor}
+use Rattle.model.specs.Streams.{naks, reads, midiIn, drainsSerial, serialStep, drainsMidi, midiOut, readsVendor}
 use Rattle.model.specs.Audio.{addsBudget, clearsBudget, keepsFrames, keepsGood, keepsBlock, keepsBlocks, keepsRun, inputs, streamIn, sendsBlock, unprimes, streamOut, streams}
-use Rattle.model.specs.Microframe.{enumerates}
+use Rattle.model.specs.Microframe.{opens, others, transfers, enumerates}
 use Rattle.model.proofs.Fields.{Fields, Keeps, keeps-then, keeps-if, keeps-nothing, keeps-one, keeps-bus, keeps-page, keeps-runs, keeps-here}
 
--- every counter but those of MIDI read and not read
+-- which changes beside the plain ones leave the fields too: of the block, of the count of enumerations, of MIDI that comes, of the port's marks
+pub record Beside : Type 0 where
+  pub block : Bool
+  pub enumerations : Bool
+  pub midi : Bool
+  pub marks : Bool
+
+abbrev pub plainCounterBy : Beside → Counter → Bool
+plainCounterBy l microframes = true
+plainCounterBy l «in_transfers» = true
+plainCounterBy l «out_transfers» = true
+plainCounterBy l «in_frames» = true
+plainCounterBy l «out_frames» = true
+plainCounterBy l «bad_blocks» = true
+plainCounterBy l «midi_dtds» = l .midi
+plainCounterBy l «midi_asleep» = false
+plainCounterBy l «out_underruns» = true
+plainCounterBy l «midi_packets_out» = true
+plainCounterBy l «vendor_in_bytes» = true
+plainCounterBy l restarts = true
+plainCounterBy l enumerations = l .enumerations
+
+abbrev pub plainBy : Beside → Change → Bool
+plainBy l (bus s) = true
+plainBy l (ran e r n) = true
+plainBy l (lost n) = true
+plainBy l (count c n) = plainCounterBy l c
+plainBy l (uf n) = true
+plainBy l (phase p) = true
+plainBy l (started n) = true
+plainBy l (gone b) = l .marks
+plainBy l (suspended b) = l .marks
+plainBy l (wasRunning b) = l .marks
+plainBy l (credit n) = true
+plainBy l (budget n) = true
+plainBy l (counter n) = true
+plainBy l (block n m) = l .block
+plainBy l (timers ts) = true
+plainBy l (control c) = true
+plainBy l (queued bs) = true
+plainBy l popped = true
+plainBy l (pushed bs) = true
+plainBy l cleared = true
+plainBy l (reply n bs) = true
+plainBy l (device bs) = true
+plainBy l (config bs) = true
+plainBy l forgot = true
+plainBy l (midi n) = true
+plainBy l (serial n) = true
+plainBy l (received bs) = l .midi
+plainBy l (frame f) = true
+plainBy l (taken n) = true
+
+-- every counter but those of MIDI read and not read; every change but those of the marks and of MIDI that comes
+abbrev pub marksAndMidi : Beside
+marksAndMidi = record { block = true; enumerations = true; midi = false; marks = false }
+
 abbrev pub plainCounter : Counter → Bool
-plainCounter microframes = true
-plainCounter «in_transfers» = true
-plainCounter «out_transfers» = true
-plainCounter «in_frames» = true
-plainCounter «out_frames» = true
-plainCounter «bad_blocks» = true
-plainCounter «midi_dtds» = false
-plainCounter «midi_asleep» = false
-plainCounter «out_underruns» = true
-plainCounter «midi_packets_out» = true
-plainCounter «vendor_in_bytes» = true
-plainCounter restarts = true
-plainCounter enumerations = true
+plainCounter c = plainCounterBy marksAndMidi c
 
--- every change but those of the marks and of MIDI that comes
 abbrev pub plain : Change → Bool
-plain (bus s) = true
-plain (ran e r n) = true
-plain (lost n) = true
-plain (count c n) = plainCounter c
-plain (uf n) = true
-plain (phase p) = true
-plain (started n) = true
-plain (gone b) = false
-plain (suspended b) = false
-plain (wasRunning b) = false
-plain (credit n) = true
-plain (budget n) = true
-plain (counter n) = true
-plain (block n m) = true
-plain (timers ts) = true
-plain (control c) = true
-plain (queued bs) = true
-plain popped = true
-plain (pushed bs) = true
-plain cleared = true
-plain (reply n bs) = true
-plain (device bs) = true
-plain (config bs) = true
-plain forgot = true
-plain (midi n) = true
-plain (serial n) = true
-plain (received bs) = false
-plain (frame f) = true
-plain (taken n) = true
+plain c = plainBy marksAndMidi c
 
-module _ {K : Type 0} (F : Fields K) (P : (c : Change) → plain c ≡ true → (k : K) → F .on c k ≡ k) where
-  keeps-plain : (c : World → Change) → ((w : World) → plain (c w) ≡ true) → Keeps F (one c)
+-- a choice is left alone where there is one
+chosen : (b : Bool) → (not b && true) ≡ false → b ≡ true
+chosen true e = refl
+chosen false e = absurd (false-true (sym e))
+
+module _ {K : Type 0} {l : Beside} (F : Fields K) (P : (c : Change) → plainBy l c ≡ true → (k : K) → F .on c k ≡ k) where
+  keeps-plain : (c : World → Change) → ((w : World) → plainBy l (c w) ≡ true) → Keeps F (one c)
   keeps-plain c p = keeps-one F c (λ w. P (c w) (p w) (F .of w))
 
   keeps-pick : (t : Bool) (f g : Step) → Keeps F f → Keeps F g → Keeps F (pick t f g)
@@ -125,9 +145,9 @@ module _ {K : Type 0} (F : Fields K) (P : (c : Change) → plain c ≡ true → 
   unfolding posts
   still-posts = search (still, still-posted)
 
-  pub still-configured : Keeps F configured
+  pub still-configured : l .enumerations ≡ true → Keeps F configured
   unfolding configured
-  still-configured = search still depth 8
+  still-configured e = search still depth 8
 
   pub still-reply : (r : Run) → Keeps F (keepsReply r)
   unfolding keepsReply
@@ -141,41 +161,52 @@ module _ {K : Type 0} (F : Fields K) (P : (c : Change) → plain c ≡ true → 
   unfolding asksWhole
   still-whole = search still
 
-  pub still-chooses : (c : Choice) → Keeps F (chooses c)
+  pub still-chooses : l .block ≡ true → (c : Choice) → Keeps F (chooses c)
   unfolding chooses
-  still-chooses c = search still depth 8
+  still-chooses e c = search still depth 8
 
-  pub still-configures : (stack : Bool) → Keeps F (configures stack)
+  -- only with the device stack is a block chosen (717-727)
+  pub still-configures : (stack : Bool) → (not (l .block) && stack) ≡ false → Keeps F (configures stack)
   unfolding configures
-  still-configures stack = search (still, still-chooses) depth 8
+  still-configures false e = search still depth 8
+  still-configures true e =
+      let choice : (c : Choice) → Keeps F (chooses c) = still-chooses (chosen (l .block) e) in
+      search (still, choice) depth 8
 
-  pub still-finishes : (stack : Bool) → Keeps F (finishes stack)
+  pub still-finishes : (stack : Bool) → (not (l .block) && stack) ≡ false → Keeps F (finishes stack)
   unfolding finishes
-  still-finishes stack = search (still, still-drops, still-whole, still-configures) depth 8
+  still-finishes stack e =
+      let configuration : Keeps F (configures stack) = still-configures stack e in
+      search (still, still-drops, still-whole, configuration) depth 8
 
-  pub still-ends : (stack : Bool) (r : Run) → Keeps F (statusEnds stack r)
+  pub still-ends : (stack : Bool) → (not (l .block) && stack) ≡ false → (r : Run) → Keeps F (statusEnds stack r)
   unfolding statusEnds
-  still-ends stack r = search (still, still-finishes, still-drops) depth 8
+  still-ends stack e r =
+      let end : Keeps F (finishes stack) = still-finishes stack e in
+      search (still, end, still-drops) depth 8
 
-  pub still-last : (stack : Bool) → Keeps F (statusStage stack)
+  pub still-last : (stack : Bool) → (not (l .block) && stack) ≡ false → Keeps F (statusStage stack)
   unfolding statusStage
-  still-last stack = search (still, still-ends)
+  still-last stack e =
+      let ends : (r : Run) → Keeps F (statusEnds stack r) = still-ends stack e in
+      search (still, ends)
 
   pub still-unstalls : Keeps F unstalls
   unfolding unstalls
   still-unstalls = search (still, still-drops)
 
-  pub still-stages : (stack : Bool) → Keeps F (stages stack)
+  pub still-stages : (stack : Bool) → (not (l .block) && stack) ≡ false → Keeps F (stages stack)
   unfolding stages
-  still-stages stack = search (still, still-last, still-data, still-drops) depth 8
+  still-stages stack e =
+      let last : Keeps F (statusStage stack) = still-last stack e in
+      search (still, last, still-data, still-drops) depth 8
 
-  pub still-controls : (stack : Bool) → Keeps F (controls stack)
+  pub still-controls : l .enumerations ≡ true → (stack : Bool) → (not (l .block) && stack) ≡ false → Keeps F (controls stack)
   unfolding controls
-  still-controls stack = search (still, still-stages, still-unstalls, still-configured, still-posts) depth 8
-
-  pub still-enumerates : (c : Settings) → Keeps F (enumerates c)
-  unfolding enumerates
-  still-enumerates c = search (still, still-frame, still-controls)
+  still-controls n stack e =
+      let run : Keeps F (stages stack) = still-stages stack e in
+      let end : Keeps F configured = still-configured n in
+      search (still, run, still-unstalls, end, still-posts) depth 8
 
   pub still-naks : Keeps F naks
   unfolding naks
@@ -250,3 +281,54 @@ module _ {K : Type 0} (F : Fields K) (P : (c : Change) → plain c ≡ true → 
   pub still-returns : Keeps F returns
   unfolding returns
   still-returns = search (still, still-forgets) depth 8
+
+  -- ---- fields that MIDI that comes does not touch
+
+  module _ (M : l .midi ≡ true) where
+    still-reads : (n : ℕ) → Keeps F (reads n)
+    unfolding reads
+    still-reads zero = keeps-nothing F
+    still-reads (suc n) =
+        let rest : Keeps F (reads n) = still-reads n in
+        search (still, rest) depth 8
+
+    pub still-awake : (every : ℕ) → Keeps F (midiIn false every)
+    unfolding midiIn
+    still-awake every = search (still, still-naks, still-reads) depth 8
+
+    still-serial : (n : ℕ) → Keeps F (drainsSerial n)
+    unfolding drainsSerial
+    still-serial n = search still depth 8
+
+    pub still-serves : Keeps F serialStep
+    unfolding serialStep
+    still-serves = search (still, still-serial) depth 8
+
+    -- a microframe's transfers, by its MIDI input
+    pub still-transfers : (c : Settings) (t : ℕ) → Keeps F (midiIn (within (c .sleep) t) (c .«midi_every»)) → Keeps F (transfers c t)
+    unfolding transfers others
+    still-transfers c t heard = search (still, heard, still-serves, still-streams, still-writes, still-vendor) depth 8
+
+  -- ---- fields that the marks do not touch
+
+  module _ (G : l .marks ≡ true) where
+    pub still-running : (b : Bool) → Keeps F (one (λ w. wasRunning b))
+    still-running b = keeps-plain _ (λ w. G)
+
+    still-back : Keeps F (cable false)
+    unfolding cable
+    still-back = search (still, still-returns) depth 8
+
+    pub still-opens : (c : Settings) → Keeps F (opens c false)
+    unfolding opens
+    still-opens c = search (still, still-counts, still-ticks, still-back) depth 8
+
+    pub still-suspends : (s : Bool) → Keeps F (suspends s)
+    unfolding suspends
+    still-suspends true = search still depth 8
+    still-suspends false = search still depth 8
+
+module _ {K : Type 0} (F : Fields K) (P : (c : Change) → plain c ≡ true → (k : K) → F .on c k ≡ k) where
+  pub still-enumerates : (c : Settings) → Keeps F (enumerates c)
+  unfolding enumerates
+  still-enumerates c = keeps-then F _ _ (still-frame F P) (still-controls F P refl (c .«device_stack») refl)
