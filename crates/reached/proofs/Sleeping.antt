@@ -25,6 +25,7 @@ use Rattle.model.specs.Microframe.{rsSet, goneAt, asleepAt, streaming, opens, f
 use Rattle.model.specs.Reach.{outputBy, backBy, leftBy, phaseBy, streamBy}
 use Rattle.model.proofs.Fields.{fields-then, keeps-page}
 use Rattle.model.proofs.OneBlock.{streaming-stream}
+use Rattle.model.proofs.Plain.{still-streams}
 use Rattle.model.proofs.Progress.{if-false, when-true, when-false}
 use Rattle.bounds.specs.Bounds.{MOST}
 use Rattle.kept.proofs.Shape.{Shape, shape-kept}
@@ -35,7 +36,7 @@ use Rattle.history.specs.Sums.{Sums, Tally, none}
 use Rattle.reached.specs.Lists.{Areas, lend}
 use Rattle.reached.proofs.Standing.{Stand, Held, heldOf, held}
 use Rattle.reached.proofs.Keeping.{keeps-sleeps}
-use Rattle.reached.proofs.Aside.{Aside, asideOf, aside, slept, keeps-streams, sleeps-once, aside-stream, aside-awake}
+use Rattle.reached.proofs.Aside.{Aside, asideOf, aside, aside-plain, slept, sleeps-once, aside-stream, aside-awake}
 use Rattle.reached.proofs.Opening.{ticked, ticked-held, opens-ticked, held-counts, counting, frame-in}
 use Rattle.reached.proofs.Summed.{Tested, Streams, tested-tally}
 use Rattle.reached.proofs.Leading.{Fit, Long, Queue, Leads, leads-one}
@@ -126,7 +127,7 @@ aside-asleep t w s ph stack midi asleep =
     ∙ ap asideOf (when-true (λ v. c .«midi_in») (midiIn (within (c .sleep) t) (c .«midi_every»)) (left streams u) midi)
     ∙ ap (λ (b : Bool). asideOf (left (midiIn b (c .«midi_every»)) (left streams u))) asleep
     ∙ sleeps-once (left streams u)
-    ∙ ap slept (keeps-streams u ∙ aside-stream true w stack)
+    ∙ ap slept (still-streams aside aside-plain u ∙ aside-stream true w stack)
 
 -- ---- of calls
 
