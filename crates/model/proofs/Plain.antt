@@ -312,9 +312,6 @@ module _ {K : Type 0} {l : Beside} (F : Fields K) (P : (c : Change) → plainBy 
   -- ---- fields that the marks do not touch
 
   module _ (G : l .marks ≡ true) where
-    pub still-running : (b : Bool) → Keeps F (one (λ w. wasRunning b))
-    still-running b = keeps-plain _ (λ w. G)
-
     still-back : Keeps F (cable false)
     unfolding cable
     still-back = search (still, still-returns) depth 8

@@ -208,13 +208,13 @@ counts-controls v =
     ∙ by-tests (v .state .control .on) (eqb (v .state .lengths .setups) 0) (enumerating (v .state .phase)) refl refl
   where
     runs : enumeratedOf (left (requests false) v) ≡ enumeratedOf v
-    runs = keeps-if enumerated stalled unstalls (stages false) (still-unstalls enumerated enumerated-plain) (still-stages enumerated enumerated-plain false refl) v
+    runs = keeps-if enumerated stalled unstalls (stages false) (still-unstalls {l = enumeratedBeside} enumerated enumerated-plain) (still-stages {l = enumeratedBeside} enumerated enumerated-plain false refl) v
 
     other : (b n : Bool) → eqb (v .state .lengths .setups) 0 ≡ n → enumerating (v .state .phase) ≡ b → enumeratedOf (left (if (λ w. eqb (w .state .lengths .setups) 0) configured posts) v) ≡ pick (b && n) (wrapped (enumeratedOf v + 1)) (enumeratedOf v)
     other true true e f = fields-if enumerated (λ w. eqb (w .state .lengths .setups) 0) configured posts v ∙ ap (λ (t : Bool). pick t (enumeratedOf (left configured v)) (enumeratedOf (left posts v))) e ∙ counts-configured v ∙ ap (λ (t : Bool). pick t (wrapped (enumeratedOf v + 1)) (enumeratedOf v)) f
     other false true e f = fields-if enumerated (λ w. eqb (w .state .lengths .setups) 0) configured posts v ∙ ap (λ (t : Bool). pick t (enumeratedOf (left configured v)) (enumeratedOf (left posts v))) e ∙ counts-configured v ∙ ap (λ (t : Bool). pick t (wrapped (enumeratedOf v + 1)) (enumeratedOf v)) f
-    other true false e f = fields-if enumerated (λ w. eqb (w .state .lengths .setups) 0) configured posts v ∙ ap (λ (t : Bool). pick t (enumeratedOf (left configured v)) (enumeratedOf (left posts v))) e ∙ still-posts enumerated enumerated-plain v
-    other false false e f = fields-if enumerated (λ w. eqb (w .state .lengths .setups) 0) configured posts v ∙ ap (λ (t : Bool). pick t (enumeratedOf (left configured v)) (enumeratedOf (left posts v))) e ∙ still-posts enumerated enumerated-plain v
+    other true false e f = fields-if enumerated (λ w. eqb (w .state .lengths .setups) 0) configured posts v ∙ ap (λ (t : Bool). pick t (enumeratedOf (left configured v)) (enumeratedOf (left posts v))) e ∙ still-posts {l = enumeratedBeside} enumerated enumerated-plain v
+    other false false e f = fields-if enumerated (λ w. eqb (w .state .lengths .setups) 0) configured posts v ∙ ap (λ (t : Bool). pick t (enumeratedOf (left configured v)) (enumeratedOf (left posts v))) e ∙ still-posts {l = enumeratedBeside} enumerated enumerated-plain v
 
     never : (b : Bool) → (b && false) ≡ false
     never true = refl
@@ -230,7 +230,7 @@ counts-controls v =
 keeps-midi : (asleep : Bool) (every : ℕ) → Keeps enumerated (midiIn asleep every)
 unfolding midiIn sleeps
 keeps-midi true every = keeps-one enumerated _ (λ w. refl)
-keeps-midi false every = still-awake enumerated enumerated-plain refl every
+keeps-midi false every = still-awake {l = enumeratedBeside} enumerated enumerated-plain refl every
 
 keeps-leaves : (stack : Bool) → Keeps enumerated (leaves stack true)
 unfolding leaves
@@ -241,8 +241,8 @@ module _ (t : ℕ) (w : World) (p : Plain t w) (without : w .settings .«device_
   opened : enumeratedOf (phaseBy true w) ≡ enumeratedOf w
   opened =
       ap enumeratedOf (phase-ticked true w (p .still))
-      ∙ keeps-leaves (w .settings .«device_stack») _ ∙ still-suspends enumerated enumerated-plain refl false (ticked (w .settings) w)
-      ∙ keeps-if enumerated (λ v. w .settings .«midi_in») ticks nothing (still-ticks enumerated enumerated-plain) (keeps-nothing enumerated) (left counts w) ∙ still-counts enumerated enumerated-plain w
+      ∙ keeps-leaves (w .settings .«device_stack») _ ∙ still-suspends {l = enumeratedBeside} enumerated enumerated-plain refl false (ticked (w .settings) w)
+      ∙ keeps-if enumerated (λ v. w .settings .«midi_in») ticks nothing (still-ticks {l = enumeratedBeside} enumerated enumerated-plain) (keeps-nothing enumerated) (left counts w) ∙ still-counts {l = enumeratedBeside} enumerated enumerated-plain w
 
   -- the tests at control are those at entry
   tests : endsBy (asked t w p .state .phase) (asked t w p .state .control .on) (asked t w p .state .lengths .setups) ≡ endsBy (w .state .phase) (w .state .control .on) (w .state .lengths .setups)
@@ -252,9 +252,9 @@ module _ (t : ℕ) (w : World) (p : Plain t w) (without : w .settings .«device_
       → enumeratedOf (left (M.microframe t) w) ≡ pick (endsBy (w .state .phase) (w .state .control .on) (w .state .lengths .setups)) (wrapped (enumeratedOf w + 1)) (enumeratedOf w)
   unfolding talks enumerates
   in-talks q e f =
-      let n = still-frame enumerated enumerated-plain (phaseBy true w) ∙ opened in
+      let n = still-frame {l = enumeratedBeside} enumerated enumerated-plain (phaseBy true w) ∙ opened in
       ap enumeratedOf (frame-in t w p q e ∙ f ∙ when-true (λ v. true) _ (phaseBy true w) refl ∙ exec-then apply _ _ (phaseBy true w))
-      ∙ still-transfers enumerated enumerated-plain refl (w .settings) t (keeps-midi _ _) _
+      ∙ still-transfers {l = enumeratedBeside} enumerated enumerated-plain refl (w .settings) t (keeps-midi _ _) _
       ∙ fields-then enumerated _ _ (phaseBy true w)
       ∙ ap (λ (b : Bool). enumeratedOf (left (controls b) (asked t w p))) without
       ∙ counts-controls (asked t w p)
@@ -269,8 +269,8 @@ module _ (t : ℕ) (w : World) (p : Plain t w) (without : w .settings .«device_
       none q e f h = h ∙ ap (λ (b : Bool). pick (b && (not (w .state .control .on) && eqb (w .state .lengths .setups) 0)) (wrapped (enumeratedOf w + 1)) (enumeratedOf w)) (sym (ap enumerating e ∙ f))
 
       by-phase : (q : Phase) → w .state .phase ≡ q → enumeratedOf (left (M.microframe t) w) ≡ pick (endsBy (w .state .phase) (w .state .control .on) (w .state .lengths .setups)) (wrapped (enumeratedOf w + 1)) (enumeratedOf w)
-      by-phase Idle e = none Idle e refl (ap enumeratedOf (frame-in t w p Idle e) ∙ still-idles enumerated enumerated-plain _ ∙ opened)
-      by-phase Vbus e = none Vbus e refl (ap enumeratedOf (frame-in t w p Vbus e) ∙ still-powers enumerated enumerated-plain true _ ∙ opened)
-      by-phase Reset e = none Reset e refl (ap enumeratedOf (frame-in t w p Reset e) ∙ still-resets enumerated enumerated-plain _ ∙ opened)
+      by-phase Idle e = none Idle e refl (ap enumeratedOf (frame-in t w p Idle e) ∙ still-idles {l = enumeratedBeside} enumerated enumerated-plain _ ∙ opened)
+      by-phase Vbus e = none Vbus e refl (ap enumeratedOf (frame-in t w p Vbus e) ∙ still-powers {l = enumeratedBeside} enumerated enumerated-plain true _ ∙ opened)
+      by-phase Reset e = none Reset e refl (ap enumeratedOf (frame-in t w p Reset e) ∙ still-resets {l = enumeratedBeside} enumerated enumerated-plain _ ∙ opened)
       by-phase Enumerate e = in-talks Enumerate e refl
       by-phase Stream e = in-talks Stream e refl
