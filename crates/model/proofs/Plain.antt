@@ -19,76 +19,77 @@ use Rattle.model.specs.Audio.{addsBudget, clearsBudget, keepsFrames, kee
 use Rattle.model.specs.Microframe.{opens, others, transfers, enumerates}
 use Rattle.model.proofs.Fields.{Fields, Keeps, keeps-then, keeps-if, keeps-nothing, keeps-one, keeps-bus, keeps-page, keeps-runs, keeps-here}
 
--- which changes beside the plain ones leave the fields too: of the block, of the count of enumerations, of MIDI that comes, of the port's marks
-pub record Beside : Type 0 where
+-- which changes beside the plain ones the fields ignore too: of the block, of the count of enumerations, of MIDI that comes, of the port's marks
+pub record Ignored : Type 0 where
   pub block : Bool
   pub enumerations : Bool
   pub midi : Bool
   pub marks : Bool
 
-abbrev pub plainCounterBy : Beside → Counter → Bool
-plainCounterBy l microframes = true
-plainCounterBy l «in_transfers» = true
-plainCounterBy l «out_transfers» = true
-plainCounterBy l «in_frames» = true
-plainCounterBy l «out_frames» = true
-plainCounterBy l «bad_blocks» = true
-plainCounterBy l «midi_dtds» = l .midi
-plainCounterBy l «midi_asleep» = false
-plainCounterBy l «out_underruns» = true
-plainCounterBy l «midi_packets_out» = true
-plainCounterBy l «vendor_in_bytes» = true
-plainCounterBy l restarts = true
-plainCounterBy l enumerations = l .enumerations
+-- the plain counters and changes, with those ignored; the count of microframes without MIDI is never one
+abbrev pub plainCounterBy : Ignored → Counter → Bool
+plainCounterBy i microframes = true
+plainCounterBy i «in_transfers» = true
+plainCounterBy i «out_transfers» = true
+plainCounterBy i «in_frames» = true
+plainCounterBy i «out_frames» = true
+plainCounterBy i «bad_blocks» = true
+plainCounterBy i «midi_dtds» = i .midi
+plainCounterBy i «midi_asleep» = false
+plainCounterBy i «out_underruns» = true
+plainCounterBy i «midi_packets_out» = true
+plainCounterBy i «vendor_in_bytes» = true
+plainCounterBy i restarts = true
+plainCounterBy i enumerations = i .enumerations
 
-abbrev pub plainBy : Beside → Change → Bool
-plainBy l (bus s) = true
-plainBy l (ran e r n) = true
-plainBy l (lost n) = true
-plainBy l (count c n) = plainCounterBy l c
-plainBy l (uf n) = true
-plainBy l (phase p) = true
-plainBy l (started n) = true
-plainBy l (gone b) = l .marks
-plainBy l (suspended b) = l .marks
-plainBy l (wasRunning b) = l .marks
-plainBy l (credit n) = true
-plainBy l (budget n) = true
-plainBy l (counter n) = true
-plainBy l (block n m) = l .block
-plainBy l (timers ts) = true
-plainBy l (control c) = true
-plainBy l (queued bs) = true
-plainBy l popped = true
-plainBy l (pushed bs) = true
-plainBy l cleared = true
-plainBy l (reply n bs) = true
-plainBy l (device bs) = true
-plainBy l (config bs) = true
-plainBy l forgot = true
-plainBy l (midi n) = true
-plainBy l (serial n) = true
-plainBy l (received bs) = l .midi
-plainBy l (frame f) = true
-plainBy l (taken n) = true
+abbrev pub plainBy : Ignored → Change → Bool
+plainBy i (bus s) = true
+plainBy i (ran e r n) = true
+plainBy i (lost n) = true
+plainBy i (count c n) = plainCounterBy i c
+plainBy i (uf n) = true
+plainBy i (phase p) = true
+plainBy i (started n) = true
+plainBy i (gone b) = i .marks
+plainBy i (suspended b) = i .marks
+plainBy i (wasRunning b) = i .marks
+plainBy i (credit n) = true
+plainBy i (budget n) = true
+plainBy i (counter n) = true
+plainBy i (block n m) = i .block
+plainBy i (timers ts) = true
+plainBy i (control c) = true
+plainBy i (queued bs) = true
+plainBy i popped = true
+plainBy i (pushed bs) = true
+plainBy i cleared = true
+plainBy i (reply n bs) = true
+plainBy i (device bs) = true
+plainBy i (config bs) = true
+plainBy i forgot = true
+plainBy i (midi n) = true
+plainBy i (serial n) = true
+plainBy i (received bs) = i .midi
+plainBy i (frame f) = true
+plainBy i (taken n) = true
 
--- every counter but those of MIDI read and not read; every change but those of the marks and of MIDI that comes
-abbrev pub marksAndMidi : Beside
-marksAndMidi = record { block = true; enumerations = true; midi = false; marks = false }
+-- fields of the marks and of MIDI alone: every counter but those of MIDI read and not read, every change but those of the marks and of MIDI that comes
+abbrev pub blockAndEnumerations : Ignored
+blockAndEnumerations = record { block = true; enumerations = true; midi = false; marks = false }
 
 abbrev pub plainCounter : Counter → Bool
-plainCounter c = plainCounterBy marksAndMidi c
+plainCounter c = plainCounterBy blockAndEnumerations c
 
 abbrev pub plain : Change → Bool
-plain c = plainBy marksAndMidi c
+plain c = plainBy blockAndEnumerations c
 
--- a choice is left alone where there is one
+-- with the device stack the block must be ignored
 chosen : (b : Bool) → (not b && true) ≡ false → b ≡ true
 chosen true e = refl
 chosen false e = absurd (false-true (sym e))
 
-module _ {K : Type 0} {l : Beside} (F : Fields K) (P : (c : Change) → plainBy l c ≡ true → (k : K) → F .on c k ≡ k) where
-  keeps-plain : (c : World → Change) → ((w : World) → plainBy l (c w) ≡ true) → Keeps F (one c)
+module _ {K : Type 0} {i : Ignored} (F : Fields K) (P : (c : Change) → plainBy i c ≡ true → (k : K) → F .on c k ≡ k) where
+  keeps-plain : (c : World → Change) → ((w : World) → plainBy i (c w) ≡ true) → Keeps F (one c)
   keeps-plain c p = keeps-one F c (λ w. P (c w) (p w) (F .of w))
 
   keeps-pick : (t : Bool) (f g : Step) → Keeps F f → Keeps F g → Keeps F (pick t f g)
@@ -145,7 +146,7 @@ module _ {K : Type 0} {l : Beside} (F : Fields K) (P : (c : Change) → plainBy 
   unfolding posts
   still-posts = search (still, still-posted)
 
-  pub still-configured : l .enumerations ≡ true → Keeps F configured
+  pub still-configured : i .enumerations ≡ true → Keeps F configured
   unfolding configured
   still-configured e = search still depth 8
 
@@ -161,31 +162,31 @@ module _ {K : Type 0} {l : Beside} (F : Fields K) (P : (c : Change) → plainBy 
   unfolding asksWhole
   still-whole = search still
 
-  pub still-chooses : l .block ≡ true → (c : Choice) → Keeps F (chooses c)
+  pub still-chooses : i .block ≡ true → (c : Choice) → Keeps F (chooses c)
   unfolding chooses
   still-chooses e c = search still depth 8
 
   -- only with the device stack is a block chosen (717-727)
-  pub still-configures : (stack : Bool) → (not (l .block) && stack) ≡ false → Keeps F (configures stack)
+  pub still-configures : (stack : Bool) → (not (i .block) && stack) ≡ false → Keeps F (configures stack)
   unfolding configures
   still-configures false e = search still depth 8
   still-configures true e =
-      let choice : (c : Choice) → Keeps F (chooses c) = still-chooses (chosen (l .block) e) in
+      let choice : (c : Choice) → Keeps F (chooses c) = still-chooses (chosen (i .block) e) in
       search (still, choice) depth 8
 
-  pub still-finishes : (stack : Bool) → (not (l .block) && stack) ≡ false → Keeps F (finishes stack)
+  pub still-finishes : (stack : Bool) → (not (i .block) && stack) ≡ false → Keeps F (finishes stack)
   unfolding finishes
   still-finishes stack e =
       let configuration : Keeps F (configures stack) = still-configures stack e in
       search (still, still-drops, still-whole, configuration) depth 8
 
-  pub still-ends : (stack : Bool) → (not (l .block) && stack) ≡ false → (r : Run) → Keeps F (statusEnds stack r)
+  pub still-ends : (stack : Bool) → (not (i .block) && stack) ≡ false → (r : Run) → Keeps F (statusEnds stack r)
   unfolding statusEnds
   still-ends stack e r =
       let end : Keeps F (finishes stack) = still-finishes stack e in
       search (still, end, still-drops) depth 8
 
-  pub still-last : (stack : Bool) → (not (l .block) && stack) ≡ false → Keeps F (statusStage stack)
+  pub still-last : (stack : Bool) → (not (i .block) && stack) ≡ false → Keeps F (statusStage stack)
   unfolding statusStage
   still-last stack e =
       let ends : (r : Run) → Keeps F (statusEnds stack r) = still-ends stack e in
@@ -195,13 +196,13 @@ module _ {K : Type 0} {l : Beside} (F : Fields K) (P : (c : Change) → plainBy 
   unfolding unstalls
   still-unstalls = search (still, still-drops)
 
-  pub still-stages : (stack : Bool) → (not (l .block) && stack) ≡ false → Keeps F (stages stack)
+  pub still-stages : (stack : Bool) → (not (i .block) && stack) ≡ false → Keeps F (stages stack)
   unfolding stages
   still-stages stack e =
       let last : Keeps F (statusStage stack) = still-last stack e in
       search (still, last, still-data, still-drops) depth 8
 
-  pub still-controls : l .enumerations ≡ true → (stack : Bool) → (not (l .block) && stack) ≡ false → Keeps F (controls stack)
+  pub still-controls : i .enumerations ≡ true → (stack : Bool) → (not (i .block) && stack) ≡ false → Keeps F (controls stack)
   unfolding controls
   still-controls n stack e =
       let run : Keeps F (stages stack) = still-stages stack e in
@@ -284,7 +285,7 @@ module _ {K : Type 0} {l : Beside} (F : Fields K) (P : (c : Change) → plainBy 
 
   -- ---- fields that MIDI that comes does not touch
 
-  module _ (M : l .midi ≡ true) where
+  module _ (M : i .midi ≡ true) where
     still-reads : (n : ℕ) → Keeps F (reads n)
     unfolding reads
     still-reads zero = keeps-nothing F
@@ -300,7 +301,7 @@ module _ {K : Type 0} {l : Beside} (F : Fields K) (P : (c : Change) → plainBy 
     unfolding drainsSerial
     still-serial n = search still depth 8
 
-    pub still-serves : Keeps F serialStep
+    still-serves : Keeps F serialStep
     unfolding serialStep
     still-serves = search (still, still-serial) depth 8
 
@@ -311,7 +312,7 @@ module _ {K : Type 0} {l : Beside} (F : Fields K) (P : (c : Change) → plainBy 
 
   -- ---- fields that the marks do not touch
 
-  module _ (G : l .marks ≡ true) where
+  module _ (G : i .marks ≡ true) where
     still-back : Keeps F (cable false)
     unfolding cable
     still-back = search (still, still-returns) depth 8

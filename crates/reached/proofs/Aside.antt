@@ -14,7 +14,7 @@ use Rattle.model.specs.Control.{controls}
 use Rattle.model.specs.Streams.{midiIn}
 use Rattle.model.specs.Microframe.{rsSet, goneAt, asleepAt, opens, transfers, enumerates, talks, atPhase, byPhase, frameOf, microframe}
 use Rattle.model.specs.Reach.{toPhase, phaseBy, streamBy, atOutput}
-use Rattle.model.proofs.Plain.{Beside, plainBy, plainCounterBy, still-idles, still-powers, still-resets, still-frame, still-controls, still-hears, still-awake, still-transfers, still-opens, still-suspends}
+use Rattle.model.proofs.Plain.{Ignored, plainBy, plainCounterBy, still-idles, still-powers, still-resets, still-frame, still-controls, still-hears, still-awake, still-transfers, still-opens, still-suspends}
 use Rattle.model.proofs.Progress.{frame-plain}
 use Rattle.model.proofs.Fields.{Fields, Keeps, fields-then, keeps-then, keeps-if, keeps-nothing, keeps-here}
 
@@ -135,11 +135,11 @@ aside =
       drops = λ n k. refl;
     }
 
--- they leave out all but the block and the count of microframes without MIDI
-abbrev pub asideBeside : Beside
-asideBeside = record { block = false; enumerations = true; midi = true; marks = true }
+-- of the changes beside the plain ones only the block touches them
+abbrev pub asideIgnored : Ignored
+asideIgnored = record { block = false; enumerations = true; midi = true; marks = true }
 
-aside-counter : (c : Counter) → plainCounterBy asideBeside c ≡ true → (n : ℕ) (k : Aside) → asideOn (count c n) k ≡ k
+aside-counter : (c : Counter) → plainCounterBy asideIgnored c ≡ true → (n : ℕ) (k : Aside) → asideOn (count c n) k ≡ k
 aside-counter microframes h n k = refl
 aside-counter «in_transfers» h n k = refl
 aside-counter «out_transfers» h n k = refl
@@ -154,7 +154,7 @@ aside-counter «vendor_in_bytes» h n k = refl
 aside-counter restarts h n k = refl
 aside-counter enumerations h n k = refl
 
-pub aside-plain : (c : Change) → plainBy asideBeside c ≡ true → (k : Aside) → asideOn c k ≡ k
+pub aside-plain : (c : Change) → plainBy asideIgnored c ≡ true → (k : Aside) → asideOn c k ≡ k
 aside-plain (bus s) h k = refl
 aside-plain (ran e r n) h k = refl
 aside-plain (lost n) h k = refl
@@ -189,30 +189,30 @@ aside-plain (taken n) h k = refl
 
 keeps-midi : (asleep : Bool) (every : ℕ) → asleep ≡ false → Keeps aside (midiIn asleep every)
 keeps-midi true every e = λ w. absurd (false-true (sym e))
-keeps-midi false every e = still-awake {l = asideBeside} aside aside-plain refl every
+keeps-midi false every e = still-awake {i = asideIgnored} aside aside-plain refl every
 
 keeps-leaves : (rs : Bool) → Keeps aside (leaves false rs)
 unfolding leaves
 keeps-leaves rs = keeps-nothing aside
 
 keeps-transfers : (c : Settings) (t : ℕ) → within (c .sleep) t ≡ false → Keeps aside (transfers c t)
-keeps-transfers c t e = still-transfers {l = asideBeside} aside aside-plain refl c t (keeps-midi (within (c .sleep) t) (c .«midi_every») e)
+keeps-transfers c t e = still-transfers {i = asideIgnored} aside aside-plain refl c t (keeps-midi (within (c .sleep) t) (c .«midi_every») e)
 
 keeps-enumerates : (c : Settings) → c .«device_stack» ≡ false → Keeps aside (enumerates c)
 unfolding enumerates
 keeps-enumerates c e w =
     fields-then aside startsFrame _ w
     ∙ ap (λ (b : Bool). asideOf (left (controls b) (left startsFrame w))) e
-    ∙ still-controls {l = asideBeside} aside aside-plain refl false refl (left startsFrame w) ∙ still-frame {l = asideBeside} aside aside-plain w
+    ∙ still-controls {i = asideIgnored} aside aside-plain refl false refl (left startsFrame w) ∙ still-frame {i = asideIgnored} aside aside-plain w
 
 keeps-talks : (c : Settings) (t : ℕ) (rs : Bool) → c .«device_stack» ≡ false → within (c .sleep) t ≡ false → Keeps aside (talks c t rs)
 unfolding talks
 keeps-talks c t rs e f = keeps-if aside _ _ nothing (keeps-then aside _ _ (keeps-enumerates c e) (keeps-transfers c t f)) (keeps-nothing aside)
 
 keeps-phase : (c : Settings) (t : ℕ) (rs : Bool) → c .«device_stack» ≡ false → within (c .sleep) t ≡ false → (p : Phase) → Keeps aside (atPhase c t rs p)
-keeps-phase c t rs e f Idle = still-idles {l = asideBeside} aside aside-plain
-keeps-phase c t rs e f Vbus = still-powers {l = asideBeside} aside aside-plain rs
-keeps-phase c t rs e f Reset = still-resets {l = asideBeside} aside aside-plain
+keeps-phase c t rs e f Idle = still-idles {i = asideIgnored} aside aside-plain
+keeps-phase c t rs e f Vbus = still-powers {i = asideIgnored} aside aside-plain rs
+keeps-phase c t rs e f Reset = still-resets {i = asideIgnored} aside aside-plain
 keeps-phase c t rs e f Enumerate = keeps-talks c t rs e f
 keeps-phase c t rs e f Stream = keeps-talks c t rs e f
 
@@ -223,7 +223,7 @@ aside-opened c rs e w =
     fields-then aside (opens c false) _ w
     ∙ fields-then aside (suspends false) _ (left (opens c false) w)
     ∙ ap (λ (b : Bool). asideOf (left (leaves b rs) (left (suspends false) (left (opens c false) w)))) e
-    ∙ keeps-leaves rs _ ∙ still-suspends {l = asideBeside} aside aside-plain refl false _ ∙ still-opens {l = asideBeside} aside aside-plain refl c w
+    ∙ keeps-leaves rs _ ∙ still-suspends {i = asideIgnored} aside aside-plain refl false _ ∙ still-opens {i = asideIgnored} aside aside-plain refl c w
 
 -- at the stream step, and at the output step
 pub aside-stream : (rs : Bool) (w : World) → w .settings .«device_stack» ≡ false → asideOf (streamBy rs w) ≡ asideOf w
@@ -231,7 +231,7 @@ unfolding streamBy phaseBy
 aside-stream rs w e = keeps-enumerates (w .settings) e (phaseBy rs w) ∙ aside-opened (w .settings) rs e w
 
 pub aside-output : (w : World) → w .settings .«device_stack» ≡ false → asideOf (atOutput w) ≡ asideOf w
-aside-output w e = still-hears {l = asideBeside} aside aside-plain (streamBy (rsSet w) w) ∙ aside-stream (rsSet w) w e
+aside-output w e = still-hears {i = asideIgnored} aside aside-plain (streamBy (rsSet w) w) ∙ aside-stream (rsSet w) w e
 
 -- a microframe that is neither gone, nor suspended, nor asleep, without the device stack
 pub aside-awake : (t : ℕ) (w : World) → goneAt t w ≡ false → asleepAt t w ≡ false → w .settings .«device_stack» ≡ false → within (w .settings .sleep) t ≡ false → asideOf (left (microframe t) w) ≡ asideOf w
@@ -255,7 +255,7 @@ by-suspend t rs false true w e f =
     let c = w .settings in
     fields-then aside (opens c false) _ w
     ∙ fields-then aside (suspends true) sleeps (left (opens c false) w)
-    ∙ sleeps-once _ ∙ ap slept (still-suspends {l = asideBeside} aside aside-plain refl true _ ∙ still-opens {l = asideBeside} aside aside-plain refl c w)
+    ∙ sleeps-once _ ∙ ap slept (still-suspends {i = asideIgnored} aside aside-plain refl true _ ∙ still-opens {i = asideIgnored} aside aside-plain refl c w)
 
 pub aside-suspended : (t : ℕ) (w : World) → goneAt t w ≡ false → asleepAt t w ≡ true → asideOf (left (microframe t) w) ≡ slept (asideOf w)
 unfolding microframe here

@@ -17,7 +17,7 @@ use Rattle.model.specs.Streams.{midiIn}
 use Rattle.model.specs.Microframe as M
 use Rattle.model.specs.Microframe.{enumerates, talks, atPhase}
 use Rattle.model.specs.Reach.{phaseBy}
-use Rattle.model.proofs.Plain.{Beside, plainBy, plainCounterBy, still-counts, still-ticks, still-idles, still-powers, still-resets, still-frame, still-posts, still-unstalls, still-stages, still-awake, still-transfers, still-suspends}
+use Rattle.model.proofs.Plain.{Ignored, plainBy, plainCounterBy, still-counts, still-ticks, still-idles, still-powers, still-resets, still-frame, still-posts, still-unstalls, still-stages, still-awake, still-transfers, still-suspends}
 use Rattle.model.proofs.Fields.{Fields, Keeps, fields-then, fields-if, keeps-if, keeps-nothing, keeps-one}
 use Rattle.model.proofs.Progress.{when-true}
 use Rattle.reached.proofs.Standing.{Held}
@@ -132,11 +132,11 @@ enumerated =
       drops = λ n k. refl;
     }
 
--- it leaves out all but the count of enumerations
-abbrev enumeratedBeside : Beside
-enumeratedBeside = record { block = true; enumerations = false; midi = true; marks = true }
+-- of the changes beside the plain ones only its own count touches it
+abbrev enumeratedIgnored : Ignored
+enumeratedIgnored = record { block = true; enumerations = false; midi = true; marks = true }
 
-enumerated-counter : (c : Counter) → plainCounterBy enumeratedBeside c ≡ true → (n : ℕ) (k : ℕ) → enumeratedOn (count c n) k ≡ k
+enumerated-counter : (c : Counter) → plainCounterBy enumeratedIgnored c ≡ true → (n : ℕ) (k : ℕ) → enumeratedOn (count c n) k ≡ k
 enumerated-counter microframes h n k = refl
 enumerated-counter «in_transfers» h n k = refl
 enumerated-counter «out_transfers» h n k = refl
@@ -151,7 +151,7 @@ enumerated-counter «vendor_in_bytes» h n k = refl
 enumerated-counter restarts h n k = refl
 enumerated-counter enumerations h n k = absurd (false-true h)
 
-enumerated-plain : (c : Change) → plainBy enumeratedBeside c ≡ true → (k : ℕ) → enumeratedOn c k ≡ k
+enumerated-plain : (c : Change) → plainBy enumeratedIgnored c ≡ true → (k : ℕ) → enumeratedOn c k ≡ k
 enumerated-plain (bus s) h k = refl
 enumerated-plain (ran e r n) h k = refl
 enumerated-plain (lost n) h k = refl
@@ -208,13 +208,13 @@ counts-controls v =
     ∙ by-tests (v .state .control .on) (eqb (v .state .lengths .setups) 0) (enumerating (v .state .phase)) refl refl
   where
     runs : enumeratedOf (left (requests false) v) ≡ enumeratedOf v
-    runs = keeps-if enumerated stalled unstalls (stages false) (still-unstalls {l = enumeratedBeside} enumerated enumerated-plain) (still-stages {l = enumeratedBeside} enumerated enumerated-plain false refl) v
+    runs = keeps-if enumerated stalled unstalls (stages false) (still-unstalls {i = enumeratedIgnored} enumerated enumerated-plain) (still-stages {i = enumeratedIgnored} enumerated enumerated-plain false refl) v
 
     other : (b n : Bool) → eqb (v .state .lengths .setups) 0 ≡ n → enumerating (v .state .phase) ≡ b → enumeratedOf (left (if (λ w. eqb (w .state .lengths .setups) 0) configured posts) v) ≡ pick (b && n) (wrapped (enumeratedOf v + 1)) (enumeratedOf v)
     other true true e f = fields-if enumerated (λ w. eqb (w .state .lengths .setups) 0) configured posts v ∙ ap (λ (t : Bool). pick t (enumeratedOf (left configured v)) (enumeratedOf (left posts v))) e ∙ counts-configured v ∙ ap (λ (t : Bool). pick t (wrapped (enumeratedOf v + 1)) (enumeratedOf v)) f
     other false true e f = fields-if enumerated (λ w. eqb (w .state .lengths .setups) 0) configured posts v ∙ ap (λ (t : Bool). pick t (enumeratedOf (left configured v)) (enumeratedOf (left posts v))) e ∙ counts-configured v ∙ ap (λ (t : Bool). pick t (wrapped (enumeratedOf v + 1)) (enumeratedOf v)) f
-    other true false e f = fields-if enumerated (λ w. eqb (w .state .lengths .setups) 0) configured posts v ∙ ap (λ (t : Bool). pick t (enumeratedOf (left configured v)) (enumeratedOf (left posts v))) e ∙ still-posts {l = enumeratedBeside} enumerated enumerated-plain v
-    other false false e f = fields-if enumerated (λ w. eqb (w .state .lengths .setups) 0) configured posts v ∙ ap (λ (t : Bool). pick t (enumeratedOf (left configured v)) (enumeratedOf (left posts v))) e ∙ still-posts {l = enumeratedBeside} enumerated enumerated-plain v
+    other true false e f = fields-if enumerated (λ w. eqb (w .state .lengths .setups) 0) configured posts v ∙ ap (λ (t : Bool). pick t (enumeratedOf (left configured v)) (enumeratedOf (left posts v))) e ∙ still-posts {i = enumeratedIgnored} enumerated enumerated-plain v
+    other false false e f = fields-if enumerated (λ w. eqb (w .state .lengths .setups) 0) configured posts v ∙ ap (λ (t : Bool). pick t (enumeratedOf (left configured v)) (enumeratedOf (left posts v))) e ∙ still-posts {i = enumeratedIgnored} enumerated enumerated-plain v
 
     never : (b : Bool) → (b && false) ≡ false
     never true = refl
@@ -230,7 +230,7 @@ counts-controls v =
 keeps-midi : (asleep : Bool) (every : ℕ) → Keeps enumerated (midiIn asleep every)
 unfolding midiIn sleeps
 keeps-midi true every = keeps-one enumerated _ (λ w. refl)
-keeps-midi false every = still-awake {l = enumeratedBeside} enumerated enumerated-plain refl every
+keeps-midi false every = still-awake {i = enumeratedIgnored} enumerated enumerated-plain refl every
 
 keeps-leaves : (stack : Bool) → Keeps enumerated (leaves stack true)
 unfolding leaves
@@ -241,8 +241,8 @@ module _ (t : ℕ) (w : World) (p : Plain t w) (without : w .settings .«device_
   opened : enumeratedOf (phaseBy true w) ≡ enumeratedOf w
   opened =
       ap enumeratedOf (phase-ticked true w (p .still))
-      ∙ keeps-leaves (w .settings .«device_stack») _ ∙ still-suspends {l = enumeratedBeside} enumerated enumerated-plain refl false (ticked (w .settings) w)
-      ∙ keeps-if enumerated (λ v. w .settings .«midi_in») ticks nothing (still-ticks {l = enumeratedBeside} enumerated enumerated-plain) (keeps-nothing enumerated) (left counts w) ∙ still-counts {l = enumeratedBeside} enumerated enumerated-plain w
+      ∙ keeps-leaves (w .settings .«device_stack») _ ∙ still-suspends {i = enumeratedIgnored} enumerated enumerated-plain refl false (ticked (w .settings) w)
+      ∙ keeps-if enumerated (λ v. w .settings .«midi_in») ticks nothing (still-ticks {i = enumeratedIgnored} enumerated enumerated-plain) (keeps-nothing enumerated) (left counts w) ∙ still-counts {i = enumeratedIgnored} enumerated enumerated-plain w
 
   -- the tests at control are those at entry
   tests : endsBy (asked t w p .state .phase) (asked t w p .state .control .on) (asked t w p .state .lengths .setups) ≡ endsBy (w .state .phase) (w .state .control .on) (w .state .lengths .setups)
@@ -252,9 +252,9 @@ module _ (t : ℕ) (w : World) (p : Plain t w) (without : w .settings .«device_
       → enumeratedOf (left (M.microframe t) w) ≡ pick (endsBy (w .state .phase) (w .state .control .on) (w .state .lengths .setups)) (wrapped (enumeratedOf w + 1)) (enumeratedOf w)
   unfolding talks enumerates
   in-talks q e f =
-      let n = still-frame {l = enumeratedBeside} enumerated enumerated-plain (phaseBy true w) ∙ opened in
+      let n = still-frame {i = enumeratedIgnored} enumerated enumerated-plain (phaseBy true w) ∙ opened in
       ap enumeratedOf (frame-in t w p q e ∙ f ∙ when-true (λ v. true) _ (phaseBy true w) refl ∙ exec-then apply _ _ (phaseBy true w))
-      ∙ still-transfers {l = enumeratedBeside} enumerated enumerated-plain refl (w .settings) t (keeps-midi _ _) _
+      ∙ still-transfers {i = enumeratedIgnored} enumerated enumerated-plain refl (w .settings) t (keeps-midi _ _) _
       ∙ fields-then enumerated _ _ (phaseBy true w)
       ∙ ap (λ (b : Bool). enumeratedOf (left (controls b) (asked t w p))) without
       ∙ counts-controls (asked t w p)
@@ -269,8 +269,8 @@ module _ (t : ℕ) (w : World) (p : Plain t w) (without : w .settings .«device_
       none q e f h = h ∙ ap (λ (b : Bool). pick (b && (not (w .state .control .on) && eqb (w .state .lengths .setups) 0)) (wrapped (enumeratedOf w + 1)) (enumeratedOf w)) (sym (ap enumerating e ∙ f))
 
       by-phase : (q : Phase) → w .state .phase ≡ q → enumeratedOf (left (M.microframe t) w) ≡ pick (endsBy (w .state .phase) (w .state .control .on) (w .state .lengths .setups)) (wrapped (enumeratedOf w + 1)) (enumeratedOf w)
-      by-phase Idle e = none Idle e refl (ap enumeratedOf (frame-in t w p Idle e) ∙ still-idles {l = enumeratedBeside} enumerated enumerated-plain _ ∙ opened)
-      by-phase Vbus e = none Vbus e refl (ap enumeratedOf (frame-in t w p Vbus e) ∙ still-powers {l = enumeratedBeside} enumerated enumerated-plain true _ ∙ opened)
-      by-phase Reset e = none Reset e refl (ap enumeratedOf (frame-in t w p Reset e) ∙ still-resets {l = enumeratedBeside} enumerated enumerated-plain _ ∙ opened)
+      by-phase Idle e = none Idle e refl (ap enumeratedOf (frame-in t w p Idle e) ∙ still-idles {i = enumeratedIgnored} enumerated enumerated-plain _ ∙ opened)
+      by-phase Vbus e = none Vbus e refl (ap enumeratedOf (frame-in t w p Vbus e) ∙ still-powers {i = enumeratedIgnored} enumerated enumerated-plain true _ ∙ opened)
+      by-phase Reset e = none Reset e refl (ap enumeratedOf (frame-in t w p Reset e) ∙ still-resets {i = enumeratedIgnored} enumerated enumerated-plain _ ∙ opened)
       by-phase Enumerate e = in-talks Enumerate e refl
       by-phase Stream e = in-talks Stream e refl

@@ -36,7 +36,7 @@ use Rattle.history.specs.Sums.{Sums, Tally, none}
 use Rattle.reached.specs.Lists.{Areas, lend}
 use Rattle.reached.proofs.Standing.{Stand, Held, heldOf, held}
 use Rattle.reached.proofs.Keeping.{keeps-sleeps}
-use Rattle.reached.proofs.Aside.{Aside, asideOf, aside, asideBeside, aside-plain, slept, sleeps-once, aside-stream, aside-awake}
+use Rattle.reached.proofs.Aside.{Aside, asideOf, aside, asideIgnored, aside-plain, slept, sleeps-once, aside-stream, aside-awake}
 use Rattle.reached.proofs.Opening.{ticked, ticked-held, opens-ticked, held-counts, counting, frame-in}
 use Rattle.reached.proofs.Summed.{Tested, Streams, tested-tally}
 use Rattle.reached.proofs.Leading.{Fit, Long, Queue, Leads, leads-one}
@@ -127,7 +127,7 @@ aside-asleep t w s ph stack midi asleep =
     ∙ ap asideOf (when-true (λ v. c .«midi_in») (midiIn (within (c .sleep) t) (c .«midi_every»)) (left streams u) midi)
     ∙ ap (λ (b : Bool). asideOf (left (midiIn b (c .«midi_every»)) (left streams u))) asleep
     ∙ sleeps-once (left streams u)
-    ∙ ap slept (still-streams {l = asideBeside} aside aside-plain u ∙ aside-stream true w stack)
+    ∙ ap slept (still-streams {i = asideIgnored} aside aside-plain u ∙ aside-stream true w stack)
 
 -- ---- of calls
 
