@@ -1,37 +1,30 @@
 -- The steps that leave alone what is asked of the device.
 use Prim.Native.Nat.{ℕ}
 use mathlib.Core.Path.{refl}
-use mathlib.Core.Bool.{Bool, true, false}
+use mathlib.Core.Bool.{Bool, true}
 use Rattle.record.specs.declared.Settings.{Settings}
 use Rattle.model.specs.Phases.{ticks, cable, sleeps, suspends, startsFrame}
 use Rattle.model.specs.Microframe.{transfers}
-use Rattle.model.proofs.Fields.{Keeps, keeps-then, keeps-if, keeps-nothing, keeps-one, keeps-bus, keeps-page, keeps-runs, keeps-here}
+use Rattle.model.proofs.Fields.{Keeps}
+use Rattle.model.proofs.Single as S
 use Rattle.model.proofs.Transferring as T
 use Rattle.model.proofs.Transferring.{Untouched}
 use Rattle.kept.proofs.Asked.{asked}
 
-ruleset keeps-rules = (keeps-then, keeps-if, keeps-nothing, keeps-one, keeps-bus, keeps-page, keeps-runs, keeps-here)
-
 pub keeps-ticks : Keeps asked ticks
-unfolding ticks
-keeps-ticks = search keeps-rules depth 8
+keeps-ticks = S.keeps-ticks asked (λ ts k. refl)
 
 pub keeps-unplugs : Keeps asked (cable true)
-unfolding cable
-keeps-unplugs = search keeps-rules
+keeps-unplugs = S.keeps-unplugs asked (λ b k. refl)
 
 pub keeps-sleeps : Keeps asked sleeps
-unfolding sleeps
-keeps-sleeps = search keeps-rules
+keeps-sleeps = S.keeps-sleeps asked (λ n k. refl)
 
 pub keeps-suspends : (s : Bool) → Keeps asked (suspends s)
-unfolding suspends
-keeps-suspends true = search keeps-rules
-keeps-suspends false = search keeps-rules
+keeps-suspends = S.keeps-suspends asked (λ b k. refl)
 
 pub keeps-frame : Keeps asked startsFrame
-unfolding startsFrame
-keeps-frame = search keeps-rules
+keeps-frame = S.keeps-frame asked
 
 untouched : Untouched asked
 untouched =

@@ -49,6 +49,10 @@ module _ {K : Type 0} (F : Fields K) where
   pub keeps-if : (t : World → Bool) (f g : Step) → Keeps f → Keeps g → Keeps (if t f g)
   keeps-if t f g p q w = fields-if t f g w ∙ both (t w) (p w) (q w)
 
+  pub keeps-pick : (b : Bool) (f g : Step) → Keeps f → Keeps g → Keeps (pick b f g)
+  keeps-pick true f g p q = p
+  keeps-pick false f g p q = q
+
   pub keeps-nothing : Keeps nothing
   unfolding nothing
   keeps-nothing w = refl

@@ -1,9 +1,8 @@
 -- Fields that few changes touch: which steps of a microframe leave them. One law for each step serves every choice of such fields.
-use Prim.Native.Nat.{ℕ, zero, suc}
+use Prim.Native.Nat.{ℕ}
 use mathlib.Core.Path.{_≡_, refl, sym}
 use mathlib.Core.Bool.{Bool, true, false, not, _&&_}
-use mathlib.Core.List.{List, [], _∷_}
-use Rattle.bits.specs.Pick.{pick}
+use mathlib.Core.List.{List}
 use Rattle.bits.proofs.Tests.{false-true}
 use Rattle.dtd.specs.Dtd.{Run}
 use Rattle.config.specs.Config.{Choice}
@@ -11,13 +10,78 @@ use Rattle.record.specs.declared.Phase.{Phase}
 use Rattle.record.specs.declared.Settings.{Settings}
 use Rattle.record.specs.Record.{Counter, microframes, «in_transfers», «out_transfers», «in_frames», «out_frames», «bad_blocks», «midi_dtds», «midi_asleep», «out_underruns», «midi_packets_out», «vendor_in_bytes», restarts, enumerations}
 use Rattle.record.specs.World.{World}
-use Rattle.record.specs.Change.{Change, bus, ran, lost, count, uf, phase, started, gone, suspended, wasRunning, credit, budget, counter, block, timers, control, queued, popped, pushed, cleared, reply, device, config, forgot, midi, serial, received, frame, taken, Step, one}
+use Rattle.record.specs.Change.{Change, bus, ran, lost, count, uf, phase, started, gone, suspended, wasRunning, credit, budget, counter, block, timers, control, queued, popped, pushed, cleared, reply, device, config, forgot, midi, serial, received, frame, taken, one}
 use Rattle.model.specs.Phases.{within, counts, ticks, dropsRequest, forgets, returns, cable, suspends, enters, idles, powers, resets, startsFrame}
 use Rattle.model.specs.Control.{toStatus, posted, posts, configured, keepsReply, dataStage, asksWhole, chooses, configures, finishes, statusEnds, statusStage, unstalls, stages, controls}
-use Rattle.model.specs.Streams.{naks, reads, midiIn, drainsSerial, serialStep, drainsMidi, midiOut, readsVendor}
-use Rattle.model.specs.Audio.{addsBudget, clearsBudget, keepsFrames, keepsGood, keepsBlock, keepsBlocks, keepsRun, inputs, streamIn, sendsBlock, unprimes, streamOut, streams}
+use Rattle.model.specs.Streams.{midiIn, serialStep, midiOut, readsVendor}
+use Rattle.model.specs.Audio.{streamIn, streams}
 use Rattle.model.specs.Microframe.{opens, others, transfers, enumerates}
-use Rattle.model.proofs.Fields.{Fields, Keeps, keeps-then, keeps-if, keeps-nothing, keeps-one, keeps-bus, keeps-page, keeps-runs, keeps-here}
+use Rattle.model.proofs.Single.{keeps-suspends}
+use Rattle.model.proofs.Streaming.{Streamed, blockIn, framesIn, badBlock, blockOut, framesOut, underruns, packetsOut, vendorIn, credits, budgets, counters, midiSent, frameKept, framesTaken, keeps-naks, keeps-reads, keeps-serves, keeps-writes, keeps-vendor, keeps-in, keeps-streams}
+use Rattle.model.proofs.Fields.{Fields, Keeps, keeps-then, keeps-if, keeps-pick, keeps-nothing, keeps-one, keeps-bus, keeps-page, keeps-runs, keeps-here}
+
+-- the counters that some fields hold: microframes without MIDI, reads of MIDI, enumerations
+pub data Tally : Type 0 where
+  other : Tally
+  unread : Tally
+  read : Tally
+  enumerated : Tally
+
+abbrev pub tallyOf : Counter → Tally
+tallyOf microframes = other
+tallyOf «in_transfers» = other
+tallyOf «out_transfers» = other
+tallyOf «in_frames» = other
+tallyOf «out_frames» = other
+tallyOf «bad_blocks» = other
+tallyOf «midi_dtds» = read
+tallyOf «midi_asleep» = unread
+tallyOf «out_underruns» = other
+tallyOf «midi_packets_out» = other
+tallyOf «vendor_in_bytes» = other
+tallyOf restarts = other
+tallyOf enumerations = enumerated
+
+-- what a change does to the fields that few changes touch: counters, the port's marks, the block, the bytes that came
+pub data Effect : Type 0 where
+  none : Effect
+  tallied : Tally → ℕ → Effect
+  cableIs : Bool → Effect
+  suspendIs : Bool → Effect
+  runIs : Bool → Effect
+  blockIs : ℕ → ℕ → Effect
+  came : List ℕ → Effect
+
+abbrev pub effectOf : Change → Effect
+effectOf (bus s) = none
+effectOf (ran e r n) = none
+effectOf (lost n) = none
+effectOf (count c n) = tallied (tallyOf c) n
+effectOf (uf n) = none
+effectOf (phase p) = none
+effectOf (started n) = none
+effectOf (gone b) = cableIs b
+effectOf (suspended b) = suspendIs b
+effectOf (wasRunning b) = runIs b
+effectOf (credit n) = none
+effectOf (budget n) = none
+effectOf (counter n) = none
+effectOf (block n m) = blockIs n m
+effectOf (timers ts) = none
+effectOf (control c) = none
+effectOf (queued bs) = none
+effectOf popped = none
+effectOf (pushed bs) = none
+effectOf cleared = none
+effectOf (reply n bs) = none
+effectOf (device bs) = none
+effectOf (config bs) = none
+effectOf forgot = none
+effectOf (midi n) = none
+effectOf (serial n) = none
+effectOf (received bs) = came bs
+effectOf (frame f) = none
+effectOf (taken n) = none
 
 -- which changes beside the plain ones the fields ignore too: of the block, of the count of enumerations, of MIDI that comes, of the port's marks
 pub record Ignored : Type 0 where
@@ -27,61 +91,49 @@ pub record Ignored : Type 0 where
   pub marks : Bool
 
 -- the plain counters and changes, with those ignored; the count of microframes without MIDI is never one
+abbrev pub plainTally : Ignored → Tally → Bool
+plainTally i other = true
+plainTally i unread = false
+plainTally i read = i .midi
+plainTally i enumerated = i .enumerations
+
 abbrev pub plainCounterBy : Ignored → Counter → Bool
-plainCounterBy i microframes = true
-plainCounterBy i «in_transfers» = true
-plainCounterBy i «out_transfers» = true
-plainCounterBy i «in_frames» = true
-plainCounterBy i «out_frames» = true
-plainCounterBy i «bad_blocks» = true
-plainCounterBy i «midi_dtds» = i .midi
-plainCounterBy i «midi_asleep» = false
-plainCounterBy i «out_underruns» = true
-plainCounterBy i «midi_packets_out» = true
-plainCounterBy i «vendor_in_bytes» = true
-plainCounterBy i restarts = true
-plainCounterBy i enumerations = i .enumerations
+plainCounterBy i c = plainTally i (tallyOf c)
+
+abbrev pub plainEffect : Ignored → Effect → Bool
+plainEffect i none = true
+plainEffect i (tallied a n) = plainTally i a
+plainEffect i (cableIs b) = i .marks
+plainEffect i (suspendIs b) = i .marks
+plainEffect i (runIs b) = i .marks
+plainEffect i (blockIs n m) = i .block
+plainEffect i (came bs) = i .midi
 
 abbrev pub plainBy : Ignored → Change → Bool
-plainBy i (bus s) = true
-plainBy i (ran e r n) = true
-plainBy i (lost n) = true
-plainBy i (count c n) = plainCounterBy i c
-plainBy i (uf n) = true
-plainBy i (phase p) = true
-plainBy i (started n) = true
-plainBy i (gone b) = i .marks
-plainBy i (suspended b) = i .marks
-plainBy i (wasRunning b) = i .marks
-plainBy i (credit n) = true
-plainBy i (budget n) = true
-plainBy i (counter n) = true
-plainBy i (block n m) = i .block
-plainBy i (timers ts) = true
-plainBy i (control c) = true
-plainBy i (queued bs) = true
-plainBy i popped = true
-plainBy i (pushed bs) = true
-plainBy i cleared = true
-plainBy i (reply n bs) = true
-plainBy i (device bs) = true
-plainBy i (config bs) = true
-plainBy i forgot = true
-plainBy i (midi n) = true
-plainBy i (serial n) = true
-plainBy i (received bs) = i .midi
-plainBy i (frame f) = true
-plainBy i (taken n) = true
+plainBy i c = plainEffect i (effectOf c)
 
--- fields of the marks and of MIDI alone: every counter but those of MIDI read and not read, every change but those of the marks and of MIDI that comes
+-- fields of the marks and of MIDI alone: every change but those of the marks and of MIDI that comes
 abbrev pub blockAndEnumerations : Ignored
 blockAndEnumerations = record { block = true; enumerations = true; midi = false; marks = false }
 
-abbrev pub plainCounter : Counter → Bool
-plainCounter c = plainCounterBy blockAndEnumerations c
-
 abbrev pub plain : Change → Bool
 plain c = plainBy blockAndEnumerations c
+
+plain-streamed : (i : Ignored) (c : Change) → Streamed c → plainBy i c ≡ true
+plain-streamed i _ (blockIn n) = refl
+plain-streamed i _ (framesIn n) = refl
+plain-streamed i _ (badBlock n) = refl
+plain-streamed i _ (blockOut n) = refl
+plain-streamed i _ (framesOut n) = refl
+plain-streamed i _ (underruns n) = refl
+plain-streamed i _ (packetsOut n) = refl
+plain-streamed i _ (vendorIn n) = refl
+plain-streamed i _ (credits n) = refl
+plain-streamed i _ (budgets n) = refl
+plain-streamed i _ (counters n) = refl
+plain-streamed i _ (midiSent n) = refl
+plain-streamed i _ (frameKept f) = refl
+plain-streamed i _ (framesTaken n) = refl
 
 -- with the device stack the block must be ignored
 chosen : (b : Bool) → (not b && true) ≡ false → b ≡ true
@@ -91,10 +143,6 @@ chosen false e = absurd (false-true (sym e))
 module _ {K : Type 0} {i : Ignored} (F : Fields K) (P : (c : Change) → plainBy i c ≡ true → (k : K) → F .on c k ≡ k) where
   keeps-plain : (c : World → Change) → ((w : World) → plainBy i (c w) ≡ true) → Keeps F (one c)
   keeps-plain c p = keeps-one F c (λ w. P (c w) (p w) (F .of w))
-
-  keeps-pick : (t : Bool) (f g : Step) → Keeps F f → Keeps F g → Keeps F (pick t f g)
-  keeps-pick true f g p q = p
-  keeps-pick false f g p q = q
 
   ruleset still = (keeps-then, keeps-if, keeps-nothing, keeps-plain, keeps-bus, keeps-page, keeps-runs, keeps-here, keeps-pick)
 
@@ -209,75 +257,20 @@ module _ {K : Type 0} {i : Ignored} (F : Fields K) (P : (c : Change) → plainBy
       let end : Keeps F configured = still-configured n in
       search (still, run, still-unstalls, end, still-posts) depth 8
 
-  pub still-naks : Keeps F naks
-  unfolding naks
-  still-naks = search still
-
-  pub still-drains : (n : ℕ) → Keeps F (drainsMidi n)
-  unfolding drainsMidi
-  still-drains n = search still depth 8
+  streamed : (c : Change) → Streamed c → (k : K) → F .on c k ≡ k
+  streamed c s = P c (plain-streamed i c s)
 
   pub still-writes : Keeps F midiOut
-  unfolding midiOut
-  still-writes = search (still, still-drains)
+  still-writes = keeps-writes F streamed
 
   pub still-vendor : Keeps F readsVendor
-  unfolding readsVendor
-  still-vendor = search still
-
-  pub still-adds : Keeps F addsBudget
-  unfolding addsBudget
-  still-adds = search still
-
-  pub still-clears : Keeps F clearsBudget
-  unfolding clearsBudget
-  still-clears = search still
-
-  pub still-frames : (n : ℕ) (bs : List ℕ) → Keeps F (keepsFrames n bs)
-  unfolding keepsFrames
-  still-frames zero bs = keeps-nothing F
-  still-frames (suc n) bs = keeps-then F _ _ (keeps-plain _ (λ w. refl)) (still-frames n _)
-
-  pub still-good : (b : List ℕ) → Keeps F (keepsGood b)
-  unfolding keepsGood
-  still-good b = search (still, still-frames)
-
-  pub still-block : (b : List ℕ) → Keeps F (keepsBlock b)
-  unfolding keepsBlock
-  still-block b = search (still, still-good)
-
-  pub still-blocks : (bs : List (List ℕ)) → Keeps F (keepsBlocks bs)
-  unfolding keepsBlocks
-  still-blocks [] = keeps-nothing F
-  still-blocks (b ∷ bs) = keeps-then F _ _ (still-block b) (still-blocks bs)
-
-  pub still-run : (r : Run) → Keeps F (keepsRun r)
-  unfolding keepsRun
-  still-run r = search (still, still-blocks)
-
-  pub still-inputs : Keeps F inputs
-  unfolding inputs
-  still-inputs = search (still, still-run)
+  still-vendor = keeps-vendor F streamed
 
   pub still-hears : Keeps F streamIn
-  unfolding streamIn
-  still-hears = search (still, still-adds, still-clears, still-inputs) depth 8
-
-  pub still-sends : (bs : List ℕ) → Keeps F (sendsBlock bs)
-  unfolding sendsBlock
-  still-sends bs = search still depth 12
-
-  pub still-unprimes : Keeps F unprimes
-  unfolding unprimes
-  still-unprimes = search still
-
-  pub still-outputs : Keeps F streamOut
-  unfolding streamOut
-  still-outputs = search (still, still-sends, still-unprimes) depth 8
+  still-hears = keeps-in F streamed
 
   pub still-streams : Keeps F streams
-  unfolding streams
-  still-streams = search (still, still-hears, still-outputs)
+  still-streams = keeps-streams F streamed
 
   pub still-returns : Keeps F returns
   unfolding returns
@@ -286,24 +279,12 @@ module _ {K : Type 0} {i : Ignored} (F : Fields K) (P : (c : Change) → plainBy
   -- ---- fields that MIDI that comes does not touch
 
   module _ (M : i .midi ≡ true) where
-    still-reads : (n : ℕ) → Keeps F (reads n)
-    unfolding reads
-    still-reads zero = keeps-nothing F
-    still-reads (suc n) =
-        let rest : Keeps F (reads n) = still-reads n in
-        search (still, rest) depth 8
-
     pub still-awake : (every : ℕ) → Keeps F (midiIn false every)
     unfolding midiIn
-    still-awake every = search (still, still-naks, still-reads) depth 8
-
-    still-serial : (n : ℕ) → Keeps F (drainsSerial n)
-    unfolding drainsSerial
-    still-serial n = search still depth 8
+    still-awake every = keeps-then F _ _ (keeps-naks F) (keeps-here F _ (λ v. keeps-reads F (λ bs. P (received bs) M) (λ n. P (count «midi_dtds» n) M) _))
 
     still-serves : Keeps F serialStep
-    unfolding serialStep
-    still-serves = search (still, still-serial) depth 8
+    still-serves = keeps-serves F (λ bs. P (received bs) M) (λ n. P (serial n) refl)
 
     -- a microframe's transfers, by its MIDI input
     pub still-transfers : (c : Settings) (t : ℕ) → Keeps F (midiIn (within (c .sleep) t) (c .«midi_every»)) → Keeps F (transfers c t)
@@ -322,9 +303,7 @@ module _ {K : Type 0} {i : Ignored} (F : Fields K) (P : (c : Change) → plainBy
     still-opens c = search (still, still-counts, still-ticks, still-back) depth 8
 
     pub still-suspends : (s : Bool) → Keeps F (suspends s)
-    unfolding suspends
-    still-suspends true = search still depth 8
-    still-suspends false = search still depth 8
+    still-suspends = keeps-suspends F (λ b. P (suspended b) G)
 
 module _ {K : Type 0} (F : Fields K) (P : (c : Change) → plain c ≡ true → (k : K) → F .on c k ≡ k) where
   pub still-enumerates : (c : Settings) → Keeps F (enumerates c)

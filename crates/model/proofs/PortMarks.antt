@@ -1,6 +1,6 @@
--- The port's marks in a microframe: gone, suspended and RS seen set, and beside them the count of microframes without MIDI: what each change does
--- to them, which steps leave them, and what the whole microframe makes of them.
-use Prim.Native.Nat.{ℕ, zero, suc, _+_, _%_, _^_}
+-- The port's marks in a microframe: gone, suspended and RS seen set, and beside them the count of microframes without MIDI: which steps leave
+-- them, and what the whole microframe makes of them.
+use Prim.Native.Nat.{ℕ, _+_, _%_, _^_}
 use mathlib.Core.Path.{_≡_, refl, ap, sym, _∙_}
 use mathlib.Core.Bool.{Bool, true, false, not, _&&_, _||_}
 use mathlib.Core.Logic.{_↔_}
@@ -9,204 +9,24 @@ use Rattle.bits.proofs.Tests.{false-true, not-true, and-first, and-second, and-
 use Rattle.record.specs.declared.Phase.{Phase}
 use Rattle.record.specs.declared.Phase.the-variants.{Idle, Vbus, Reset, Enumerate, Stream}
 use Rattle.record.specs.declared.Settings.{Settings}
-use Rattle.record.specs.Record.{wrapped, counted, Counter, microframes, «in_transfers», «out_transfers», «in_frames», «out_frames», «bad_blocks», «midi_dtds», «midi_asleep», «out_underruns», «midi_packets_out», «vendor_in_bytes», restarts, enumerations}
+use Rattle.record.specs.Record.{wrapped, counted, «midi_asleep»}
 use Rattle.record.specs.World.{World}
-use Rattle.record.specs.Change.{Change, bus, ran, lost, count, uf, phase, started, gone, suspended, wasRunning, credit, budget, counter, block, timers, control, queued, popped, pushed, cleared, reply, device, config, forgot, midi, serial, received, frame, taken, apply, left, _then_, nothing, when, one, here}
+use Rattle.record.specs.Change.{phase, gone, suspended, wasRunning, apply, left, _then_, nothing, when, one, here}
 use Rattle.model.specs.Phases.{within, ticks, forgets, unplugging, cable, sleeps, suspends, enters, departs, leaves}
-use Rattle.model.specs.Streams.{reads, midiIn, drainsSerial, serialStep, midiOut, readsVendor}
+use Rattle.model.specs.Streams.{midiIn, midiOut, readsVendor}
 use Rattle.model.specs.Audio.{streams}
 use Rattle.model.specs.Microframe.{rsSet, goneAt, asleepAt, streaming, opens, enumerates, others, transfers, talks, atPhase, byPhase, frameOf, microframe}
 use Rattle.model.specs.Reach.{streamsIn, toPhase, phaseBy, outputBy, leftBy, reachesOutput, deviceLeft}
 use Rattle.model.specs.PortMarks.{InGone, InSuspend, RunBit, RunTested, NoMidi, cableOut, busSuspended, midiSleeps}
-use Rattle.model.proofs.Fields.{Fields, Keeps, fields-then, fields-if, keeps-then, keeps-if, keeps-nothing, keeps-one, keeps-bus, keeps-page, keeps-runs, keeps-here}
+use Rattle.model.proofs.Fields.{Keeps, fields-then, fields-if, keeps-then, keeps-if, keeps-nothing, keeps-page, keeps-here}
 use Rattle.model.proofs.OneBlock.{talking, getsTo, gets-closed}
 use Rattle.model.proofs.History.{four}
-use Rattle.model.proofs.Plain.{plain, plainCounter, still-counts, still-ticks, still-forgets, still-returns, still-enters, still-idles, still-powers, still-resets, still-enumerates, still-naks, still-streams, still-writes, still-vendor}
+use Rattle.model.proofs.Streaming.{keeps-naks, keeps-reads, keeps-serves}
+use Rattle.model.proofs.Marking.{PortMarks, marksBy, marksOf, marks, marks-plain}
+use Rattle.model.proofs.Plain.{still-counts, still-ticks, still-forgets, still-returns, still-enters, still-idles, still-powers, still-resets, still-enumerates, still-streams, still-writes, still-vendor}
 use Rattle.model.proofs.Spans.{within-between, gone-spans, suspend-span, run-bit}
 
-pub record PortMarks : Type 0 where
-  pub gone : Bool
-  pub suspended : Bool
-  pub running : Bool
-  pub asleep : ℕ
-
-abbrev pub marksBy : Bool → Bool → Bool → ℕ → PortMarks
-marksBy g s r n = record { gone = g; suspended = s; running = r; asleep = n }
-
-abbrev pub marksOf : World → PortMarks
-marksOf w = marksBy (w .state .port .gone) (w .state .port .suspended) (w .state .port .«was_running») (w .state .stats .«midi_asleep»)
-
-abbrev asleepOn : Counter → ℕ → ℕ → ℕ
-asleepOn microframes n k = k
-asleepOn «in_transfers» n k = k
-asleepOn «out_transfers» n k = k
-asleepOn «in_frames» n k = k
-asleepOn «out_frames» n k = k
-asleepOn «bad_blocks» n k = k
-asleepOn «midi_dtds» n k = k
-asleepOn «midi_asleep» n k = wrapped (k + n)
-asleepOn «out_underruns» n k = k
-asleepOn «midi_packets_out» n k = k
-asleepOn «vendor_in_bytes» n k = k
-asleepOn restarts n k = k
-asleepOn enumerations n k = k
-
-abbrev pub marksOn : Change → PortMarks → PortMarks
-marksOn (bus s) k = k
-marksOn (ran e r n) k = k
-marksOn (lost n) k = k
-marksOn (count c n) k = marksBy (k .gone) (k .suspended) (k .running) (asleepOn c n (k .asleep))
-marksOn (uf n) k = k
-marksOn (phase p) k = k
-marksOn (started n) k = k
-marksOn (gone b) k = marksBy b (k .suspended) (k .running) (k .asleep)
-marksOn (suspended b) k = marksBy (k .gone) b (k .running) (k .asleep)
-marksOn (wasRunning b) k = marksBy (k .gone) (k .suspended) b (k .asleep)
-marksOn (credit n) k = k
-marksOn (budget n) k = k
-marksOn (counter n) k = k
-marksOn (block n m) k = k
-marksOn (timers ts) k = k
-marksOn (control c) k = k
-marksOn (queued bs) k = k
-marksOn popped k = k
-marksOn (pushed bs) k = k
-marksOn cleared k = k
-marksOn (reply n bs) k = k
-marksOn (device bs) k = k
-marksOn (config bs) k = k
-marksOn forgot k = k
-marksOn (midi n) k = k
-marksOn (serial n) k = k
-marksOn (received bs) k = k
-marksOn (frame f) k = k
-marksOn (taken n) k = k
-
-marks-count : (c : Counter) (n : ℕ) (w : World) → marksOf (apply (count c n) w) ≡ marksOn (count c n) (marksOf w)
-unfolding apply counted
-marks-count microframes n w = refl
-marks-count «in_transfers» n w = refl
-marks-count «out_transfers» n w = refl
-marks-count «in_frames» n w = refl
-marks-count «out_frames» n w = refl
-marks-count «bad_blocks» n w = refl
-marks-count «midi_dtds» n w = refl
-marks-count «midi_asleep» n w = refl
-marks-count «out_underruns» n w = refl
-marks-count «midi_packets_out» n w = refl
-marks-count «vendor_in_bytes» n w = refl
-marks-count restarts n w = refl
-marks-count enumerations n w = refl
-
-pub marks-apply : (c : Change) (w : World) → marksOf (apply c w) ≡ marksOn c (marksOf w)
-unfolding apply
-marks-apply (bus s) w = refl
-marks-apply (ran e r n) w = refl
-marks-apply (lost n) w = refl
-marks-apply (count c n) w = marks-count c n w
-marks-apply (uf n) w = refl
-marks-apply (phase p) w = refl
-marks-apply (started n) w = refl
-marks-apply (gone b) w = refl
-marks-apply (suspended b) w = refl
-marks-apply (wasRunning b) w = refl
-marks-apply (credit n) w = refl
-marks-apply (budget n) w = refl
-marks-apply (counter n) w = refl
-marks-apply (block n m) w = refl
-marks-apply (timers ts) w = refl
-marks-apply (control c) w = refl
-marks-apply (queued bs) w = refl
-marks-apply popped w = refl
-marks-apply (pushed bs) w = refl
-marks-apply cleared w = refl
-marks-apply (reply n bs) w = refl
-marks-apply (device bs) w = refl
-marks-apply (config bs) w = refl
-marks-apply forgot w = refl
-marks-apply (midi n) w = refl
-marks-apply (serial n) w = refl
-marks-apply (received bs) w = refl
-marks-apply (frame f) w = refl
-marks-apply (taken n) w = refl
-
-abbrev pub marks : Fields PortMarks
-marks =
-    record {
-      of = marksOf;
-      on = marksOn;
-      applies = marks-apply;
-      stores = λ s k. refl;
-      marks = λ e n m k. refl;
-      drops = λ n k. refl;
-    }
-
 -- ---- from the choice by phase on no step changes them but the MIDI step in its sleep span
-
-marks-counter : (c : Counter) → plainCounter c ≡ true → (n : ℕ) (k : PortMarks) → marksOn (count c n) k ≡ k
-marks-counter microframes e n k = refl
-marks-counter «in_transfers» e n k = refl
-marks-counter «out_transfers» e n k = refl
-marks-counter «in_frames» e n k = refl
-marks-counter «out_frames» e n k = refl
-marks-counter «bad_blocks» e n k = refl
-marks-counter «midi_dtds» e n k = absurd (false-true e)
-marks-counter «midi_asleep» e n k = absurd (false-true e)
-marks-counter «out_underruns» e n k = refl
-marks-counter «midi_packets_out» e n k = refl
-marks-counter «vendor_in_bytes» e n k = refl
-marks-counter restarts e n k = refl
-marks-counter enumerations e n k = refl
-
-marks-plain : (c : Change) → plain c ≡ true → (k : PortMarks) → marksOn c k ≡ k
-marks-plain (bus s) h k = refl
-marks-plain (ran e r n) h k = refl
-marks-plain (lost n) h k = refl
-marks-plain (count c n) h k = marks-counter c h n k
-marks-plain (uf n) h k = refl
-marks-plain (phase p) h k = refl
-marks-plain (started n) h k = refl
-marks-plain (gone b) h k = absurd (false-true h)
-marks-plain (suspended b) h k = absurd (false-true h)
-marks-plain (wasRunning b) h k = absurd (false-true h)
-marks-plain (credit n) h k = refl
-marks-plain (budget n) h k = refl
-marks-plain (counter n) h k = refl
-marks-plain (block n m) h k = refl
-marks-plain (timers ts) h k = refl
-marks-plain (control c) h k = refl
-marks-plain (queued bs) h k = refl
-marks-plain popped h k = refl
-marks-plain (pushed bs) h k = refl
-marks-plain cleared h k = refl
-marks-plain (reply n bs) h k = refl
-marks-plain (device bs) h k = refl
-marks-plain (config bs) h k = refl
-marks-plain forgot h k = refl
-marks-plain (midi n) h k = refl
-marks-plain (serial n) h k = refl
-marks-plain (received bs) h k = absurd (false-true h)
-marks-plain (frame f) h k = refl
-marks-plain (taken n) h k = refl
-
-ruleset still = (keeps-then, keeps-if, keeps-nothing, keeps-one, keeps-bus, keeps-page, keeps-runs, keeps-here)
-
-still-reads : (n : ℕ) → Keeps marks (reads n)
-unfolding reads
-still-reads zero = keeps-nothing marks
-still-reads (suc n) =
-    let rest : Keeps marks (reads n) = still-reads n in
-    search (still, rest) depth 8
-
-still-serial : (n : ℕ) → Keeps marks (drainsSerial n)
-unfolding drainsSerial
-still-serial n = search still depth 8
-
-still-serves : Keeps marks serialStep
-unfolding serialStep
-still-serves = search (still, still-serial) depth 8
-
--- ---- the steps that change them
 
 -- a microframe without MIDI is counted, where b
 abbrev counting : Bool → PortMarks → PortMarks
@@ -222,7 +42,7 @@ marks-midi true every v = marks-sleeps v
 marks-midi false every v = awake v
   where
     awake : Keeps marks (midiIn false every)
-    awake = keeps-then marks _ _ (still-naks marks marks-plain) (keeps-here marks _ (λ w. still-reads _))
+    awake = keeps-then marks _ _ (keeps-naks marks) (keeps-here marks _ (λ w. keeps-reads marks (λ bs k. refl) (λ n k. refl) _))
 
 count-and : (a b : Bool) (k : PortMarks) → pick a (counting b k) k ≡ counting (a && b) k
 count-and true b k = refl
@@ -254,7 +74,7 @@ unfolding transfers
 marks-transfers c t u =
     fields-if marks _ _ _ u
     ∙ pick-eq (streaming (u .state .phase))
-    (fields-if marks _ _ _ u ∙ pick-eq (c .cdc) (still-serves u) (fields-then marks streams (others c t) u ∙ marks-others c t _ ∙ ap (counting (midiAsleep c t)) (still-streams marks marks-plain u)))
+    (fields-if marks _ _ _ u ∙ pick-eq (c .cdc) (keeps-serves marks (λ bs k. refl) (λ n k. refl) u) (fields-then marks streams (others c t) u ∙ marks-others c t _ ∙ ap (counting (midiAsleep c t)) (still-streams marks marks-plain u)))
     (keeps-nothing marks u)
     ∙ serial-or (streaming (u .state .phase)) (c .cdc) (midiAsleep c t) (marksOf u)
 

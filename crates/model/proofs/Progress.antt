@@ -15,11 +15,12 @@ use Rattle.record.specs.declared.Settings.{Settings}
 use Rattle.record.specs.Record.{counted, wrapped}
 use Rattle.record.specs.World.{World}
 use Rattle.record.specs.Change.{Change, bus, ran, lost, count, uf, phase, started, gone, suspended, wasRunning, credit, budget, counter, block, timers, control, queued, popped, pushed, cleared, reply, device, config, forgot, midi, serial, received, frame, taken, apply, drained, Step, left, nothing, if, when, one, here}
-use Rattle.model.specs.Phases.{counts, ticks, cable, suspends, leaves, startsFrame}
+use Rattle.model.specs.Phases.{counts, ticks, cable, suspends, leaves}
 use Rattle.model.specs.Microframe.{rsSet, goneAt, asleepAt, opens, byPhase, atPhase, frameOf, microframe}
 use Rattle.model.specs.Reach.{toPhase, phaseBy, leftBy, deviceLeft}
 use Rattle.model.specs.Progress.{Present}
-use Rattle.model.proofs.Fields.{Fields, Keeps, fields-then, keeps-then, keeps-if, keeps-nothing, keeps-one, keeps-bus, keeps-page, keeps-runs, keeps-here}
+use Rattle.model.proofs.Fields.{Fields, Keeps, fields-then, keeps-if, keeps-nothing}
+use Rattle.model.proofs.Single.{keeps-ticks, keeps-suspends}
 use Rattle.model.proofs.History.{four}
 
 -- waiting and queue: how many setups wait, and their array; t: the phase's start
@@ -131,8 +132,6 @@ when-false t f w e = if-false t f nothing w e
 
 -- ---- up to the choice by phase
 
-ruleset keeps-rules = (keeps-then, keeps-if, keeps-nothing, keeps-one, keeps-bus, keeps-page, keeps-runs, keeps-here)
-
 -- one microframe more (375)
 abbrev pub next : Stand → Stand
 next k = standBy (k .phase) (k .control) (k .waiting) (k .queue) (wrapped (k .uf + 1)) (k .t) (k .gone) (k .wasRunning)
@@ -144,21 +143,12 @@ stand-counts : (w : World) → standOf (left counts w) ≡ next (standOf w)
 unfolding counts andThen one apply counted
 stand-counts w = refl
 
-keeps-ticks : Keeps stands ticks
-unfolding ticks
-keeps-ticks = search keeps-rules depth 8
-
 pub keeps-resumes : Keeps stands (suspends false)
-unfolding suspends
-keeps-resumes = search keeps-rules
-
-pub keeps-frame : Keeps stands startsFrame
-unfolding startsFrame
-keeps-frame = search keeps-rules
+keeps-resumes = keeps-suspends stands (λ b k. refl) false
 
 -- timers or none
 pub stand-ticks : (c : Settings) (w : World) → standOf (left (when (λ v. c .«midi_in») ticks) (left counts w)) ≡ next (standOf w)
-stand-ticks c w = keeps-if stands _ ticks nothing keeps-ticks (keeps-nothing stands) (left counts w) ∙ stand-counts w
+stand-ticks c w = keeps-if stands _ ticks nothing (keeps-ticks stands (λ ts k. refl)) (keeps-nothing stands) (left counts w) ∙ stand-counts w
 
 -- 374-407: the host was not gone: nothing comes back
 pub stand-opens : (c : Settings) (w : World) → w .state .port .gone ≡ false → standOf (left (opens c false) w) ≡ next (standOf w)

@@ -46,10 +46,11 @@ use Rattle.model.specs.Reach.{toPhase, phaseBy}
 use Rattle.model.specs.Progress.{Present, GoesOn, Posts, RunsOn, takesData, statusOf, atControl, Answers}
 use Rattle.model.proofs.Fields.{fields-then, keeps-bus, keeps-page, keeps-one, left-runs, ranWorld}
 use Rattle.model.proofs.Placed.{Placed, placed-first, placed-second, placed-true, placed-false, placed-here}
-use Rattle.model.proofs.Progress.{Stand, standBy, standOf, stands, if-true, if-false, when-true, when-false, keeps-frame, there, opened, stand-there, frame-in, stays-running}
+use Rattle.model.proofs.Progress.{Stand, standBy, standOf, stands, if-true, if-false, when-true, when-false, there, opened, stand-there, frame-in, stays-running}
 use Rattle.model.proofs.Same.{Same, same-then, same-if, same-nothing, same-pick, same-here, same-one, same-bus, same-page, same-ran, same-runs}
 use Rattle.model.proofs.Words.{Alike, alike-then, alike-phase, alike-frame, word-back}
 use Rattle.model.proofs.Flagged.{Interrupted, run-flags, run-answers}
+use Rattle.model.proofs.Single.{keeps-frame}
 use Rattle.model.proofs.Transferring.{Untouched, keeps-transfers}
 
 -- ---- a setup is posted (625-645)
@@ -506,7 +507,7 @@ module _ (t : ℕ) (w : World) (p : Present t w) (e : w .state .phase ≡ Enumer
   asked = left startsFrame (there t w p)
 
   asked-stand : standOf asked ≡ opened t w p
-  asked-stand = keeps-frame (there t w p) ∙ stand-there t w p (stays-running t w rs)
+  asked-stand = keeps-frame stands (there t w p) ∙ stand-there t w p (stays-running t w rs)
 
   asked-page : length (w .memory .page) ≡ 4096 → Alike (w .memory .page) (asked .memory .page)
   asked-page h =

@@ -1,20 +1,17 @@
 -- The transfers of a streaming microframe leave alone what is neither audio, nor a queue of bytes, nor a count (usbhost.rs 497-509, 773-952).
-use Prim.Native.Nat.{ℕ, zero, suc}
+use Prim.Native.Nat.{ℕ}
 use mathlib.Core.Path.{_≡_}
 use mathlib.Core.Bool.{Bool, true, false}
-use mathlib.Core.List.{List, [], _∷_}
-use lib.ListN.{drop}
-use Rattle.bits.specs.Pick.{pick}
-use Rattle.dtd.specs.Dtd.{Run}
+use mathlib.Core.List.{List}
 use Rattle.record.specs.declared.Settings.{Settings}
-use Rattle.record.specs.Record.{Counter}
-use Rattle.record.specs.World.{World}
-use Rattle.record.specs.Change.{count, credit, budget, counter, midi, serial, received, frame, taken, Step, one}
-use Rattle.model.specs.Phases.{sleeps}
-use Rattle.model.specs.Streams.{naks, reads, midiIn, drainsSerial, serialStep, drainsMidi, midiOut, readsVendor}
-use Rattle.model.specs.Audio.{addsBudget, clearsBudget, keepsFrames, keepsGood, keepsBlock, keepsBlocks, keepsRun, inputs, streamIn, sendsBlock, unprimes, streamOut, streams}
+use Rattle.record.specs.Record.{Counter, «in_transfers», «out_transfers», «in_frames», «out_frames», «bad_blocks», «midi_dtds», «midi_asleep», «out_underruns», «midi_packets_out», «vendor_in_bytes»}
+use Rattle.record.specs.Change.{Change, count, credit, budget, counter, midi, serial, received, frame, taken, nothing}
+use Rattle.model.specs.Phases.{within}
+use Rattle.model.specs.Streams.{midiIn}
 use Rattle.model.specs.Microframe.{others, transfers}
-use Rattle.model.proofs.Fields.{Fields, Keeps, keeps-then, keeps-if, keeps-nothing, keeps-one, keeps-bus, keeps-page, keeps-runs, keeps-here}
+use Rattle.model.proofs.Single.{keeps-sleeps}
+use Rattle.model.proofs.Streaming.{Streamed, blockIn, framesIn, badBlock, blockOut, framesOut, underruns, packetsOut, vendorIn, credits, budgets, counters, midiSent, frameKept, framesTaken, keeps-naks, keeps-reads, keeps-serves, keeps-writes, keeps-vendor, keeps-streams}
+use Rattle.model.proofs.Fields.{Fields, Keeps, keeps-then, keeps-if, keeps-nothing, keeps-here}
 
 -- fields that none of the transfers' changes touches
 pub record Untouched {K : Type 0} (F : Fields K) : Type 0 where
@@ -29,145 +26,36 @@ pub record Untouched {K : Type 0} (F : Fields K) : Type 0 where
   pub takes : (n : ℕ) (k : K) → F .on (taken n) k ≡ k
 
 module _ {K : Type 0} (F : Fields K) (U : Untouched F) where
-  keeps-count : (c : Counter) (n : World → ℕ) → Keeps F (one (λ w. count c (n w)))
-  keeps-count c n = keeps-one F _ (λ w. U .counts c (n w) (F .of w))
-
-  keeps-credit : (n : World → ℕ) → Keeps F (one (λ w. credit (n w)))
-  keeps-credit n = keeps-one F _ (λ w. U .credits (n w) (F .of w))
-
-  keeps-budget : (n : World → ℕ) → Keeps F (one (λ w. budget (n w)))
-  keeps-budget n = keeps-one F _ (λ w. U .budgets (n w) (F .of w))
-
-  keeps-counter : (n : World → ℕ) → Keeps F (one (λ w. counter (n w)))
-  keeps-counter n = keeps-one F _ (λ w. U .counters (n w) (F .of w))
-
-  keeps-midi : (n : ℕ) → Keeps F (one (λ w. midi n))
-  keeps-midi n = keeps-one F _ (λ w. U .midis n (F .of w))
-
-  keeps-serial : (n : ℕ) → Keeps F (one (λ w. serial n))
-  keeps-serial n = keeps-one F _ (λ w. U .serials n (F .of w))
-
-  keeps-received : (bs : List ℕ) → Keeps F (one (λ w. received bs))
-  keeps-received bs = keeps-one F _ (λ w. U .receives bs (F .of w))
-
-  keeps-frame : (f : List ℕ) → Keeps F (one (λ w. frame f))
-  keeps-frame f = keeps-one F _ (λ w. U .frames f (F .of w))
-
-  keeps-taken : (n : World → ℕ) → Keeps F (one (λ w. taken (n w)))
-  keeps-taken n = keeps-one F _ (λ w. U .takes (n w) (F .of w))
-
-  keeps-pick : (t : Bool) (f g : Step) → Keeps F f → Keeps F g → Keeps F (pick t f g)
-  keeps-pick true f g p q = p
-  keeps-pick false f g p q = q
-
-  ruleset keeps-rules = (keeps-then, keeps-if, keeps-nothing, keeps-bus, keeps-page, keeps-runs, keeps-here, keeps-pick, keeps-count, keeps-credit, keeps-budget, keeps-counter, keeps-midi, keeps-serial, keeps-received, keeps-frame, keeps-taken)
-
-  -- ---- MIDI, serial, vendor
-
-  keeps-sleeps : Keeps F sleeps
-  unfolding sleeps
-  keeps-sleeps = search keeps-rules
-
-  keeps-reads : (n : ℕ) → Keeps F (reads n)
-  unfolding reads
-  keeps-reads zero = keeps-nothing F
-  keeps-reads (suc n) =
-      let rest : Keeps F (reads n) = keeps-reads n in
-      search (keeps-rules, rest) depth 8
-
-  keeps-naks : Keeps F naks
-  unfolding naks
-  keeps-naks = search keeps-rules
+  streamed : (c : Change) → Streamed c → (k : K) → F .on c k ≡ k
+  streamed _ (blockIn n) k = U .counts «in_transfers» n k
+  streamed _ (framesIn n) k = U .counts «in_frames» n k
+  streamed _ (badBlock n) k = U .counts «bad_blocks» n k
+  streamed _ (blockOut n) k = U .counts «out_transfers» n k
+  streamed _ (framesOut n) k = U .counts «out_frames» n k
+  streamed _ (underruns n) k = U .counts «out_underruns» n k
+  streamed _ (packetsOut n) k = U .counts «midi_packets_out» n k
+  streamed _ (vendorIn n) k = U .counts «vendor_in_bytes» n k
+  streamed _ (credits n) k = U .credits n k
+  streamed _ (budgets n) k = U .budgets n k
+  streamed _ (counters n) k = U .counters n k
+  streamed _ (midiSent n) k = U .midis n k
+  streamed _ (frameKept f) k = U .frames f k
+  streamed _ (framesTaken n) k = U .takes n k
 
   keeps-hears : (asleep : Bool) (every : ℕ) → Keeps F (midiIn asleep every)
   unfolding midiIn
-  keeps-hears true every = keeps-sleeps
-  keeps-hears false every = search (keeps-rules, keeps-naks, keeps-reads) depth 8
-
-  keeps-gives : (n : ℕ) → Keeps F (drainsSerial n)
-  unfolding drainsSerial
-  keeps-gives n = search keeps-rules depth 8
-
-  keeps-serves : Keeps F serialStep
-  unfolding serialStep
-  keeps-serves = search (keeps-rules, keeps-gives) depth 8
-
-  keeps-drains : (n : ℕ) → Keeps F (drainsMidi n)
-  unfolding drainsMidi
-  keeps-drains n = search keeps-rules depth 8
-
-  keeps-writes : Keeps F midiOut
-  unfolding midiOut
-  keeps-writes = search (keeps-rules, keeps-drains)
-
-  keeps-vendor : Keeps F readsVendor
-  unfolding readsVendor
-  keeps-vendor = search keeps-rules
+  keeps-hears true every = keeps-sleeps F (U .counts «midi_asleep»)
+  keeps-hears false every = keeps-then F _ _ (keeps-naks F) (keeps-here F _ (λ w. keeps-reads F (U .receives) (U .counts «midi_dtds») _))
 
   keeps-others : (c : Settings) (t : ℕ) → Keeps F (others c t)
   unfolding others
-  keeps-others c t = search (keeps-rules, keeps-hears, keeps-writes, keeps-vendor) depth 8
-
-  -- ---- audio
-
-  keeps-adds : Keeps F addsBudget
-  unfolding addsBudget
-  keeps-adds = search keeps-rules
-
-  keeps-clears : Keeps F clearsBudget
-  unfolding clearsBudget
-  keeps-clears = search keeps-rules
-
-  keeps-frames : (n : ℕ) (bs : List ℕ) → Keeps F (keepsFrames n bs)
-  unfolding keepsFrames
-  keeps-frames zero bs = keeps-nothing F
-  keeps-frames (suc n) bs =
-      let rest : Keeps F (keepsFrames n (drop 48 bs)) = keeps-frames n (drop 48 bs) in
-      search (keeps-rules, rest) depth 8
-
-  keeps-good : (b : List ℕ) → Keeps F (keepsGood b)
-  unfolding keepsGood
-  keeps-good b = search (keeps-rules, keeps-frames)
-
-  keeps-block : (b : List ℕ) → Keeps F (keepsBlock b)
-  unfolding keepsBlock
-  keeps-block b = search (keeps-rules, keeps-good)
-
-  keeps-blocks : (bs : List (List ℕ)) → Keeps F (keepsBlocks bs)
-  unfolding keepsBlocks
-  keeps-blocks [] = keeps-nothing F
-  keeps-blocks (b ∷ bs) =
-      let rest : Keeps F (keepsBlocks bs) = keeps-blocks bs in
-      search (keeps-rules, keeps-block, rest)
-
-  keeps-run : (r : Run) → Keeps F (keepsRun r)
-  unfolding keepsRun
-  keeps-run r = search (keeps-rules, keeps-blocks)
-
-  keeps-inputs : Keeps F inputs
-  unfolding inputs
-  keeps-inputs = search (keeps-rules, keeps-run)
-
-  keeps-in : Keeps F streamIn
-  unfolding streamIn
-  keeps-in = search (keeps-rules, keeps-adds, keeps-clears, keeps-inputs)
-
-  keeps-sends : (bs : List ℕ) → Keeps F (sendsBlock bs)
-  unfolding sendsBlock
-  keeps-sends bs = search keeps-rules depth 10
-
-  keeps-unprimes : Keeps F unprimes
-  unfolding unprimes
-  keeps-unprimes = search keeps-rules
-
-  keeps-out : Keeps F streamOut
-  unfolding streamOut
-  keeps-out = search (keeps-rules, keeps-sends, keeps-unprimes)
-
-  keeps-streams : Keeps F streams
-  unfolding streams
-  keeps-streams = search (keeps-rules, keeps-in, keeps-out)
+  keeps-others c t =
+      keeps-then F _ _ (keeps-if F _ _ nothing (keeps-hears (within (c .sleep) t) (c .«midi_every»)) (keeps-nothing F))
+      (keeps-if F _ _ nothing (keeps-then F _ _ (keeps-writes F streamed) (keeps-vendor F streamed)) (keeps-nothing F))
 
   pub keeps-transfers : (c : Settings) (t : ℕ) → Keeps F (transfers c t)
   unfolding transfers
-  keeps-transfers c t = search (keeps-rules, keeps-serves, keeps-streams, keeps-others)
+  keeps-transfers c t =
+      keeps-if F _ _ nothing
+      (keeps-if F _ _ _ (keeps-serves F (U .receives) (U .serials)) (keeps-then F _ _ (keeps-streams F streamed) (keeps-others c t)))
+      (keeps-nothing F)
