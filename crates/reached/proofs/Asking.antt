@@ -43,7 +43,7 @@ use Rattle.history.specs.Calls.{Call, microframe, step, after}
 use Rattle.history.specs.Sums.{Tally, none, tally}
 use Rattle.history.specs.Accepts.{numberOf, AtEach}
 use Rattle.reached.specs.Lists.{Areas, lend, withInput}
-use Rattle.reached.specs.Claims.{Accepted}
+use Rattle.reached.specs.Claims.{NoneRefused}
 use Rattle.reached.proofs.Standing.{Stand, Held, heldOf}
 use Rattle.reached.proofs.Opening.{openedHeld, Plain, awake-memory, ticked, phase-ticked, frame-in}
 use Rattle.reached.proofs.Page.{framedMemory, framed-memory}
@@ -134,7 +134,7 @@ frame-asked t w p e =
 pub record Does (cs : List Call) (P Q : Host → Type 0) : Type 0 where
   pub host : (h : Host) → P h → Q (after h cs)
   pub sums : (h : Host) → P h → (y : Tally) → tally h y cs ≡ y
-  pub numbers : (h : Host) → P h → Accepted h cs
+  pub numbers : (h : Host) → P h → NoneRefused h cs
 
 pub does-then : {cs ds : List Call} {P Q R : Host → Type 0} → Does cs P Q → Does ds Q R → Does (cs ++ ds) P R
 does-then {cs} {ds} {P} {Q} {R} p q =
@@ -208,7 +208,7 @@ module _ (a : Areas) (long : Long a) (calm : Calm withInput 0) (m : Memory) (fit
         tallied-is withInput a long refl 0 m fit k few h o y
         ∙ tested-tally 0 w false false 0 false (tested-early 0 w plain (ap streamsAt (o .stands) ∙ quiet)) y
 
-    numbers-by : Accepted h (call ∷ [])
+    numbers-by : NoneRefused h (call ∷ [])
     unfolding AtEach numberOf
     numbers-by = (accepted withInput a long refl 0 m fit k few h o, tt)
 

@@ -27,7 +27,7 @@ use Rattle.usbhost.specs.Frame.{worldOf, hostIn, lengthsOk, areaLengths, bounds
 use Rattle.history.specs.Calls.{Call, microframe, step, after}
 use Rattle.history.specs.Sums.{Tally, summed, tallied, tally}
 use Rattle.history.specs.Accepts.{numberOf, AtEach}
-use Rattle.reached.specs.Claims.{Accepted}
+use Rattle.reached.specs.Claims.{NoneRefused}
 use Rattle.reached.specs.Lists.{Areas, lend}
 use Rattle.reached.proofs.Standing.{Stand, standOf}
 use Rattle.reached.proofs.Page.{Stopped}
@@ -80,7 +80,7 @@ pub record Goes (t : ℕ) (w : World) (k : Stand) (y y′ : Tally) : Type 0 wher
 pub record Leads (c : Settings) (a : Areas) (cs : List Call) (k k′ : Stand) (y y′ : Tally) : Type 0 where
   pub host : (h : Host) → On c a k h → On c a k′ (after h cs)
   pub sums : (h : Host) → On c a k h → tally h y cs ≡ y′
-  pub numbers : (h : Host) → On c a k h → Accepted h cs
+  pub numbers : (h : Host) → On c a k h → NoneRefused h cs
 
 pub leads-none : (c : Settings) (a : Areas) (k : Stand) (y : Tally) → Leads c a [] k k y y
 unfolding after tally AtEach
@@ -96,7 +96,7 @@ unfolding after tally
 tally-append h y [] ds = refl
 tally-append h y (c ∷ cs) ds = tally-append (step h c) (tallied h y c) cs ds
 
-pub accepted-append : (h : Host) (cs ds : List Call) → Accepted h cs → Accepted (after h cs) ds → Accepted h (cs ++ ds)
+pub accepted-append : (h : Host) (cs ds : List Call) → NoneRefused h cs → NoneRefused (after h cs) ds → NoneRefused h (cs ++ ds)
 unfolding after AtEach
 accepted-append h [] ds p q = q
 accepted-append h (c ∷ cs) ds p q = (p .0, accepted-append (step h c) cs ds (p .1) q)

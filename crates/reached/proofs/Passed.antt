@@ -40,7 +40,7 @@ use Rattle.history.specs.Accepts.{numberOf, AtEach}
 use Rattle.history.proofs.History.{by-test}
 use Rattle.history.proofs.OneCall.{accepted-ring}
 use Rattle.reached.specs.Lists.{Areas, lend, withRings, words, primedPage, soundAt400, roomAt420, plain, gives, hearing, answering, passing}
-use Rattle.reached.specs.Claims.{frames, Accepted}
+use Rattle.reached.specs.Claims.{frames, NoneRefused}
 use Rattle.reached.proofs.Standing.{Stand}
 use Rattle.reached.proofs.Opening.{openedMemory}
 use Rattle.reached.proofs.Page.{framedMemory}
@@ -427,7 +427,7 @@ module _ (a : Areas) (f : List ℕ) (long : Long a) (static-length : length f �
 
   -- ---- the list
 
-  pub passing-numbers : Accepted h (passing a f x h)
+  pub passing-numbers : NoneRefused h (passing a f x h)
   unfolding passing AtEach numberOf
   passing-numbers = (give-number, (number₂, (number₃, (take-number, tt))))
 

@@ -29,7 +29,7 @@ use Rattle.history.specs.Sums.{Sums, Tally, none, summed, sums, tallied, tally}
 use Rattle.history.proofs.History.{history}
 use Rattle.history.proofs.Table.{table-counters}
 use Rattle.reached.specs.Lists.{Areas, lend, smallAreas, zeroStatic, words, stalledPage, stoppedPage, primedPage, blockAt400, blockAt600, roomAt420, roomAt620, plain, withStack, withSpan, withSleep, withInput, noData, deviceAnswer, headerAnswer, wholeAnswer, frame, rests, asked, brings, takes, toStream, inAndOut, inAndOutAtOnce, badBlock, rewritten, oneBlock, goneAndBack, goneAndAgain, thenSuspended, thenResumed, thenAsleep, toEnumerate, answersHeader, answersWhole, answersSetups, thenStreams, thenInAndOut, runBitCleared, gives, hearing, heard, answering, answered, passing, streamed, givenAndTaken}
-use Rattle.reached.specs.Claims.{Lendable, frames, Accepted, Ends, Hears, Passes, Rests, Waits, Settled, Reached}
+use Rattle.reached.specs.Claims.{Lendable, frames, NoneRefused, Ends, Hears, Passes, Rests, Waits, Settled, Reached}
 use Rattle.reached.proofs.Standing.{Stand}
 use Rattle.reached.proofs.Page.{framedMemory}
 use Rattle.reached.proofs.Opening.{openedMemory}
@@ -110,7 +110,7 @@ module _ (a : Areas) (f : List ℕ) (l : Lendable a f) where
 
   -- from what a list comes to: the credit is what the history leaves, and the counters are what the table says
   ends-by : (c : Settings) (cs : List Call) (p : Phase) (since ever : Sums) (credit : ℕ) → since .received ≡ since .sent + credit
-      → tally (newHost c) fresh cs ≡ record { since = since; ever = ever } → after (newHost c) cs .phase ≡ p → Accepted (newHost c) cs → Ends c cs since ever credit p
+      → tally (newHost c) fresh cs ≡ record { since = since; ever = ever } → after (newHost c) cs .phase ≡ p → NoneRefused (newHost c) cs → Ends c cs since ever credit p
   ends-by c cs p since ever credit sum is there numbers =
       let same : sums (newHost c) none cs ≡ since = since-is (newHost c) fresh cs ∙ ap (λ (y : Tally). y .since) is in
       let balanced = history c cs .balance in

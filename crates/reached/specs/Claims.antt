@@ -36,8 +36,8 @@ abbrev pub Made : Settings → Type 0
 Made c = created c ≡ record { refusal = 0; host = newHost c }
 
 -- no call of a list is refused, each on the record that the ones before it left
-abbrev pub Accepted : Host → List Call → Type 0
-Accepted = AtEach (λ h c. numberOf h c ≡ 0)
+abbrev pub NoneRefused : Host → List Call → Type 0
+NoneRefused = AtEach (λ h c. numberOf h c ≡ 0)
 
 -- from a new host: the frames since the last reset, and through every reset, which the record's two counters say; the credit; the phase;
 -- and no call of the list was refused
@@ -48,7 +48,7 @@ pub record Ends (c : Settings) (cs : List Call) (since ever : Sums) (credit : �
   pub frames-in : after (newHost c) cs .stats .«in_frames» ≡ ever .received
   pub frames-out : after (newHost c) cs .stats .«out_frames» ≡ ever .sent
   pub phase : after (newHost c) cs .phase ≡ p
-  pub accepted : Accepted (newHost c) cs
+  pub accepted : NoneRefused (newHost c) cs
 
 -- the microframe that comes next reaches its input step, whose endpoint is ready, and reads these blocks
 pub record Hears (c : Settings) (cs : List Call) (l : Lent) (blocks : List (List ℕ)) : Type 0 where
