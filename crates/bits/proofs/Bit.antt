@@ -5,9 +5,10 @@ use native.Mathlib.Omega.{arith}
 use native.Mathlib.Nat.{pow-suc, min-le-left, max-le, zero-min, suc-min-suc, min-zero, add-zero, mul-assoc, zero-mul, one-mul}
 use lib.Bits.{bitAnd, bitOr, and-step, or-step, and-lt, and-le-l, and-le-r, and-mask, or-lt}
 use lib.Dec.{eqb}
-use lib.Pow.{pow-pos, pow-lt}
+use lib.Pow.{pow-pos, pow-lt, shr-shr}
 use mathlib.Core.Bool.{not, true, false}
-use borrow.Author.Tests.{eq-eqb, ne-eqb}
+use mathlib.Core.Logic.{_↔_}
+use borrow.Author.Tests.{eqb-true, eq-eqb, ne-eqb}
 use Rattle.bits.specs.Word.{clear, set, any, replace, inv32}
 
 -- bit k of v
@@ -19,6 +20,14 @@ pub bit-lt : (k v : ℕ) → bit k v < 2
 unfolding bit
 bit-lt zero v = omega arith
 bit-lt (suc k) v = bit-lt k (v / 2)
+
+-- the same by a power of two
+pub bit-at : (k v : ℕ) → bit k v ≡ v / 2 ^ k % 2
+unfolding bit
+bit-at zero v = omega arith
+bit-at (suc k) v =
+    let e : 1 + k ≡ suc k = omega arith in
+    bit-at k (v / 2) ∙ ap (λ (x : ℕ). x % 2) (shr-shr v 1 k ∙ ap (λ (j : ℕ). v / 2 ^ j) e)
 
 min-lt : (a b : ℕ) → a < 2 → min a b < 2
 min-lt a b h = omega (arith, min-le-left a b)
@@ -113,6 +122,13 @@ bit-test k (suc (suc b)) h = absurd (omega arith)
 
 pub any-bit : (k v : ℕ) → any v (2 ^ k) ≡ eqb (bit k v) 1
 any-bit k v = ap (λ x. not (eqb x 0)) (bit-mask k v) ∙ bit-test k (bit k v) (bit-lt k v)
+
+-- and as a fact
+pub any-is : (k v : ℕ) → (any v (2 ^ k) ≡ true) ↔ (v / 2 ^ k % 2 ≡ 1)
+any-is k v = (
+  λ h. sym (bit-at k v) ∙ eqb-true (bit k v) 1 (sym (any-bit k v) ∙ h),
+  λ h. any-bit k v ∙ eq-eqb (bit k v) 1 (bit-at k v ∙ h),
+)
 
 -- ---- words stay words
 

@@ -24,6 +24,10 @@ pub not-true : (a : Bool) → not a ≡ true → a ≡ false
 not-true true e = sym e
 not-true false e = refl
 
+pub not-holds : (a : Bool) → ¬ (a ≡ true) → a ≡ false
+not-holds true n = absurd (n refl)
+not-holds false n = refl
+
 pub and-false : (a : Bool) → (a && false) ≡ false
 and-false true = refl
 and-false false = refl

@@ -19,6 +19,7 @@ pub mod InputStep
 pub mod Waking
 pub mod Blocks
 pub mod Decoded
+pub mod Ready
 pub mod Retired
 pub mod Progress
 pub mod Same

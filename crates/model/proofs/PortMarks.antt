@@ -5,7 +5,7 @@ use mathlib.Core.Path.{_≡_, refl, ap, sym, _∙_}
 use mathlib.Core.Bool.{Bool, true, false, not, _&&_, _||_}
 use mathlib.Core.Logic.{_↔_}
 use Rattle.bits.specs.Pick.{pick, pick-eq}
-use Rattle.bits.proofs.Tests.{false-true, not-true, and-first, and-second, and-both, or-case, or-second}
+use Rattle.bits.proofs.Tests.{false-true, not-true, not-holds, and-first, and-second, and-both, or-case, or-second}
 use Rattle.record.specs.declared.Phase.{Phase}
 use Rattle.record.specs.declared.Phase.the-variants.{Idle, Vbus, Reset, Enumerate, Stream}
 use Rattle.record.specs.declared.Settings.{Settings}
@@ -220,10 +220,6 @@ marks-microframe t w = marks-frame t (rsSet w) (goneAt t w) (asleepAt t w) w
 
 -- ---- the same in the papers' words
 
-unset : (b : Bool) → ¬ (b ≡ true) → b ≡ false
-unset true n = absurd (n refl)
-unset false n = refl
-
 -- a value that is a test
 pub is-test : {P : Type 0} {a b : Bool} → a ≡ b → (b ≡ true) ↔ P → (a ≡ true) ↔ P
 is-test e p = (λ x. p .0 (sym e ∙ x), λ y. e ∙ p .1 y)
@@ -242,7 +238,7 @@ module _ (t : ℕ) (w : World) where
 
   pub suspend-mark : ¬ InGone (w .settings) t → (next .state .port .suspended ≡ true) ↔ InSuspend (w .settings) t
   suspend-mark present =
-      is-test (suspended-is ∙ ap (λ (g : Bool). pick g (w .state .port .suspended) (asleepAt t w)) (unset (goneAt t w) (λ e. present (gone-spans t w .0 e))))
+      is-test (suspended-is ∙ ap (λ (g : Bool). pick g (w .state .port .suspended) (asleepAt t w)) (not-holds (goneAt t w) (λ e. present (gone-spans t w .0 e))))
       (suspend-span t w)
 
   pub suspend-kept : InGone (w .settings) t → next .state .port .suspended ≡ w .state .port .suspended
@@ -254,7 +250,7 @@ module _ (t : ℕ) (w : World) where
 
   pub run-mark : RunTested (w .settings) t → (next .state .port .«was_running» ≡ true) ↔ RunBit (w .memory .page)
   run-mark r =
-      is-test (running-is ∙ simp (r .stack, unset (goneAt t w) (λ e. r .present (gone-spans t w .0 e)), unset (asleepAt t w) (λ e. r .awake (suspend-span t w .0 e))))
+      is-test (running-is ∙ simp (r .stack, not-holds (goneAt t w) (λ e. r .present (gone-spans t w .0 e)), not-holds (asleepAt t w) (λ e. r .awake (suspend-span t w .0 e))))
       (run-bit w)
 
   -- and otherwise as before
@@ -311,4 +307,4 @@ module _ (t : ℕ) (w : World) where
   asleep-counted n = asleep-is ∙ ap (λ (b : Bool). pick b (wrapped (w .state .stats .«midi_asleep» + 1)) (w .state .stats .«midi_asleep»)) (read-or-not .1 n)
 
   pub asleep-kept : ¬ NoMidi t w → next .state .stats .«midi_asleep» ≡ w .state .stats .«midi_asleep»
-  asleep-kept n = asleep-is ∙ ap (λ (b : Bool). pick b (wrapped (w .state .stats .«midi_asleep» + 1)) (w .state .stats .«midi_asleep»)) (unset unread (λ e. n (read-or-not .0 e)))
+  asleep-kept n = asleep-is ∙ ap (λ (b : Bool). pick b (wrapped (w .state .stats .«midi_asleep» + 1)) (w .state .stats .«midi_asleep»)) (not-holds unread (λ e. n (read-or-not .0 e)))

@@ -5,20 +5,19 @@ use mathlib.Core.Path.{_≡_, refl, ap, ap₂, sym, subst, _∙_}
 use mathlib.Core.Bool.{true, false, not, _&&_}
 use mathlib.Core.List.{List, [], _∷_, _++_, map, append-assoc, map-append}
 use native.Mathlib.Omega.{arith}
-use borrow.Author.Tests.{eqb-true}
 use lib.Bits.{bitAnd, bitOr, and-mask, and-high, and-shr, or-shr, or-zero-r}
 use lib.ListN.{length, getD, drop}
 use Rattle.bits.specs.Word.{clear, inv32}
-use Rattle.bits.proofs.Bit.{bit, any-bit}
+use Rattle.bits.proofs.Bit.{any-is}
 use Rattle.bits.proofs.Tests.{and-first, and-second}
-use Rattle.bus.specs.Memory.{Memory, after, peek32}
+use Rattle.bus.specs.Memory.{Memory, after, peek8}
 use Rattle.bus.specs.Steps.{andThen}
 use Rattle.bus.specs.Stores.{Bus, Store, word, byte, irq, putting}
 use Rattle.usbdev.specs.Transfer.{totalOf, tokenAfter}
 use Rattle.usbdev.proofs.Tokens.{total-is, total-lt, total-after, low-after}
 use Rattle.transfer.specs.Transfer.{dataAddr, pointers, stores, sending}
-use Rattle.transfer.proofs.Laws.{length-bytesIn}
-use Rattle.dtd.specs.Dtd.{Endpoint, bitOf, primed, terminates, descriptor, tokenOf, nextDtd, isActive, nextActive, moves, dataOut, closing, retiring, turning, most, runDtds, finishing}
+use Rattle.transfer.proofs.Laws.{length-bytesIn, getD-bytesIn}
+use Rattle.dtd.specs.Dtd.{Endpoint, bitOf, primed, terminates, descriptor, tokenOf, nextDtd, nextActive, moves, dataOut, closing, retiring, turning, most, runDtds, finishing}
 use Rattle.dtd.proofs.Runs.{IsActive, active-stores}
 use Rattle.record.specs.World.{World, busOf}
 use Rattle.record.specs.Change.{Change, bus, Step}
@@ -27,7 +26,9 @@ use Rattle.model.specs.Microframe.{microframe}
 use Rattle.model.specs.Reach.{reachesInput, reachesOutput, atInput, atOutput, inputReady, outputReady}
 use Rattle.model.specs.Claims.{blockFirst, sendsAt, outPointer, outToken, outMoved, blockStores}
 use Rattle.model.specs.Ring.{inPointer, inToken, inMoved, inBytes, inStores}
-use Rattle.model.specs.Retired.{TokenRetired, tokenAddress, StoresToken, blockData}
+use Rattle.model.specs.Ready.{tokenAddress}
+use Rattle.model.specs.Retired.{TokenRetired, StoresToken, blockData}
+use Rattle.model.proofs.Ready.{token-address}
 use Rattle.model.proofs.Placed.{Placed}
 use Rattle.model.proofs.OneBlock.{one-block}
 use Rattle.model.proofs.InputStep.{placed-input, inputs-changes}
@@ -67,14 +68,6 @@ token-retired tok n =
     }
 
 -- ---- stores
-
-token-address : (n : ℕ) → after (descriptor n) 4 ≡ tokenAddress n
-unfolding after
-token-address n = omega (arith, and-high n 27 5)
-
--- the host reads a token where it stores it
-pub token-read : (n : ℕ) (m : Memory) → tokenOf n m ≡ peek32 m (tokenAddress n)
-token-read n m = ap (peek32 m) (token-address n)
 
 retiring-first : (qh n tok moved k : ℕ) (b : Bus) → retiring qh n tok moved k b ≡ word (after (descriptor n) 4) (tokenAfter tok moved) ∷ drop 1 (retiring qh n tok moved k b)
 unfolding retiring closing andThen putting
@@ -124,6 +117,13 @@ output-retires x = retires-by (outPointer x) (outToken x) (outMoved x) (blockDat
 pub input-moved : (x : World) → length (inBytes x) ≡ inToken x / 2 ^ 16 % 2 ^ 15
 input-moved x = length-bytesIn (x .memory) (pointers (x .memory) (descriptor (inPointer x))) (inMoved x) ∙ total-is (inToken x)
 
+-- byte k of them is the one at the address of byte k of the descriptor's data
+pub input-byte : (x : World) (k : ℕ) → k < length (inBytes x)
+    → getD (inBytes x) k 0 ≡ peek8 (x .memory) (dataAddr (pointers (x .memory) (descriptor (inPointer x))) k)
+input-byte x k h =
+    let ps = pointers (x .memory) (descriptor (inPointer x)) in
+    getD-bytesIn (x .memory) ps (inMoved x) k (omega (arith, length-bytesIn (x .memory) ps (inMoved x)))
+
 stores-count : (ps s : List ℕ) (k n : ℕ) → length (stores ps s k n) ≡ n
 unfolding stores
 stores-count ps s k zero = refl
@@ -157,13 +157,9 @@ output-byte x k h =
 -- ---- in the microframe's list
 
 -- a token's active bit is bit 7
-bit-seven : (tok : ℕ) → isActive tok ≡ true → tok / 2 ^ 7 % 2 ≡ 1
-unfolding bit
-bit-seven tok h = let b : bit 7 tok ≡ 1 = eqb-true (bit 7 tok) 1 (sym (any-bit 7 tok) ∙ h) in omega (arith, b)
-
 active-bit : (e : Endpoint) (m : Memory) → nextActive e m ≡ true → tokenOf (nextDtd e m) m / 2 ^ 7 % 2 ≡ 1
 unfolding nextActive
-active-bit e m h = bit-seven (tokenOf (nextDtd e m) m) (and-second (not (terminates (nextDtd e m))) _ h)
+active-bit e m h = any-is 7 (tokenOf (nextDtd e m) m) .0 (and-second (not (terminates (nextDtd e m))) _ h)
 
 -- the changes of the step g, with the World x at it, stand in the microframe's list, whole: what it changes first, the data sent, and then the store
 -- that retires the endpoint's next descriptor, which was active, with the bytes moved off its total

@@ -9,6 +9,7 @@ pub mod Marks
 pub mod Claims
 pub mod Ring
 pub mod Index
+pub mod Ready
 pub mod Retired
 pub mod SentBlock
 pub mod Progress

@@ -1,12 +1,13 @@
 -- What "retired" means, in the bits of a descriptor's token (document 01, "Queue head and dTD"; usbhost.rs 584-585; MCF5441x Reference Manual,
 -- USB OTG: dTD token).
-use Prim.Native.Nat.{ℕ, _+_, _-_, _*_, _/_, _%_, _^_}
+use Prim.Native.Nat.{ℕ, _-_, _/_, _%_, _^_}
 use mathlib.Core.Path.{_≡_}
 use mathlib.Core.List.{List, _∷_, _++_}
 use Rattle.bus.specs.Stores.{Store, word}
 use Rattle.transfer.specs.Transfer.{pointers, sending}
 use Rattle.dtd.specs.Dtd.{descriptor}
 use Rattle.record.specs.World.{World, busOf}
+use Rattle.model.specs.Ready.{tokenAddress}
 use Rattle.model.specs.Audio.{blockOf}
 use Rattle.model.specs.Claims.{outPointer, outMoved}
 
@@ -18,10 +19,6 @@ pub record TokenRetired (tok moved v : ℕ) : Type 0 where
   pub status : v % 2 ^ 8 ≡ 0
   pub middle : v / 2 ^ 8 % 2 ^ 8 ≡ tok / 2 ^ 8 % 2 ^ 8
   pub top : v / 2 ^ 31 ≡ tok / 2 ^ 31 % 2
-
--- the address of the token of the descriptor that a pointer names: bits 5 to 31 of the pointer, and 4 more
-abbrev pub tokenAddress : ℕ → ℕ
-tokenAddress n = n / 2 ^ 5 % 2 ^ 27 * 2 ^ 5 + 4
 
 -- stores that retire the descriptor that the pointer n names, whose token was tok: behind the data sent, the first is to its token
 pub record StoresToken (n tok moved : ℕ) (sent ss : List Store) : Type 0 where
