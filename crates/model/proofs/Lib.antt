@@ -16,7 +16,6 @@ pub mod SendingRing
 pub mod History
 pub mod Ring
 pub mod InputStep
-pub mod Waking
 pub mod Blocks
 pub mod Decoded
 pub mod Ready

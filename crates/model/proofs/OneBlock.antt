@@ -210,7 +210,7 @@ gets-open c rs v =
     ∙ absorbs (v .state .phase) (v .state .control .on) (eqb (v .state .lengths .setups) 0) rs (c .cdc)
 
 -- a host that is back is Idle
-pub idle-returns : (v : World) → left (one (λ w. gone false) then returns) v .state .phase ≡ Idle
+idle-returns : (v : World) → left (one (λ w. gone false) then returns) v .state .phase ≡ Idle
 unfolding andThen one apply returns forgets dropsRequest counted
 idle-returns v = refl
 

@@ -117,7 +117,7 @@ by-left c t true false v s e r =
 
 -- ---- the whole microframe
 
-module _ (t : ℕ) (w : World) (present : goneAt t w ≡ false) (awake : asleepAt t w ≡ false) (few : w .state .port .uf < 2 ^ 40) where
+module _ (t : ℕ) (w : World) (present : goneAt t w ≡ false) (awake : asleepAt t w ≡ false) where
   -- the World at the test of the device
   abbrev before : World
   before = left (suspends false) (left (opens (w .settings) false) w)
@@ -133,32 +133,47 @@ module _ (t : ℕ) (w : World) (present : goneAt t w ≡ false) (awake : asleepA
   early-before : (k : Early) → early (standOf (left (opens (w .settings) false) w)) ≡ k → early (standOf before) ≡ k
   early-before k e = ap early (keeps-resumes (left (opens (w .settings) false) w)) ∙ e
 
-  begins : before .state .port .uf ≡ wrapped (w .state .port .uf + 1) → VbusAt (before .state .port .uf) (left (microframe t) w) → Begins Vbus w (left (microframe t) w)
-  begins same x =
-      let count : wrapped (w .state .port .uf + 1) ≡ w .state .port .uf + 1 = omega arith in
-      record { phase = x .phase; counts = x .counts ∙ same ∙ count; starts = x .starts ∙ same ∙ count }
+  -- the phase begins at the microframe's own count, which the World there has
+  at-count : before .state .port .uf ≡ wrapped (w .state .port .uf + 1)
+      → VbusAt (before .state .port .uf) (left (byPhase (w .settings) t (rsSet w)) (left (leaves (w .settings .«device_stack») (rsSet w)) before))
+      → VbusAt (wrapped (w .state .port .uf + 1)) (left (microframe t) w)
+  at-count same x = subst (λ (n : ℕ). VbusAt n (left (microframe t) w)) same (subst (VbusAt (before .state .port .uf)) (sym whole) x)
 
-  from-idle : (k : Early) → early (standOf before) ≡ k → k .phase ≡ Idle → k .uf ≡ wrapped (w .state .port .uf + 1) → Begins Vbus w (left (microframe t) w)
+  from-idle : (k : Early) → early (standOf before) ≡ k → k .phase ≡ Idle → k .uf ≡ wrapped (w .state .port .uf + 1) → VbusAt (wrapped (w .state .port .uf + 1)) (left (microframe t) w)
   from-idle k s q u =
-      begins (ap (λ (x : Early). x .uf) s ∙ u)
-      (subst (VbusAt (before .state .port .uf)) (sym whole)
-      (by-leaves (w .settings) t (w .settings .«device_stack») (rsSet w) before (ap (λ (x : Early). x .phase) s ∙ q)))
+      at-count (ap (λ (x : Early). x .uf) s ∙ u)
+      (by-leaves (w .settings) t (w .settings .«device_stack») (rsSet w) before (ap (λ (x : Early). x .phase) s ∙ q))
 
-  by-mark : (b : Bool) → w .state .port .gone ≡ b → (w .state .phase ≡ Idle) ⊎ (w .state .port .gone ≡ true) → Begins Vbus w (left (microframe t) w)
+  by-mark : (b : Bool) → w .state .port .gone ≡ b → (w .state .phase ≡ Idle) ⊎ (w .state .port .gone ≡ true) → VbusAt (wrapped (w .state .port .uf + 1)) (left (microframe t) w)
   by-mark true m c = from-idle _ (early-before _ (early-back (w .settings) w m)) refl refl
   by-mark false m (inl e) = from-idle _ (early-before _ (ap early (stand-opens (w .settings) w m))) e refl
   by-mark false m (inr g) = absurd (false-true (sym m ∙ g))
 
+  from-left : w .state .port .gone ≡ false → w .settings .«device_stack» ≡ true → w .state .port .«was_running» ≡ true → rsSet w ≡ false
+      → VbusAt (wrapped (w .state .port .uf + 1)) (left (microframe t) w)
+  from-left still stack ran off =
+      let s = early-before _ (ap early (stand-opens (w .settings) w still)) in
+      at-count (ap (λ (x : Early). x .uf) s)
+      (by-left (w .settings) t (w .settings .«device_stack») (rsSet w) before stack off (ap (λ (x : Early). x .wasRunning) s ∙ ran))
+
+-- a count that does not wrap
+plain-count : (w v : World) → w .state .port .uf < 2 ^ 40 → VbusAt (wrapped (w .state .port .uf + 1)) v → Begins Vbus w v
+plain-count w v few x =
+    let count : wrapped (w .state .port .uf + 1) ≡ w .state .port .uf + 1 = omega arith in
+    record { phase = x .phase; counts = x .counts ∙ count; starts = x .starts ∙ count }
+
+-- an idle host does not stay so, whatever its count
+pub idle-wakes : (t : ℕ) (w : World) → goneAt t w ≡ false → asleepAt t w ≡ false → w .state .phase ≡ Idle → left (microframe t) w .state .phase ≡ Vbus
+idle-wakes t w present awake e = by-mark t w present awake (w .state .port .gone) refl (inl e) .phase
+
 -- a host that is idle, or just back from gone, turns VBUS on
 pub vbus-begins : (t : ℕ) (w : World) → goneAt t w ≡ false → asleepAt t w ≡ false → w .state .port .uf < 2 ^ 40 → (w .state .phase ≡ Idle) ⊎ (w .state .port .gone ≡ true)
     → Begins Vbus w (left (microframe t) w)
-vbus-begins t w present awake few c = by-mark t w present awake few (w .state .port .gone) refl c
+vbus-begins t w present awake few c =
+    plain-count w (left (microframe t) w) few (by-mark t w present awake (w .state .port .gone) refl c)
 
 -- with the device stack, RS seen set and now clear: the device left, and VBUS begins anew, in whatever phase
 pub left-begins : (t : ℕ) (w : World) → goneAt t w ≡ false → asleepAt t w ≡ false → w .state .port .uf < 2 ^ 40 → w .state .port .gone ≡ false
     → w .settings .«device_stack» ≡ true → w .state .port .«was_running» ≡ true → rsSet w ≡ false → Begins Vbus w (left (microframe t) w)
 left-begins t w present awake few still stack ran off =
-    let s = early-before t w present awake few _ (ap early (stand-opens (w .settings) w still)) in
-    begins t w present awake few (ap (λ (x : Early). x .uf) s)
-    (subst (VbusAt (before t w present awake few .state .port .uf)) (sym (whole t w present awake few))
-    (by-left (w .settings) t (w .settings .«device_stack») (rsSet w) (before t w present awake few) stack off (ap (λ (x : Early). x .wasRunning) s ∙ ran)))
+    plain-count w (left (microframe t) w) few (from-left t w present awake still stack ran off)

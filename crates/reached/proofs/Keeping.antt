@@ -4,24 +4,20 @@ use mathlib.Core.Path.{refl}
 use Rattle.record.specs.declared.Settings.{Settings}
 use Rattle.model.specs.Phases.{ticks, sleeps, startsFrame}
 use Rattle.model.specs.Microframe.{transfers}
-use Rattle.model.proofs.Fields.{Keeps, keeps-then, keeps-if, keeps-nothing, keeps-one, keeps-bus, keeps-page, keeps-runs, keeps-here}
+use Rattle.model.proofs.Fields.{Keeps}
+use Rattle.model.proofs.Single as S
 use Rattle.model.proofs.Transferring.{Untouched}
 use Rattle.model.proofs.Transferring as Transferring
 use Rattle.reached.proofs.Standing.{held}
 
-ruleset keeps-rules = (keeps-then, keeps-if, keeps-nothing, keeps-one, keeps-bus, keeps-page, keeps-runs, keeps-here)
-
 pub keeps-ticks : Keeps held ticks
-unfolding ticks
-keeps-ticks = search keeps-rules depth 8
+keeps-ticks = S.keeps-ticks held (λ ts k. refl)
 
 pub keeps-sleeps : Keeps held sleeps
-unfolding sleeps
-keeps-sleeps = search keeps-rules
+keeps-sleeps = S.keeps-sleeps held (λ n k. refl)
 
 pub keeps-frame : Keeps held startsFrame
-unfolding startsFrame
-keeps-frame = search keeps-rules
+keeps-frame = S.keeps-frame held
 
 untouched : Untouched held
 untouched =
