@@ -383,18 +383,23 @@ talking-phase : (w : World) → Reached w → talking (phaseBy true w .state .ph
 talking-phase w r =
     ap (λ (k : Way). talking (k .phase)) (ways-phase w (r .here-still)) ∙ talks-by (w .state .phase) _ (r .streams)
 
--- from the entry to the stream step
-placed-plain : (t : ℕ) (h : Step) (w x : World) → Reached w → Placed streams (streamBy true w) h x → Placed (frameOf (w .settings) t true false false) w h x
-unfolding frameOf streamBy phaseBy toPhase
-placed-plain t h w x r p =
+-- from the entry to the choice by phase, and to the stream step
+pub placed-phase : (t : ℕ) (rs : Bool) (h : Step) (w x : World) → Placed (byPhase (w .settings) t rs) (phaseBy rs w) h x → Placed (frameOf (w .settings) t rs false false) w h x
+unfolding frameOf phaseBy toPhase
+placed-phase t rs h w x p =
     let c = w .settings in
     placed-second (opens c false) _ h w x
     (placed-second (suspends false) _ h (left (opens c false) w) x
-    (placed-second (leaves (c .«device_stack») true) (byPhase c t true) h (left (suspends false) (left (opens c false) w)) x
-    (subst (λ (v : World). Placed (byPhase c t true) v h x)
-    (exec-then apply (opens c false) (suspends false then leaves (c .«device_stack») true) w
-    ∙ exec-then apply (suspends false) (leaves (c .«device_stack») true) (left (opens c false) w))
-    (placed-talks c t h (phaseBy true w) x (talking-phase w r) (r .audio) (streaming-stream w (r .here-still) ∙ r .streams) p))))
+    (placed-second (leaves (c .«device_stack») rs) (byPhase c t rs) h (left (suspends false) (left (opens c false) w)) x
+    (subst (λ (v : World). Placed (byPhase c t rs) v h x)
+    (exec-then apply (opens c false) (suspends false then leaves (c .«device_stack») rs) w
+    ∙ exec-then apply (suspends false) (leaves (c .«device_stack») rs) (left (opens c false) w)) p)))
+
+placed-plain : (t : ℕ) (h : Step) (w x : World) → Reached w → Placed streams (streamBy true w) h x → Placed (frameOf (w .settings) t true false false) w h x
+unfolding streamBy
+placed-plain t h w x r p =
+    placed-phase t true h w x
+    (placed-talks (w .settings) t h (phaseBy true w) x (talking-phase w r) (r .audio) (streaming-stream w (r .here-still) ∙ r .streams) p)
 
 pub placed-frame : (t : ℕ) (rs g s : Bool) (h : Step) (w x : World) → outputBy rs g s w ≡ true → Placed streams (streamBy rs w) h x → Placed (frameOf (w .settings) t rs g s) w h x
 placed-frame t rs true s h w x e p = absurd (false-true (sym (reached rs true s w e .1 .0)))

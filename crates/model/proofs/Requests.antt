@@ -39,13 +39,14 @@ use Rattle.record.specs.Setups.{little}
 use Rattle.record.specs.World.{World, busOf}
 use Rattle.record.specs.Change.{Change, lost, phase, count, control, popped, drained, apply, Step, left, _then_, nothing, if, when, one, here, onBus, onPage, runs, ranStores}
 use Rattle.record.proofs.Laws.{replay-bus}
-use Rattle.model.specs.Phases.{now, changing, suspends, leaves, startsFrame, dropsRequest}
+use Rattle.model.specs.Phases.{now, changing, startsFrame, dropsRequest}
 use Rattle.model.specs.Control.{begun, posted, posts, enumerating, configured, wLength, inStatus, timedOut, toStatus, keepsReply, dataIn, dataOut, dataStage, keepsDevice, asksWhole, chooses, configures, takesConfiguration, finishes, statusOut, endsBy, statusEnds, statusStage, stalled, unstalls, dataThenStatus, stages, requests, controls}
-use Rattle.model.specs.Microframe.{rsSet, goneAt, asleepAt, streaming, opens, enumerates, transfers, talks, atPhase, byPhase, frameOf, microframe}
-use Rattle.model.specs.Reach.{toPhase, phaseBy}
+use Rattle.model.specs.Microframe.{rsSet, goneAt, asleepAt, streaming, enumerates, transfers, talks, atPhase, byPhase, frameOf, microframe}
+use Rattle.model.specs.Reach.{phaseBy}
 use Rattle.model.specs.Progress.{Present, GoesOn, Posts, RunsOn, takesData, statusOf, atControl, Answers}
 use Rattle.model.proofs.Fields.{fields-then, keeps-bus, keeps-page, keeps-one, left-runs, ranWorld}
 use Rattle.model.proofs.Placed.{Placed, placed-first, placed-second, placed-true, placed-false, placed-here}
+use Rattle.model.proofs.OneBlock.{placed-phase}
 use Rattle.model.proofs.Progress.{Stand, standBy, standOf, stands, if-true, if-false, when-true, when-false, there, opened, stand-there, frame-in, stays-running}
 use Rattle.model.proofs.Same.{Same, same-then, same-if, same-nothing, same-pick, same-here, same-one, same-bus, same-page, same-ran, same-runs}
 use Rattle.model.proofs.Words.{Alike, alike-then, alike-phase, alike-frame, word-back}
@@ -477,17 +478,9 @@ unfolding transfers
 still c t u e = when-false (λ w. streaming (w .state .phase)) _ u (ap streaming e)
 
 placed-by : (t : ℕ) (rs g s : Bool) (w : World) (h : Step) (x : World) → g ≡ false → s ≡ false → Placed (byPhase (w .settings) t rs) (phaseBy rs w) h x → Placed (frameOf (w .settings) t rs g s) w h x
-unfolding frameOf phaseBy toPhase
 placed-by t rs true s w h x e f p = absurd (false-true (sym e))
 placed-by t rs false true w h x e f p = absurd (false-true (sym f))
-placed-by t rs false false w h x e f p =
-    let c = w .settings in
-    placed-second (opens c false) _ h w x
-    (placed-second (suspends false) _ h (left (opens c false) w) x
-    (placed-second (leaves (c .«device_stack») rs) (byPhase c t rs) h (left (suspends false) (left (opens c false) w)) x
-    (subst (λ (v : World). Placed (byPhase c t rs) v h x)
-    (exec-then apply (opens c false) (suspends false then leaves (c .«device_stack») rs) w
-    ∙ exec-then apply (suspends false) (leaves (c .«device_stack») rs) (left (opens c false) w)) p)))
+placed-by t rs false false w h x e f p = placed-phase t rs h w x p
 
 placed-talks : (c : Settings) (t : ℕ) (rs : Bool) (v : World) (h : Step) (x : World) → v .state .phase ≡ Enumerate → rs ≡ true
     → Placed (controls (c .«device_stack»)) (left startsFrame v) h x → Placed (byPhase c t rs) v h x
