@@ -1,5 +1,5 @@
 -- What the user tabulates: the record's two counters of frames are the frames of the good blocks read and of the blocks sent, through every reset.
-use Prim.Native.Nat.{ℕ, _+_, _-_, _%_, _^_, _≤_}
+use Prim.Native.Nat.{ℕ, _+_, _%_, _^_, _≤_}
 use mathlib.Core.Path.{_≡_, refl, ap, ap₂, sym, _∙_}
 use mathlib.Core.Bool.{Bool, true, false, _&&_}
 use mathlib.Core.List.{List, [], _∷_}

@@ -7,7 +7,7 @@ use mathlib.Core.List.{List}
 use mathlib.Core.Logic.{_↔_}
 use native.Mathlib.Omega.{arith}
 use lib.Bits.{and-high}
-use lib.Dec.{eqb, ltb}
+use lib.Dec.{eqb}
 use borrow.Author.Tests.{eqb-true, eqb-false, ltb-true, ltb-false}
 use Rattle.bits.specs.Pick.{pick}
 use Rattle.bits.specs.Word.{any, clear}
