@@ -40,7 +40,7 @@ is-even v h = not-holds (any v 1) (λ e. omega (arith, odd v e))
 
 -- ---- primed
 
--- 538
+-- 538: the test of EPSR is that of the endpoint's bit
 pub primed-bit : (e : Endpoint) (page : List ℕ) → (primed e page ≡ true) ↔ Primed e page
 unfolding primed
 primed-bit e page = by (e .input)
@@ -51,7 +51,7 @@ primed-bit e page = by (e .input)
 
 -- ---- the next descriptor
 
--- 514-516
+-- 514-516: the mask of EPLISTADDR leaves its bits 11 to 31
 pub head-address : (e : Endpoint) (page : List ℕ) → queueHead e page ≡ headAddress e page
 unfolding queueHead
 head-address e page = by (e .input)
@@ -68,7 +68,7 @@ pub token-address : (n : ℕ) → after (descriptor n) 4 ≡ tokenAddress n
 unfolding after
 token-address n = omega (arith, and-high n 27 5)
 
--- 521-531
+-- 521-531: the choice between overlay and current pointer, case by case
 next-of : (h : ℕ) (m : Memory) → NextOf h m (nextOf h m)
 unfolding nextOf after
 next-of h m = by (terminates (wordBehind m h 8)) (eqb (descriptor (wordBehind m h 4)) 0) refl refl
@@ -101,7 +101,7 @@ next-only h m a b (none x r p) (none y s q) = p ∙ sym q
 pub token-read : (n : ℕ) (m : Memory) → tokenOf n m ≡ peek32 m (tokenAddress n)
 token-read n m = ap (peek32 m) (token-address n)
 
--- 547-551
+-- 547-551: the host's test, whichever way its pointer was found
 pub next-active : (e : Endpoint) (m : Memory) → (nextActive e m ≡ true) ↔ Active e m
 unfolding nextActive
 next-active e m = (
