@@ -86,7 +86,7 @@ on-bus (put o v ∷ ss) d f p l h =
     ap (λ (m : Memory). S.stored (map onBus ss) (S.bus m l)) (poke32-register d f p o v (h .0)) ∙ on-bus ss d f (wordPut p o v) l (h .1)
 on-bus (irq k ∷ ss) d f p l h = on-bus ss d f p k h
 
-none-dropped : (ss : List PageStore) → Inside ss → 0 ≡ S.droppedBy (map onBus ss)
+pub none-dropped : (ss : List PageStore) → Inside ss → 0 ≡ S.droppedBy (map onBus ss)
 unfolding onBus S.droppedBy S.dropped
 none-dropped [] h = refl
 none-dropped (put o v ∷ ss) h = omega (arith, dropped-register o (h .0), none-dropped ss (h .1))
