@@ -1,5 +1,5 @@
--- Demand 3 of one call, refused or not: what it leaves is the replay of its changes; one block sent, or none; one run read, or none.
-use Prim.Native.Nat.{ℕ, _+_, _-_, _/_, _%_, _^_, min}
+-- One call, refused or not: what it leaves is the replay of its changes, and what it answers their sums (S-1); demand 3: one block sent, or none; one run read, or none.
+use Prim.Native.Nat.{ℕ, _+_, _-_, _/_, _%_, _^_, _≤_, min}
 use mathlib.Core.Path.{_≡_, refl, ap, sym, subst, _∙_}
 use mathlib.Core.Bool.{Bool, true, false, _&&_}
 use mathlib.Core.List.{List, [], _++_}
@@ -9,7 +9,7 @@ use lib.Dec.{eqb, leb, ltb}
 use lib.ListN.{length}
 use borrow.Author.Tests.{leb-true, ltb-true, eqb-true}
 use Rattle.bits.specs.Pick.{pick, pick-map}
-use Rattle.bits.proofs.Tests.{and-first, and-second, and-rest, and-false}
+use Rattle.bits.proofs.Tests.{and-first, and-second, and-rest, and-false, false-true}
 use Rattle.bus.specs.Steps.{replay}
 use Rattle.record.specs.Record.{wrapped}
 use Rattle.record.specs.World.{World}
@@ -20,7 +20,7 @@ use Rattle.model.specs.Microframe as M
 use Rattle.model.specs.Reach as R
 use Rattle.model.specs.Reach.{atInput, atOutput}
 use Rattle.model.specs.Earned.{Out, outOf, sentOut}
-use Rattle.model.specs.Marks.{audioRetired, audioInRetired, audioOutRetired}
+use Rattle.model.specs.Marks.{total, allRetired, allDropped, audioInRetired, audioOutRetired}
 use Rattle.model.specs.Ring.{ringFrames, RingInOrder, framesRead, lastOf, inBytes}
 use Rattle.model.specs.Claims.{sendsAt, oneBlock, unprimed}
 use Rattle.model.proofs.Placed.{Placed}
@@ -28,10 +28,12 @@ use Rattle.model.proofs.OneBlock as O
 use Rattle.model.proofs.OneBlock.{out-microframe, microframe-retired, placed-output, one-block}
 use Rattle.model.proofs.InputStep.{InputStep, placed-input, input-step, NoInput, no-input}
 use Rattle.usbhost.specs.declared.Host.{Host}
+use Rattle.usbhost.specs.declared.Framed.{Framed}
 use Rattle.usbhost.specs.Host.{stateOf}
 use Rattle.usbhost.specs.Calls.{bounded}
-use Rattle.usbhost.specs.Frame.{Lent, worldOf, hostIn, lengthsOk, boundsOk, frameNumber, framed}
-use Rattle.usbhost.proofs.Frame.{accepted-tests}
+use Rattle.usbhost.specs.Frame.{Lent, worldOf, hostIn, lengthsOk, boundsOk, frameNumber, framed, frameAnswer}
+use Rattle.usbhost.proofs.Frame.{accepted-tests, frame-refused}
+use Rattle.usbhost.proofs.Descriptors.{frame-retired, frame-few, frame-dropped}
 use Rattle.history.specs.Calls.{microframe, step}
 use Rattle.history.specs.Rings.{toTake}
 use Rattle.history.specs.Reach.{accepted, reachesInput, reachesOutput, callReads, callSends, changesOf}
@@ -79,6 +81,36 @@ whole-list t h l e = ap (λ (b : Bool). pick b (M.microframe t (worldOf h l)) []
 placed-call : (t : ℕ) (h : Host) (l : Lent) (g : Step) (x : World) → accepted h l ≡ true → Placed (M.microframe t) (worldOf h l) g x → Placed (λ w. changesOf t h l) (worldOf h l) g x
 placed-call t h l g x e p =
     record { before = p .before; rest = p .rest; whole = whole-list t h l e ∙ p .whole; there = p .there }
+
+-- ---- what it answers (S-1)
+
+-- the descriptors that its changes retire, at most 128, and the bytes that no window took; of a refused call none, as it changes nothing
+pub record CallAnswer (t : ℕ) (h : Host) (l : Lent) : Type 0 where
+  pub retired : frameAnswer t h l .retired ≡ allRetired (changesOf t h l)
+  pub few : frameAnswer t h l .retired ≤ 128
+  pub dropped : frameAnswer t h l .dropped ≡ allDropped (changesOf t h l)
+
+pub call-answer : (t : ℕ) (h : Host) (l : Lent) → CallAnswer t h l
+unfolding total
+call-answer t h l = by (accepted h l) refl
+  where
+    by : (b : Bool) → accepted h l ≡ b → CallAnswer t h l
+    by true e =
+        let z = eqb-true (frameNumber h l) 0 e in
+        let list = sym (whole-list t h l e) in
+        record {
+          retired = frame-retired t h l z ∙ ap allRetired list;
+          few = frame-few t h l z;
+          dropped = frame-dropped t h l z ∙ ap allDropped list;
+        }
+    by false e =
+        let answer = frame-refused t h l (λ z. false-true (sym e ∙ ap (λ (n : ℕ). eqb n 0) z)) in
+        let list : changesOf t h l ≡ [] = ap (λ (b : Bool). pick b (M.microframe t (worldOf h l)) []) e in
+        record {
+          retired = ap (λ (r : Framed). r .retired) answer ∙ sym (ap allRetired list);
+          few = omega (arith, ap (λ (r : Framed). r .retired) answer);
+          dropped = ap (λ (r : Framed). r .dropped) answer ∙ sym (ap allDropped list);
+        }
 
 -- ---- a block sent, or none
 
@@ -129,7 +161,7 @@ module _ (t : ℕ) (h : Host) (l : Lent) where
       omega (arith, s .sent)
 
   out-retired : audioOutRetired (changesOf t h l) ≡ pick (callSends t h l) 1 0
-  unfolding audioRetired
+  unfolding total
   out-retired = by (accepted h l) ∙ ap (λ (b : Bool). pick b 1 0) same-sends
     where
       by : (b : Bool) → audioOutRetired (pick b (M.microframe t w) []) ≡ pick (b && sendsAt t w) 1 0
@@ -204,7 +236,7 @@ module _ (t : ℕ) (h : Host) (l : Lent) where
       (λ e. by-test (λ b. P false (pick b (M.microframe t v) [])) (accepted h l) (λ a. not-read (no-run e a)) (λ a. refused))
 
   pub call-input : CallInput t h l
-  unfolding step audioRetired
+  unfolding step total
   call-input =
       record {
         frames =

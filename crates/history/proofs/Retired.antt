@@ -8,14 +8,14 @@ use lib.Dec.{eqb, leb}
 use lib.ListN.{length}
 use Rattle.bits.specs.Pick.{pick, pick-both}
 use Rattle.record.specs.declared.Settings.{Settings}
-use Rattle.model.specs.Marks.{audioOutRetired}
+use Rattle.model.specs.Marks.{audioMark, audioOutRetired}
 use Rattle.usbhost.specs.declared.Host.{Host}
 use Rattle.usbhost.specs.declared.Created.{Created}
 use Rattle.usbhost.specs.Host.{newHost, settled, noSettings, created}
 use Rattle.usbhost.specs.Calls as C
 use Rattle.usbhost.specs.Calls.{midiNumber, midiQueued, midiSent, serialNumber, serialQueued, serialSent, giveNumber, frameGiven, given, holdsFrame, frameTaken, takenFrame, accessNumber, withFlag, deviceWritten}
 use Rattle.history.specs.Calls.{Call, microframe, midiSend, serialSend, frameGive, frameTake, deviceRead, deviceWrite, step, after}
-use Rattle.history.specs.Reach.{callSends, changesOf, callRetires, callsRetire, SevenEach}
+use Rattle.history.specs.Reach.{callSends, changesOf, callMarked, callsMarked, SevenEach}
 use Rattle.history.proofs.OneCall.{call-block}
 
 -- ---- one call
@@ -44,8 +44,8 @@ stays : (b : Bool) (n : ℕ) (h h′ : Host) → h′ .stats .«out_frames» ≡
 stays true n h h′ f c e = record { frames = omega (arith, f, e .frames); counter = omega (arith, c, e .counter) }
 stays false n h h′ f c e = record { frames = omega (arith, e .frames); counter = omega (arith, e .counter) }
 
-seven-step : (h : Host) (n : ℕ) (c : Call) → SevenEach h n → SevenEach (step h c) (n + callRetires false h c)
-unfolding step callRetires midiSent serialSent given takenFrame deviceWritten midiQueued serialQueued frameGiven frameTaken withFlag C.deviceRead
+seven-step : (h : Host) (n : ℕ) (c : Call) → SevenEach h n → SevenEach (step h c) (n + callMarked (audioMark false) h c)
+unfolding step callMarked midiSent serialSent given takenFrame deviceWritten midiQueued serialQueued frameGiven frameTaken withFlag C.deviceRead
 seven-step h n (microframe t l) e =
     let b = call-block t h l in
     seven-more (callSends t h l) n (audioOutRetired (changesOf t h l)) h (step h (microframe t l)) (b .retired) (b .sent) (b .counter) e
@@ -58,22 +58,22 @@ seven-step h n (deviceWrite page off size v) e = stays (eqb (accessNumber h (len
 
 -- ---- every list of calls
 
-all : (h : Host) (n : ℕ) (cs : List Call) → SevenEach h n → SevenEach (after h cs) (n + callsRetire false h cs)
-unfolding after callsRetire
+all : (h : Host) (n : ℕ) (cs : List Call) → SevenEach h n → SevenEach (after h cs) (n + callsMarked (audioMark false) h cs)
+unfolding after callsMarked
 all h n [] e = stays false n h h refl refl e
 all h n (c ∷ cs) e =
-    let more : n + callRetires false h c + callsRetire false (step h c) cs ≡ n + (callRetires false h c + callsRetire false (step h c) cs) = omega arith in
-    subst (SevenEach (after (step h c) cs)) more (all (step h c) (n + callRetires false h c) cs (seven-step h n c e))
+    let more : n + callMarked (audioMark false) h c + callsMarked (audioMark false) (step h c) cs ≡ n + (callMarked (audioMark false) h c + callsMarked (audioMark false) (step h c) cs) = omega arith in
+    subst (SevenEach (after (step h c) cs)) more (all (step h c) (n + callMarked (audioMark false) h c) cs (seven-step h n c e))
 
 -- from `new`, whatever its settings
-pub sent-retired : (s : Settings) (cs : List Call) → SevenEach (after (newHost s) cs) (callsRetire false (newHost s) cs)
+pub sent-retired : (s : Settings) (cs : List Call) → SevenEach (after (newHost s) cs) (callsMarked (audioMark false) (newHost s) cs)
 unfolding newHost
 sent-retired s cs = subst (SevenEach (after (newHost s) cs)) (omega arith) (all (newHost s) 0 cs (record { frames = refl; counter = refl }))
 
 -- and from whatever `new` answers, refused or not
-pub sent-retired-new : (c : Settings) (cs : List Call) → SevenEach (after (created c .host) cs) (callsRetire false (created c .host) cs)
+pub sent-retired-new : (c : Settings) (cs : List Call) → SevenEach (after (created c .host) cs) (callsMarked (audioMark false) (created c .host) cs)
 unfolding created
 sent-retired-new c cs =
-    pick-both (λ (x : Created). SevenEach (after (x .host) cs) (callsRetire false (x .host) cs)) (leb (c .spans) 16)
+    pick-both (λ (x : Created). SevenEach (after (x .host) cs) (callsMarked (audioMark false) (x .host) cs)) (leb (c .spans) 16)
     {a = record { refusal = 0; host = newHost (settled c) }} {b = record { refusal = 3; host = newHost noSettings }}
     (sent-retired (settled c) cs) (sent-retired noSettings cs)

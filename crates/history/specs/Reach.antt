@@ -1,4 +1,4 @@
--- Which calls reach the audio steps, what a call changes, and how many descriptors of an audio endpoint it retires (document 01, "Host record").
+-- Which calls reach the audio steps, what a call changes, and what the marks of its runs say, as the descriptors that it retires (document 01, "Host record").
 use Prim.Native.Nat.{ℕ, _+_, _*_, _%_, _^_}
 use mathlib.Core.Bool.{Bool, _&&_}
 use mathlib.Core.List.{List, [], _∷_}
@@ -9,7 +9,8 @@ use Rattle.record.specs.Change.{Change}
 use Rattle.model.specs.Microframe as M
 use Rattle.model.specs.Reach as R
 use Rattle.model.specs.Reach.{atInput, atOutput, inputReady, outputReady}
-use Rattle.model.specs.Marks.{audioRetired}
+use Rattle.dtd.specs.Dtd.{Endpoint}
+use Rattle.model.specs.Marks.{marked, total}
 use Rattle.usbhost.specs.declared.Host.{Host}
 use Rattle.usbhost.specs.Frame.{Lent, worldOf, frameNumber}
 use Rattle.history.specs.Calls.{Call, microframe, midiSend, serialSend, frameGive, frameTake, deviceRead, deviceWrite, step}
@@ -40,20 +41,20 @@ callSends t h l =
 abbrev pub changesOf : ℕ → Host → Lent → List Change
 changesOf t h l = pick (accepted h l) (M.microframe t (worldOf h l)) []
 
--- the descriptors that a call retires on the audio input endpoint, or on the audio output endpoint; only microframes run descriptors
-unfoldable pub callRetires : Bool → Host → Call → ℕ
-callRetires input h (microframe t l) = audioRetired input (changesOf t h l)
-callRetires input h (midiSend bs) = 0
-callRetires input h (serialSend bs) = 0
-callRetires input h (frameGive f sending) = 0
-callRetires input h (frameTake received) = 0
-callRetires input h (deviceRead page off size) = 0
-callRetires input h (deviceWrite page off size v) = 0
+-- whatever is asked of the marks of its runs; only microframes run descriptors
+unfoldable pub callMarked : (Endpoint → ℕ → ℕ → ℕ) → Host → Call → ℕ
+callMarked f h (microframe t l) = total (marked f) (changesOf t h l)
+callMarked f h (midiSend bs) = 0
+callMarked f h (serialSend bs) = 0
+callMarked f h (frameGive x sending) = 0
+callMarked f h (frameTake received) = 0
+callMarked f h (deviceRead page off size) = 0
+callMarked f h (deviceWrite page off size v) = 0
 
 -- over a list of calls, each on the record that the ones before it left
-unfoldable pub callsRetire : Bool → Host → List Call → ℕ
-callsRetire input h [] = 0
-callsRetire input h (c ∷ cs) = callRetires input h c + callsRetire input (step h c) cs
+unfoldable pub callsMarked : (Endpoint → ℕ → ℕ → ℕ) → Host → List Call → ℕ
+callsMarked f h [] = 0
+callsMarked f h (c ∷ cs) = callMarked f h c + callsMarked f (step h c) cs
 
 -- ---- what the record tells
 

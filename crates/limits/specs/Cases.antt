@@ -151,7 +151,7 @@ stateBy v o =
             enumerations = v enumerations;
           };
       lengths = record { setups = v waiting; midi = v midi; serial = v serial; device = v device; config = v config };
-      answer = record { received = 0; dropped = 0 };
+      answer = record { received = 0; dropped = 0; retired = 0 };
     }
 
 abbrev pub packerBy : (Field → ℕ) → Host → Packer

@@ -57,6 +57,7 @@ fn same_port(a: State, b: State) -> bool {
         & (a.port.line == b.port.line)
         & (a.answer.received == b.answer.received)
         & (a.answer.dropped == b.answer.dropped)
+        & (a.answer.retired == b.answer.retired)
 }
 
 fn same_audio(a: Audio, b: Audio) -> bool {

@@ -21,8 +21,8 @@ use Rattle.model.specs.Microframe.{rsSet, goneAt, asleepAt, opens, frame
 use Rattle.model.specs.Reach.{streamsIn, toPhase, phaseBy, streamBy, outputBy, withinBudget, inputBy, backBy, leftBy, paced, inputReady, outputReady, bytesAt}
 use Rattle.model.specs.Earned.{Counts, countsOf, earned, sentOne, zeroed, goodBlocks, blocksRead, resetCounts, heardCounts, sentCounts}
 use Rattle.model.proofs.Fields.{fields-replay, fields-then, fields-if, keeps-nothing, keeps-if, keeps-then, keeps-one, keeps-page, Keeps, left-runs, fields-ran}
-use Rattle.model.proofs.Reading.{through, silent-keeps, silent-counts, silent-ticks, silent-sleeps, silent-suspends, silent-enumerates, silent-adds, silent-clears}
-use Rattle.model.proofs.Frames.{Frames, framesOf, withCounts, frames, framesReading}
+use Rattle.model.proofs.Reading.{fieldsAlone, through, silent-keeps, silent-counts, silent-ticks, silent-sleeps, silent-suspends, silent-enumerates, silent-adds, silent-clears}
+use Rattle.model.proofs.Frames.{Frames, framesOf, withCounts, frames, frames-leaves, framesReading}
 use Rattle.model.proofs.OneBlock.{getsTo, gets-closed, through-phase, blockRead, through-outputs, budget-stream}
 
 abbrev earns : ℕ → Frames → Frames
@@ -162,7 +162,7 @@ block-sends x = refl
 -- `stream_out`
 frames-outputs : (x : World) → framesOf (left streamOut x) ≡ pick (outputReady x && leb BLOCK-FRAMES (x .state .audio .credit)) (sends (framesOf x)) (framesOf x)
 frames-outputs x =
-    fields-replay frames (streamOut x) x ∙ through-outputs framesReading x (framesOf x)
+    fields-replay frames (streamOut x) x ∙ through-outputs framesReading (fieldsAlone frames frames-leaves) x (framesOf x)
     ∙ pick-eq (outputReady x && leb BLOCK-FRAMES (x .state .audio .credit)) (block-sends x) refl
 
 -- ---- the cable
@@ -255,10 +255,10 @@ counts-streams u =
 counts-by : (c : Settings) (t : ℕ) (rs : Bool) (v : World) → countsOf (left (byPhase c t rs) v) ≡ pick (getsTo c rs v) (sentFrom (left (enumerates c) v) (countsOf v)) (countsOf v)
 counts-by c t rs v =
     let u = left (enumerates c) v in
-    let same : framesOf u ≡ framesOf v = silent-keeps frames (enumerates c) (silent-enumerates framesReading (λ p k. refl) c) v in
+    let same : framesOf u ≡ framesOf v = silent-keeps frames (enumerates c) (silent-enumerates framesReading (fieldsAlone frames frames-leaves) (λ p k. refl) c) v in
     ap (λ (k : Frames). k .counts)
     (fields-replay frames (byPhase c t rs v) v
-    ∙ through-phase framesReading (λ p k. refl) c t rs v (framesOf v)
+    ∙ through-phase framesReading (fieldsAlone frames frames-leaves) (λ p k. refl) c t rs v (framesOf v)
     ∙ pick-eq (getsTo c rs v) (ap (through framesReading streams u) (sym same) ∙ sym (fields-replay frames (streams u) u)) refl)
     ∙ pick-map (λ (k : Frames). k .counts) (getsTo c rs v) (framesOf (left streams u)) (framesOf v)
     ∙ pick-eq (getsTo c rs v) (counts-streams u ∙ ap (λ (k : Frames). sentFrom u (k .counts)) same) refl

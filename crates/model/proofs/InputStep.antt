@@ -22,12 +22,12 @@ use Rattle.model.specs.Audio.{audioIn, BLOCK-FRAMES, overBudget, addsBud
 use Rattle.model.specs.Microframe.{rsSet, goneAt, asleepAt, microframe}
 use Rattle.model.specs.Reach.{streamBy, withinBudget, inputBy, paced, bytesAt, reachesOutput, reachesInput, inputReady, outputReady, atStream, atInput}
 use Rattle.model.specs.Earned.{Counts, earned}
-use Rattle.model.specs.Marks.{retiredBy, audioInRetired}
+use Rattle.model.specs.Marks.{noted, audioMark, audioInRetired}
 use Rattle.model.specs.Ring.{ringFrames, InOrder, RingInOrder, framesFrom, framesOfBlocks, framesRead, lastOf, inPointer, inToken, inMoved, inBytes, inStores, blockChanges, blocksChanges, oneRun}
 use Rattle.model.proofs.Fields.{fields-replay, ranWorld, fields-ran}
-use Rattle.model.proofs.Reading.{Reading, Lasting, through, Silent, through-if, through-runs, after-silent, before-silent, silent-keeps, silent-adds, silent-clears, silent-nothing, silent-stores, silent-kept}
+use Rattle.model.proofs.Reading.{Reading, AudioAlone, fieldsAlone, Lasting, through, Silent, through-if, through-runs, after-silent, before-silent, silent-keeps, silent-adds, silent-clears, silent-nothing, silent-stores, silent-kept}
 use Rattle.model.proofs.Frames.{Frames, framesOf, frames}
-use Rattle.model.proofs.Marks.{retiredReading, retiredLasting, retiredUnheard, retired-sum}
+use Rattle.model.proofs.Marks.{noted-sum, retiredReading, retiredLasting, retiredUnheard, retired-alone}
 use Rattle.model.proofs.Received.{Kept, keptOf, keptOn, kept, kept-leaves, keptReading, keptLasting}
 use Rattle.model.proofs.Ring.{Adds, held, adds-none, adds-blocks}
 use Rattle.model.proofs.Placed.{Placed, placed-self, placed-first, placed-second, placed-false, placed-here}
@@ -163,7 +163,7 @@ inputs-changes x e =
 
 -- ---- the whole microframe, by a reading of the input step alone
 
-module _ {K : Type 0} (R : Reading K) (L : Lasting R) (O : Silent R streamOut) where
+module _ {K : Type 0} (R : Reading K) (A : AudioAlone R) (L : Lasting R) (O : Silent R streamOut) where
   turned : (b : Bool) (x y : K) → pick (not b) x y ≡ pick b y x
   turned true x y = refl
   turned false x y = refl
@@ -187,23 +187,23 @@ module _ {K : Type 0} (R : Reading K) (L : Lasting R) (O : Silent R streamOut) w
   unfolding streams inputBy
   through-input t w k =
       let u = streamBy (rsSet w) w in
-      through-microframe R L t w k
+      through-microframe R A L t w k
       ∙ pick-eq (reachesOutput t w) (before-silent R streamIn streamOut u k O ∙ through-hears u k) refl
       ∙ at-entry (reachesOutput t w) (withinBudget (u .state .audio .budget) u) (withinBudget (w .state .audio .budget) u)
       (λ h. ap (λ (n : ℕ). withinBudget n u) (budget-stream (rsSet w) (goneAt t w) (asleepAt t w) w h)) (through R inputs (atInput w) k) k
 
 -- the output step leaves the ring and the input endpoint's descriptors alone
 kept-outputs : Silent keptReading streamOut
-kept-outputs x k = through-outputs keptReading x k ∙ pick-same (outputReady x && leb BLOCK-FRAMES (x .state .audio .credit)) k
+kept-outputs x k = through-outputs keptReading (fieldsAlone kept kept-leaves) x k ∙ pick-same (outputReady x && leb BLOCK-FRAMES (x .state .audio .credit)) k
 
 block-other : (x : World) (n : ℕ) → blockRead (retiredReading true) x n ≡ n
-unfolding retiredBy
+unfolding noted
 block-other x n = omega arith
 
 retired-outputs : Silent (retiredReading true) streamOut
 retired-outputs x n =
     let test = outputReady x && leb BLOCK-FRAMES (x .state .audio .credit) in
-    through-outputs (retiredReading true) x n ∙ pick-eq test (block-other x n) refl ∙ pick-same test n
+    through-outputs (retiredReading true) (retired-alone true) x n ∙ pick-eq test (block-other x n) refl ∙ pick-same test n
 
 -- ---- the ring
 
@@ -241,7 +241,7 @@ pub kept-microframe : (t : ℕ) (w : World) → keptOf (left (microframe t) w) �
 kept-microframe t w =
     let x = atInput w in
     fields-replay kept (microframe t w) w
-    ∙ through-input keptReading keptLasting kept-outputs t w (keptOf w)
+    ∙ through-input keptReading (fieldsAlone kept kept-leaves) keptLasting kept-outputs t w (keptOf w)
     ∙ pick-eq (reachesInput t w) (ap (through keptReading inputs x) (sym (kept-input w)) ∙ sym (fields-replay kept (inputs x) x)) refl
 
 -- ---- the descriptors of the input endpoint that a microframe retires
@@ -250,15 +250,15 @@ from-zero : (n : ℕ) → 0 + n ≡ n
 from-zero n = omega arith
 
 inputs-retired : (x : World) → through (retiredReading true) inputs x 0 ≡ runDtds audioIn [] (busOf x) .retired
-unfolding inputs retiredBy
+unfolding inputs noted
 inputs-retired x =
-    through-runs (retiredReading true) audioIn [] keepsRun x 0 (silent-kept (retiredReading true) (retiredLasting true) (retiredUnheard true))
+    through-runs (retiredReading true) (retired-alone true) audioIn [] keepsRun x 0 (silent-kept (retiredReading true) (retiredLasting true) (retiredUnheard true))
     ∙ from-zero _
 
 in-microframe : (t : ℕ) (w : World) → audioInRetired (microframe t w) ≡ pick (reachesInput t w) (runDtds audioIn [] (busOf (atInput w)) .retired) 0
 in-microframe t w =
-    sym (retired-sum true (microframe t w))
-    ∙ through-input (retiredReading true) (retiredLasting true) retired-outputs t w 0
+    sym (noted-sum (audioMark true) (λ n. 0) (microframe t w))
+    ∙ through-input (retiredReading true) (retired-alone true) (retiredLasting true) retired-outputs t w 0
     ∙ pick-eq (reachesInput t w) (inputs-retired (atInput w)) refl
 
 -- ---- the claims

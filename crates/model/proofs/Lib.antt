@@ -16,6 +16,7 @@ pub mod SendingRing
 pub mod History
 pub mod Ring
 pub mod InputStep
+pub mod Descriptors
 pub mod Blocks
 pub mod Decoded
 pub mod Ready

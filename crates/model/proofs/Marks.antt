@@ -1,4 +1,4 @@
--- What the marks of runs read: how many descriptors of the audio input, or of the audio output endpoint, were retired so far.
+-- What marks of runs read: whatever is asked of them, added up, and how many descriptors of the audio input, or of the audio output endpoint, were retired.
 use Prim.Native.Nat.{ℕ, _+_}
 use mathlib.Core.Path.{_≡_, refl}
 use mathlib.Core.Bool.{Bool, true, false, not, _&&_}
@@ -8,74 +8,98 @@ use lib.Dec.{eqb}
 use Rattle.bits.specs.Pick.{pick}
 use Rattle.bits.proofs.Tests.{false-true}
 use Rattle.bus.specs.Steps.{replay}
-use Rattle.record.specs.Change.{Change, bus, ran, lost, count, uf, phase, started, gone, suspended, wasRunning, credit, budget, counter, block, timers, control, queued, popped, pushed, cleared, reply, device, config, forgot, midi, serial, received, frame, taken}
-use Rattle.model.specs.Marks.{retiredBy, audioRetired}
-use Rattle.model.proofs.Reading.{Reading, Lasting, Unheard, Unmarked, quiet}
+use Rattle.dtd.specs.Dtd.{Endpoint}
+use Rattle.record.specs.World.{World}
+use Rattle.record.specs.Change.{Change, bus, ran, lost, count, uf, phase, started, gone, suspended, wasRunning, credit, budget, counter, block, timers, control, queued, popped, pushed, cleared, reply, device, config, forgot, midi, serial, received, frame, taken, Step}
+use Rattle.model.specs.Marks.{noted, total, audioMark}
+use Rattle.model.proofs.Reading.{Reading, Lasting, Unheard, Unmarked, AudioAlone, through, Silent, quiet}
 
-abbrev pub retiredOn : Bool → Change → ℕ → ℕ
-retiredOn input c n = n + retiredBy input c
+-- ---- whatever is asked of runs, added up
+
+module _ (f : Endpoint → ℕ → ℕ → ℕ) (g : ℕ → ℕ) where
+  abbrev pub noting : Change → ℕ → ℕ
+  noting c n = n + noted f g c
+
+  pub quiet-noted : (c : Change) → quiet c ≡ true → noted f g c ≡ 0
+  unfolding noted
+  quiet-noted (bus s) e = refl
+  quiet-noted (ran e′ k n) e = absurd (false-true e)
+  quiet-noted (lost n) e = absurd (false-true e)
+  quiet-noted (count c n) e = refl
+  quiet-noted (uf n) e = refl
+  quiet-noted (phase p) e = refl
+  quiet-noted (started n) e = refl
+  quiet-noted (gone b) e = refl
+  quiet-noted (suspended b) e = refl
+  quiet-noted (wasRunning b) e = refl
+  quiet-noted (credit n) e = refl
+  quiet-noted (budget n) e = refl
+  quiet-noted (counter n) e = refl
+  quiet-noted (block n c) e = refl
+  quiet-noted (timers ts) e = refl
+  quiet-noted (control c) e = refl
+  quiet-noted (queued bs) e = refl
+  quiet-noted popped e = refl
+  quiet-noted (pushed bs) e = refl
+  quiet-noted cleared e = refl
+  quiet-noted (reply n bs) e = refl
+  quiet-noted (device bs) e = refl
+  quiet-noted (config bs) e = refl
+  quiet-noted forgot e = refl
+  quiet-noted (midi n) e = refl
+  quiet-noted (serial n) e = refl
+  quiet-noted (received bs) e = refl
+  quiet-noted (frame x) e = refl
+  quiet-noted (taken n) e = refl
+
+  pub same : (n m : ℕ) → m ≡ 0 → n + m ≡ n
+  same n m e = omega (arith, e)
+
+  abbrev pub notedReading : Reading ℕ
+  notedReading = record { on = noting; leaves = λ c e n. same n _ (quiet-noted c e) }
+
+  abbrev pub notedLasting : Lasting notedReading
+  unfolding noted
+  notedLasting =
+      record { phases = λ p n. same n 0 refl; goes = λ b n. same n 0 refl; runs = λ b n. same n 0 refl; credits = λ m n. same n 0 refl; budgets = λ m n. same n 0 refl }
+
+  abbrev pub notedUnheard : Unheard notedReading
+  unfolding noted
+  notedUnheard = record { frames = λ x n. same n 0 refl; counted = λ m n. same n 0 refl }
+
+  -- read from 0 on, it is the sum over the list
+  noted-from : (cs : List Change) (n : ℕ) → replay noting cs n ≡ n + total (noted f g) cs
+  unfolding total
+  noted-from [] n = omega arith
+  noted-from (c ∷ cs) n = omega (arith, noted-from cs (n + noted f g c))
+
+  pub noted-sum : (cs : List Change) → replay noting cs 0 ≡ total (noted f g) cs
+  noted-sum cs = omega (arith, noted-from cs 0)
+
+  -- a step that such a reading does not hear has nothing of it
+  pub silent-none : (s : Step) → Silent notedReading s → (w : World) → total (noted f g) (s w) ≡ 0
+  silent-none s p w = omega (arith, noted-sum (s w), p w 0)
+
+-- ---- the descriptors of an audio endpoint
 
 not-audio : (b d : Bool) (r : ℕ) → not b ≡ true → pick (b && d) r 0 ≡ 0
 not-audio true d r e = absurd (false-true e)
 not-audio false d r e = refl
 
-pub quiet-retires : (input : Bool) (c : Change) → quiet c ≡ true → retiredBy input c ≡ 0
-unfolding retiredBy
-quiet-retires input (bus s) e = refl
-quiet-retires input (ran e′ r n) e = not-audio (eqb (e′ .number) 3) _ r e
-quiet-retires input (lost n) e = refl
-quiet-retires input (count c n) e = refl
-quiet-retires input (uf n) e = refl
-quiet-retires input (phase p) e = refl
-quiet-retires input (started n) e = refl
-quiet-retires input (gone b) e = refl
-quiet-retires input (suspended b) e = refl
-quiet-retires input (wasRunning b) e = refl
-quiet-retires input (credit n) e = refl
-quiet-retires input (budget n) e = refl
-quiet-retires input (counter n) e = refl
-quiet-retires input (block n m) e = refl
-quiet-retires input (timers ts) e = refl
-quiet-retires input (control c) e = refl
-quiet-retires input (queued bs) e = refl
-quiet-retires input popped e = refl
-quiet-retires input (pushed bs) e = refl
-quiet-retires input cleared e = refl
-quiet-retires input (reply n bs) e = refl
-quiet-retires input (device bs) e = refl
-quiet-retires input (config bs) e = refl
-quiet-retires input forgot e = refl
-quiet-retires input (midi n) e = refl
-quiet-retires input (serial n) e = refl
-quiet-retires input (received bs) e = refl
-quiet-retires input (frame f) e = refl
-quiet-retires input (taken n) e = refl
-
-pub same : (n m : ℕ) → m ≡ 0 → n + m ≡ n
-same n m e = omega (arith, e)
-
 abbrev pub retiredReading : Bool → Reading ℕ
-retiredReading input = record { on = retiredOn input; leaves = λ c e n. same n _ (quiet-retires input c e) }
+retiredReading input = notedReading (audioMark input) (λ n. 0)
 
 abbrev pub retiredLasting : (input : Bool) → Lasting (retiredReading input)
-unfolding retiredBy
-retiredLasting input =
-    record { phases = λ p n. same n 0 refl; goes = λ b n. same n 0 refl; runs = λ b n. same n 0 refl; credits = λ m n. same n 0 refl; budgets = λ m n. same n 0 refl }
+retiredLasting input = notedLasting (audioMark input) (λ n. 0)
 
 abbrev pub retiredUnheard : (input : Bool) → Unheard (retiredReading input)
-unfolding retiredBy
-retiredUnheard input = record { frames = λ f n. same n 0 refl; counted = λ m n. same n 0 refl }
+retiredUnheard input = notedUnheard (audioMark input) (λ n. 0)
+
+pub retired-alone : (input : Bool) → AudioAlone (retiredReading input)
+unfolding noted
+retired-alone input = record { others = λ e h r n k. omega (arith, not-audio (eqb (e .number) 3) (pick input (e .input) (not (e .input))) r h); drops = λ n k. omega arith }
 
 -- the count of the output endpoint's does not look at runs on the other
 pub retired-unmarked : Unmarked (retiredReading false)
-unfolding retiredBy
-retired-unmarked r m n = same n 0 refl
-
--- read from 0 on, it is the sum over the list
-retired-from : (input : Bool) (cs : List Change) (n : ℕ) → replay (retiredOn input) cs n ≡ n + audioRetired input cs
-unfolding audioRetired
-retired-from input [] n = omega arith
-retired-from input (c ∷ cs) n = omega (arith, retired-from input cs (n + retiredBy input c))
-
-pub retired-sum : (input : Bool) (cs : List Change) → replay (retiredOn input) cs 0 ≡ audioRetired input cs
-retired-sum input cs = omega (arith, retired-from input cs 0)
+unfolding noted
+retired-unmarked r m n = omega arith

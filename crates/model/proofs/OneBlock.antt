@@ -27,15 +27,15 @@ use Rattle.model.specs.Audio.{audioOut, BLOCK-FRAMES, streamIn, blockOf,
 use Rattle.model.specs.Microframe.{rsSet, goneAt, asleepAt, streaming, opens, frameOf, byPhase, atPhase, talks, transfers, others, enumerates, microframe}
 use Rattle.model.specs.Reach.{streamsIn, toPhase, phaseBy, streamBy, outputBy, reachesOutput, atOutput, outputReady}
 use Rattle.model.specs.Earned.{outOf, sentOut}
-use Rattle.model.specs.Marks.{retiredBy, audioOutRetired}
+use Rattle.model.specs.Marks.{noted, audioMark, audioOutRetired}
 use Rattle.model.specs.Claims.{sendsAt, outPointer, outToken, outMoved, blockStores, oneBlock, unprimed}
 use Rattle.model.proofs.Fields.{Fields, Keeps, fields-replay, fields-then, fields-if, keeps-then, keeps-if, keeps-nothing, keeps-one, keeps-bus, keeps-page, keeps-runs, keeps-here}
-use Rattle.model.proofs.Reading.{quiet, Reading, readingOf, Lasting, Unheard, Unmarked, through, through-if, after-silent, before-silent, silent-then, silent-nothing, silent-stores, silent-counts, silent-ticks, silent-sleeps, silent-suspends, silent-unstalls, silent-stages, silent-posts, silent-serves, silent-others, silent-idles, silent-powers, silent-resets, silent-enumerates, silent-opens, silent-leaves, silent-hears, silent-keeps}
+use Rattle.model.proofs.Reading.{quiet, Reading, readingOf, AudioAlone, fieldsAlone, Lasting, Unheard, Unmarked, through, through-if, after-silent, before-silent, silent-then, silent-nothing, silent-stores, silent-counts, silent-ticks, silent-sleeps, silent-suspends, silent-unstalls, silent-stages, silent-posts, silent-serves, silent-others, silent-idles, silent-powers, silent-resets, silent-enumerates, silent-opens, silent-leaves, silent-hears, silent-keeps}
 use Rattle.model.proofs.Frames.{Frames, frames, framesReading}
 use Rattle.model.proofs.Way.{Way, way, wayOf}
-use Rattle.model.proofs.Phase.{phases, phasesReading}
-use Rattle.model.proofs.Budget.{budgets, budgetReading}
-use Rattle.model.proofs.Marks.{retiredReading, retiredLasting, retiredUnheard, retired-unmarked, retired-sum}
+use Rattle.model.proofs.Phase.{phases, phases-leaves, phasesReading}
+use Rattle.model.proofs.Budget.{budgets, budget-leaves, budgetReading}
+use Rattle.model.proofs.Marks.{noted-sum, retiredReading, retiredLasting, retiredUnheard, retired-alone, retired-unmarked}
 use Rattle.model.proofs.Out.{outs, out-leaves, outReading, outLasting, outUnheard}
 use Rattle.model.proofs.Placed.{Placed, placed-self, placed-first, placed-second, placed-true, placed-false, placed-here}
 
@@ -63,9 +63,9 @@ phase-controls stack v =
     ∙ pick-eq (v .state .control .on)
     (keeps-if phases stalled unstalls (stages stack)
     (silent-keeps phases unstalls (silent-unstalls phasesReading))
-    (silent-keeps phases (stages stack) (silent-stages phasesReading stack)) v)
+    (silent-keeps phases (stages stack) (silent-stages phasesReading (fieldsAlone phases phases-leaves) stack)) v)
     (fields-if phases _ _ _ v
-    ∙ pick-eq (eqb (v .state .lengths .setups) 0) (phase-configured v) (silent-keeps phases posts (silent-posts phasesReading) v))
+    ∙ pick-eq (eqb (v .state .lengths .setups) 0) (phase-configured v) (silent-keeps phases posts (silent-posts phasesReading (λ n k. refl)) v))
 
 -- and whether it streams then
 streams-by : (p : Phase) (on waits : Bool) → streaming (pick on p (pick waits (pick (enumerating p) Stream p) p)) ≡ streaming p || (enumerating p && (not on && waits))
@@ -89,7 +89,7 @@ streams-by Stream false false = refl
 
 ruleset keeps-rules = (keeps-then, keeps-if, keeps-nothing, keeps-one, keeps-bus, keeps-page, keeps-runs, keeps-here)
 
-ways-frame : Keeps way startsFrame
+pub ways-frame : Keeps way startsFrame
 unfolding startsFrame
 ways-frame = search keeps-rules
 
@@ -157,7 +157,7 @@ budgets-leaves false = keeps-nothing budgets
 budget-still : (w : World) → w .state .port .gone ≡ false → streamBy true w .state .audio .budget ≡ w .state .audio .budget
 unfolding streamBy
 budget-still w e =
-    silent-keeps budgets (enumerates (w .settings)) (silent-enumerates budgetReading (λ p k. refl) (w .settings)) _
+    silent-keeps budgets (enumerates (w .settings)) (silent-enumerates budgetReading (fieldsAlone budgets budget-leaves) (λ p k. refl) (w .settings)) _
     ∙ kept-phase budgets (silent-keeps budgets counts (silent-counts budgetReading)) (silent-keeps budgets ticks (silent-ticks budgetReading))
     (silent-keeps budgets (suspends false) (silent-suspends budgetReading false)) budgets-leaves w e
 
@@ -229,7 +229,7 @@ unfolding leaves
 phase-leaves true = keeps-one phases _ (λ w. refl)
 phase-leaves false = keeps-nothing phases
 
-idle-phase : (w : World) → w .state .port .gone ≡ true → phaseBy true w .state .phase ≡ Idle
+pub idle-phase : (w : World) → w .state .port .gone ≡ true → phaseBy true w .state .phase ≡ Idle
 unfolding phaseBy toPhase
 idle-phase w e =
     fields-then phases _ _ w
@@ -258,14 +258,14 @@ gets-closed true false w e =
 
 -- ---- a whole microframe, by whatever is read of its changes
 
-module _ {K : Type 0} (R : Reading K) where
+module _ {K : Type 0} (R : Reading K) (A : AudioAlone R) where
   -- a reading that does not look at the phase sees the stream alone
   module _ (P : (p : Phase) (k : K) → R .on (phase p) k ≡ k) where
     through-transfers : (c : Settings) (t : ℕ) (u : World) (k : K) → through R (transfers c t) u k ≡ pick (streaming (u .state .phase)) (pick (c .cdc) k (through R streams u k)) k
     unfolding transfers
     through-transfers c t u k =
         through-if R _ _ _ u k
-        ∙ pick-eq (streaming (u .state .phase)) (through-if R _ _ _ u k ∙ pick-eq (c .cdc) (silent-serves R u k) (before-silent R streams (others c t) u k (silent-others R c t))) (silent-nothing R u k)
+        ∙ pick-eq (streaming (u .state .phase)) (through-if R _ _ _ u k ∙ pick-eq (c .cdc) (silent-serves R A u k) (before-silent R streams (others c t) u k (silent-others R A c t))) (silent-nothing R u k)
 
     three : (rs st cd : Bool) (x y : K) → pick rs (pick st (pick cd x y) x) x ≡ pick (rs && (st && not cd)) y x
     three true true true x y = refl
@@ -278,7 +278,7 @@ module _ {K : Type 0} (R : Reading K) where
     through-talks c t rs v k =
         let u = left (enumerates c) v in
         through-if R _ _ _ v k
-        ∙ pick-eq rs (after-silent R _ _ v k (silent-enumerates R P c) ∙ through-transfers c t u k) (silent-nothing R v k)
+        ∙ pick-eq rs (after-silent R _ _ v k (silent-enumerates R A P c) ∙ through-transfers c t u k) (silent-nothing R v k)
         ∙ three rs (streaming (u .state .phase)) (c .cdc) k (through R streams u k)
 
     through-at : (c : Settings) (t : ℕ) (rs : Bool) (p : Phase) (v : World) (k : K) → through R (atPhase c t rs p) v k ≡ pick (talking p && (rs && (streaming (left (enumerates c) v .state .phase) && not (c .cdc)))) (through R streams (left (enumerates c) v) k) k
@@ -321,7 +321,7 @@ unfolding streamBy phaseBy toPhase
 kept-stream F l L rs w =
     let R = readingOf F l in
     let c = w .settings in
-    silent-keeps F (enumerates c) (silent-enumerates R (L .phases) c) _
+    silent-keeps F (enumerates c) (silent-enumerates R (fieldsAlone F l) (L .phases) c) _
     ∙ silent-keeps F (opens c false then suspends false then leaves (c .«device_stack») rs) (silent-then R _ _ (silent-opens R L c false) (silent-then R _ _ (silent-suspends R false) (silent-leaves R L (c .«device_stack») rs))) w
 
 -- ---- the output step stands in the microframe's list where the closed form says so
@@ -484,31 +484,31 @@ outputs-list x = outputs-open x ∙ by (primed audioOut (x .memory .page)) (leb 
     by false c true ep ea = refl
     by false c false ep ea = refl
 
-module _ {K : Type 0} (R : Reading K) where
-  -- what is read of a block
-  abbrev pub blockRead : World → K → K
-  blockRead x k =
-      R .on (count «out_frames» BLOCK-FRAMES)
-      (R .on (count «out_transfers» 1)
-      (R .on (ran audioOut 1 (outMoved x))
-      (R .on (credit (x .state .audio .credit - BLOCK-FRAMES))
-      (R .on (taken (min BLOCK-FRAMES (x .state .audio .sending .len)))
-      (R .on (count «out_underruns» (BLOCK-FRAMES - x .state .audio .sending .len))
-      (R .on (counter ((x .state .audio .counter + BLOCK-FRAMES) % 2 ^ 16)) k))))))
+-- what is read of a block
+abbrev pub blockRead : {K : Type 0} → Reading K → World → K → K
+blockRead R x k =
+    R .on (count «out_frames» BLOCK-FRAMES)
+    (R .on (count «out_transfers» 1)
+    (R .on (ran audioOut 1 (outMoved x))
+    (R .on (credit (x .state .audio .credit - BLOCK-FRAMES))
+    (R .on (taken (min BLOCK-FRAMES (x .state .audio .sending .len)))
+    (R .on (count «out_underruns» (BLOCK-FRAMES - x .state .audio .sending .len))
+    (R .on (counter ((x .state .audio .counter + BLOCK-FRAMES) % 2 ^ 16)) k))))))
 
-  through-block : (x : World) (k : K) → replay (R .on) (oneBlock x) k ≡ blockRead x k
+module _ {K : Type 0} (R : Reading K) (A : AudioAlone R) where
+  through-block : (x : World) (k : K) → replay (R .on) (oneBlock x) k ≡ blockRead R x k
   through-block x k =
       let ss = blockStores x (busOf x) in
       let counted : K → K = λ j. R .on (count «out_frames» BLOCK-FRAMES) (R .on (count «out_transfers» 1) j) in
       replay-append (R .on) (map bus ss) (ran audioOut 1 (outMoved x) ∷ lost (droppedBy ss) ∷ count «out_transfers» 1 ∷ count «out_frames» BLOCK-FRAMES ∷ []) _
       ∙ ap (λ (j : K). counted (R .on (lost (droppedBy ss)) (R .on (ran audioOut 1 (outMoved x)) j))) (silent-stores R ss _)
-      ∙ ap counted (R .leaves (lost (droppedBy ss)) refl _)
+      ∙ ap counted (A .drops (droppedBy ss) _)
 
   through-unprimed : (b : Bool) (x : World) (k : K) → replay (R .on) (pick b (unprimed x) []) k ≡ k
   through-unprimed true x k = R .leaves (bus _) refl k
   through-unprimed false x k = refl
 
-  pub through-outputs : (x : World) (k : K) → through R streamOut x k ≡ pick (outputReady x && leb BLOCK-FRAMES (x .state .audio .credit)) (blockRead x k) k
+  pub through-outputs : (x : World) (k : K) → through R streamOut x k ≡ pick (outputReady x && leb BLOCK-FRAMES (x .state .audio .credit)) (blockRead R x k) k
   through-outputs x k =
       let test = outputReady x && leb BLOCK-FRAMES (x .state .audio .credit) in
       ap (λ (cs : List Change). replay (R .on) cs k) (outputs-list x)
@@ -516,17 +516,17 @@ module _ {K : Type 0} (R : Reading K) where
       ∙ pick-eq test (through-block x k) (through-unprimed (asked x) x k)
 
   -- a reading that does not look at frames that come: the whole microframe is the output step
-  pub through-sends : Lasting R → Unheard R → Unmarked R → (t : ℕ) (w : World) (k : K) → through R (microframe t) w k ≡ pick (sendsAt t w) (blockRead (atOutput w) k) k
+  pub through-sends : Lasting R → Unheard R → Unmarked R → (t : ℕ) (w : World) (k : K) → through R (microframe t) w k ≡ pick (sendsAt t w) (blockRead R (atOutput w) k) k
   unfolding streams
   through-sends L U M t w k =
       let u = streamBy (rsSet w) w in
-      through-microframe R L t w k
-      ∙ pick-eq (reachesOutput t w) (after-silent R streamIn streamOut u k (silent-hears R L U M) ∙ through-outputs (left streamIn u) k) refl
+      through-microframe R A L t w k
+      ∙ pick-eq (reachesOutput t w) (after-silent R streamIn streamOut u k (silent-hears R L U A M) ∙ through-outputs (left streamIn u) k) refl
       ∙ pick-and (reachesOutput t w) _ _ k
 
 -- the stream counter, the sending ring and the frames counted as sent
 pub out-output : (w : World) → outOf (atOutput w) ≡ outOf w
-out-output w = silent-keeps outs streamIn (silent-hears outReading outLasting outUnheard (λ r n k. refl)) _ ∙ kept-stream outs out-leaves outLasting (rsSet w) w
+out-output w = silent-keeps outs streamIn (silent-hears outReading outLasting outUnheard (fieldsAlone outs out-leaves) (λ r n k. refl)) _ ∙ kept-stream outs out-leaves outLasting (rsSet w) w
 
 block-out : (x : World) → blockRead outReading x (outOf x) ≡ sentOut (outOf x)
 unfolding sentOut
@@ -536,18 +536,18 @@ pub out-microframe : (t : ℕ) (w : World) → outOf (left (microframe t) w) ≡
 out-microframe t w =
     let x = atOutput w in
     fields-replay outs (microframe t w) w
-    ∙ through-sends outReading outLasting outUnheard (λ r n k. refl) t w (outOf w)
+    ∙ through-sends outReading (fieldsAlone outs out-leaves) outLasting outUnheard (λ r n k. refl) t w (outOf w)
     ∙ pick-eq (sendsAt t w) (ap (blockRead outReading x) (sym (out-output w)) ∙ block-out x ∙ ap sentOut (out-output w)) refl
 
 -- the descriptors of the endpoint that are retired
 block-retired : (x : World) → blockRead (retiredReading false) x 0 ≡ 1
-unfolding retiredBy
+unfolding noted
 block-retired x = refl
 
 pub microframe-retired : (t : ℕ) (w : World) → audioOutRetired (microframe t w) ≡ pick (sendsAt t w) 1 0
 microframe-retired t w =
-    sym (retired-sum false (microframe t w))
-    ∙ through-sends (retiredReading false) (retiredLasting false) (retiredUnheard false) retired-unmarked t w 0
+    sym (noted-sum (audioMark false) (λ n. 0) (microframe t w))
+    ∙ through-sends (retiredReading false) (retired-alone false) (retiredLasting false) (retiredUnheard false) retired-unmarked t w 0
     ∙ pick-eq (sendsAt t w) (block-retired (atOutput w)) refl
 
 -- ---- the claims

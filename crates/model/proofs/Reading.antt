@@ -23,8 +23,8 @@ use Rattle.model.specs.Audio.{audioIn, addsBudget, clearsBudget, keepsFr
 use Rattle.model.specs.Microframe.{opens, enumerates, others}
 use Rattle.model.proofs.Fields.{Fields, Keeps, fields-replay}
 
--- ---- changes that no reading looks at: neither the phase, nor the budget, nor what a reset changes, nor frames that come, go or are counted, nor a run on an
--- audio endpoint
+-- ---- changes that no reading looks at: neither the phase, nor the budget, nor what a reset changes, nor frames that come, go or are counted, nor the mark of
+-- a run or the bytes that it lost
 
 abbrev pub quietCounter : Counter → Bool
 quietCounter microframes = true
@@ -43,8 +43,8 @@ quietCounter enumerations = true
 
 abbrev pub quiet : Change → Bool
 quiet (bus s) = true
-quiet (ran e r n) = not (eqb (e .number) 3)
-quiet (lost n) = true
+quiet (ran e r n) = false
+quiet (lost n) = false
 quiet (count c n) = quietCounter c
 quiet (uf n) = true
 quiet (phase p) = false
@@ -80,6 +80,15 @@ pub record Reading (K : Type 0) : Type 0 where
 -- fields of the World as a reading
 abbrev pub readingOf : {K : Type 0} (F : Fields K) → ((c : Change) → quiet c ≡ true → (k : K) → F .on c k ≡ k) → Reading K
 readingOf F leaves = record { on = F .on; leaves = leaves }
+
+-- a reading that looks at no run but those on the audio endpoints, and not at bytes lost
+pub record AudioAlone {K : Type 0} (R : Reading K) : Type 0 where
+  pub others : (e : Endpoint) → not (eqb (e .number) 3) ≡ true → (r n : ℕ) (k : K) → R .on (ran e r n) k ≡ k
+  pub drops : (n : ℕ) (k : K) → R .on (lost n) k ≡ k
+
+-- as fields of the World are, which no run changes
+abbrev pub fieldsAlone : {K : Type 0} (F : Fields K) (l : (c : Change) → quiet c ≡ true → (k : K) → F .on c k ≡ k) → AudioAlone (readingOf F l)
+fieldsAlone F l = record { others = λ e h r n k. F .marks e r n k; drops = F .drops }
 
 -- a step whose changes leave them keeps them
 pub silent-keeps : {K : Type 0} (F : Fields K) (f : Step) → ((w : World) (k : K) → replay (F .on) (f w) k ≡ k) → Keeps F f
@@ -163,27 +172,9 @@ module _ {K : Type 0} (R : Reading K) where
   unfolding onPage
   silent-page f w k = silent-stores (lifted f (busOf w)) k
 
-  -- a run, by what its mark does
-  pub ran-marks : (e : Endpoint) (r : Run) (k : K) → replay (R .on) (ranStores e r) k ≡ R .on (ran e (r .retired) (r .moved)) k
-  unfolding ranStores
-  ran-marks e r k =
-      replay-append (R .on) (map bus (r .stores)) (ran e (r .retired) (r .moved) ∷ lost (droppedBy (r .stores)) ∷ []) k
-      ∙ ap (λ (j : K). R .on (lost (droppedBy (r .stores))) (R .on (ran e (r .retired) (r .moved)) j)) (silent-stores (r .stores) k)
-      ∙ R .leaves (lost (droppedBy (r .stores))) refl (R .on (ran e (r .retired) (r .moved)) k)
+  ruleset silent-rules = (silent-then, silent-if, silent-nothing, silent-one, silent-bus, silent-page, silent-here, silent-pick)
 
-  pub through-runs : (e : Endpoint) (bs : List ℕ) (f : Run → Step) (w : World) (k : K) → ((r : Run) → Silent (f r))
-      → through (runs e bs f) w k ≡ R .on (ran e (runDtds e bs (busOf w) .retired) (runDtds e bs (busOf w) .moved)) k
-  unfolding runs
-  through-runs e bs f w k p =
-      let r = runDtds e bs (busOf w) in
-      before-silent (λ v. ranStores e r) (f r) w k (p r) ∙ ran-marks e r k
-
-  pub silent-runs : (e : Endpoint) (bs : List ℕ) (f : Run → Step) → not (eqb (e .number) 3) ≡ true → ((r : Run) → Silent (f r)) → Silent (runs e bs f)
-  silent-runs e bs f other p w k = through-runs e bs f w k p ∙ R .leaves (ran e _ _) other k
-
-  ruleset silent-rules = (silent-then, silent-if, silent-nothing, silent-one, silent-bus, silent-page, silent-runs, silent-here, silent-pick)
-
-  -- ---- the steps
+  -- ---- the steps that run no descriptor
 
   pub silent-counts : Silent counts
   unfolding counts
@@ -214,21 +205,9 @@ module _ {K : Type 0} (R : Reading K) where
   unfolding toStatus
   silent-status = search silent-rules
 
-  pub silent-posted : (qh first second : ℕ) → Silent (posted qh first second)
-  unfolding posted
-  silent-posted qh first second = search silent-rules depth 12
-
-  pub silent-posts : Silent posts
-  unfolding posts
-  silent-posts = search (silent-rules, silent-posted)
-
   pub silent-reply : (r : Run) → Silent (keepsReply r)
   unfolding keepsReply
   silent-reply r = search (silent-rules, silent-status) depth 8
-
-  pub silent-data : Silent dataStage
-  unfolding dataStage
-  silent-data = search (silent-rules, silent-status, silent-reply) depth 8
 
   pub silent-whole : Silent asksWhole
   unfolding asksWhole
@@ -250,61 +229,31 @@ module _ {K : Type 0} (R : Reading K) where
   unfolding statusEnds
   silent-ends stack r = search (silent-rules, silent-finishes, silent-drops) depth 8
 
-  pub silent-last : (stack : Bool) → Silent (statusStage stack)
-  unfolding statusStage
-  silent-last stack = search (silent-rules, silent-ends)
-
   pub silent-unstalls : Silent unstalls
   unfolding unstalls
   silent-unstalls = search (silent-rules, silent-drops)
-
-  pub silent-stages : (stack : Bool) → Silent (stages stack)
-  unfolding stages
-  silent-stages stack = search (silent-rules, silent-last, silent-data, silent-drops) depth 8
-
-  pub silent-reads : (n : ℕ) → Silent (reads n)
-  unfolding reads
-  silent-reads zero = silent-nothing
-  silent-reads (suc n) =
-      let rest : Silent (reads n) = silent-reads n in
-      search (silent-rules, rest) depth 8
 
   pub silent-naks : Silent naks
   unfolding naks
   silent-naks = search silent-rules
 
-  pub silent-midi : (asleep : Bool) (every : ℕ) → Silent (midiIn asleep every)
-  unfolding midiIn
-  silent-midi true every = silent-sleeps
-  silent-midi false every = search (silent-rules, silent-naks, silent-reads) depth 8
-
-  pub silent-serial : (n : ℕ) → Silent (drainsSerial n)
-  unfolding drainsSerial
-  silent-serial n = search silent-rules depth 8
-
-  pub silent-serves : Silent serialStep
-  unfolding serialStep
-  silent-serves = search (silent-rules, silent-serial) depth 8
-
-  pub silent-drains : (n : ℕ) → Silent (drainsMidi n)
-  unfolding drainsMidi
-  silent-drains n = search silent-rules depth 8
-
-  pub silent-writes : Silent midiOut
-  unfolding midiOut
-  silent-writes = search (silent-rules, silent-drains)
-
-  pub silent-vendor : Silent readsVendor
-  unfolding readsVendor
-  silent-vendor = search silent-rules
-
-  pub silent-others : (c : Settings) (t : ℕ) → Silent (others c t)
-  unfolding others
-  silent-others c t = search (silent-rules, silent-midi, silent-writes, silent-vendor) depth 8
-
   pub silent-unprimes : Silent unprimes
   unfolding unprimes
   silent-unprimes = search silent-rules
+
+  -- ---- a reading that does not look at bytes lost
+
+  module _ (D : (n : ℕ) (k : K) → R .on (lost n) k ≡ k) where
+    silent-lost : (n : ℕ) → Silent (one (λ w. lost n))
+    silent-lost n = silent-by (λ w. lost n) (λ w k. D n k)
+
+    silent-posted : (qh first second : ℕ) → Silent (posted qh first second)
+    unfolding posted
+    silent-posted qh first second = search (silent-rules, silent-lost) depth 12
+
+    pub silent-posts : Silent posts
+    unfolding posts
+    silent-posts = search (silent-rules, silent-posted)
 
   -- ---- a reading that does not look at the phase
 
@@ -332,13 +281,85 @@ module _ {K : Type 0} (R : Reading K) where
     unfolding configured
     silent-configured = search (silent-rules, silent-phase) depth 8
 
-    pub silent-controls : (stack : Bool) → Silent (controls stack)
-    unfolding controls
-    silent-controls stack = search (silent-rules, silent-stages, silent-unstalls, silent-configured, silent-posts) depth 8
+  -- ---- those that run some
 
-    pub silent-enumerates : (c : Settings) → Silent (enumerates c)
-    unfolding enumerates
-    silent-enumerates c = search (silent-rules, silent-frame, silent-controls)
+  module _ (A : AudioAlone R) where
+    -- a run, by what its mark does
+    pub ran-marks : (e : Endpoint) (r : Run) (k : K) → replay (R .on) (ranStores e r) k ≡ R .on (ran e (r .retired) (r .moved)) k
+    unfolding ranStores
+    ran-marks e r k =
+        replay-append (R .on) (map bus (r .stores)) (ran e (r .retired) (r .moved) ∷ lost (droppedBy (r .stores)) ∷ []) k
+        ∙ ap (λ (j : K). R .on (lost (droppedBy (r .stores))) (R .on (ran e (r .retired) (r .moved)) j)) (silent-stores (r .stores) k)
+        ∙ A .drops (droppedBy (r .stores)) (R .on (ran e (r .retired) (r .moved)) k)
+
+    pub through-runs : (e : Endpoint) (bs : List ℕ) (f : Run → Step) (w : World) (k : K) → ((r : Run) → Silent (f r))
+        → through (runs e bs f) w k ≡ R .on (ran e (runDtds e bs (busOf w) .retired) (runDtds e bs (busOf w) .moved)) k
+    unfolding runs
+    through-runs e bs f w k p =
+        let r = runDtds e bs (busOf w) in
+        before-silent (λ v. ranStores e r) (f r) w k (p r) ∙ ran-marks e r k
+
+    pub silent-runs : (e : Endpoint) (bs : List ℕ) (f : Run → Step) → not (eqb (e .number) 3) ≡ true → ((r : Run) → Silent (f r)) → Silent (runs e bs f)
+    silent-runs e bs f other p w k = through-runs e bs f w k p ∙ A .others e other _ _ k
+
+    ruleset runs-rules = (silent-rules, silent-runs)
+
+    pub silent-data : Silent dataStage
+    unfolding dataStage
+    silent-data = search (runs-rules, silent-status, silent-reply) depth 8
+
+    pub silent-last : (stack : Bool) → Silent (statusStage stack)
+    unfolding statusStage
+    silent-last stack = search (runs-rules, silent-ends)
+
+    pub silent-stages : (stack : Bool) → Silent (stages stack)
+    unfolding stages
+    silent-stages stack = search (runs-rules, silent-last, silent-data, silent-drops) depth 8
+
+    pub silent-reads : (n : ℕ) → Silent (reads n)
+    unfolding reads
+    silent-reads zero = silent-nothing
+    silent-reads (suc n) =
+        let rest : Silent (reads n) = silent-reads n in
+        search (runs-rules, rest) depth 8
+
+    pub silent-midi : (asleep : Bool) (every : ℕ) → Silent (midiIn asleep every)
+    unfolding midiIn
+    silent-midi true every = silent-sleeps
+    silent-midi false every = search (runs-rules, silent-naks, silent-reads) depth 8
+
+    pub silent-serial : (n : ℕ) → Silent (drainsSerial n)
+    unfolding drainsSerial
+    silent-serial n = search runs-rules depth 8
+
+    pub silent-serves : Silent serialStep
+    unfolding serialStep
+    silent-serves = search (runs-rules, silent-serial) depth 8
+
+    pub silent-drains : (n : ℕ) → Silent (drainsMidi n)
+    unfolding drainsMidi
+    silent-drains n = search runs-rules depth 8
+
+    pub silent-writes : Silent midiOut
+    unfolding midiOut
+    silent-writes = search (runs-rules, silent-drains)
+
+    pub silent-vendor : Silent readsVendor
+    unfolding readsVendor
+    silent-vendor = search runs-rules
+
+    pub silent-others : (c : Settings) (t : ℕ) → Silent (others c t)
+    unfolding others
+    silent-others c t = search (runs-rules, silent-midi, silent-writes, silent-vendor) depth 8
+
+    module _ (P : (p : Phase) (k : K) → R .on (phase p) k ≡ k) where
+      pub silent-controls : (stack : Bool) → Silent (controls stack)
+      unfolding controls
+      silent-controls stack = search (silent-rules, silent-stages, silent-unstalls, silent-configured P, silent-posts (A .drops)) depth 8
+
+      pub silent-enumerates : (c : Settings) → Silent (enumerates c)
+      unfolding enumerates
+      silent-enumerates c = search (silent-rules, silent-frame, silent-controls)
 
   -- ---- one that does not look at the budget
 
@@ -429,10 +450,10 @@ module _ {K : Type 0} (R : Reading K) where
       unfolding keepsRun
       silent-kept r = search (heard-rules, silent-blocks)
 
-      module _ (M : Unmarked R) where
+      module _ (A : AudioAlone R) (M : Unmarked R) where
         silent-inputs : Silent inputs
         unfolding inputs
-        silent-inputs w k = through-runs audioIn [] keepsRun w k silent-kept ∙ M _ _ k
+        silent-inputs w k = through-runs A audioIn [] keepsRun w k silent-kept ∙ M _ _ k
 
         pub silent-hears : Silent streamIn
         unfolding streamIn

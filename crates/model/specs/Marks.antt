@@ -1,4 +1,5 @@
--- How many descriptors of an audio endpoint a list of changes retires, by the marks of its runs (demand 3: one block, or none; one run, or none).
+-- What a list of changes says of its runs: how many descriptors they retired, on all endpoints (S-1) or on an audio endpoint (demand 3: one block, or none;
+-- one run, or none), and how many bytes no window took.
 use Prim.Native.Nat.{ℕ, _+_}
 use mathlib.Core.Bool.{Bool, true, false, not, _&&_}
 use mathlib.Core.List.{List, [], _∷_}
@@ -11,45 +12,67 @@ use Rattle.record.specs.Change.{Change, bus, ran, lost, count, uf, phase, start
 abbrev pub isAudio : Bool → Endpoint → Bool
 isAudio input e = eqb (e .number) 3 && pick input (e .input) (not (e .input))
 
--- what one change retires: a run's mark has the number, any other change none
-unfoldable pub retiredBy : Bool → Change → ℕ
-retiredBy input (bus s) = 0
-retiredBy input (ran e k n) = pick (isAudio input e) k 0
-retiredBy input (lost n) = 0
-retiredBy input (count c n) = 0
-retiredBy input (uf n) = 0
-retiredBy input (phase p) = 0
-retiredBy input (started n) = 0
-retiredBy input (gone b) = 0
-retiredBy input (suspended b) = 0
-retiredBy input (wasRunning b) = 0
-retiredBy input (credit n) = 0
-retiredBy input (budget n) = 0
-retiredBy input (counter n) = 0
-retiredBy input (block n c) = 0
-retiredBy input (timers ts) = 0
-retiredBy input (control c) = 0
-retiredBy input (queued bs) = 0
-retiredBy input popped = 0
-retiredBy input (pushed bs) = 0
-retiredBy input cleared = 0
-retiredBy input (reply n bs) = 0
-retiredBy input (device bs) = 0
-retiredBy input (config bs) = 0
-retiredBy input forgot = 0
-retiredBy input (midi n) = 0
-retiredBy input (serial n) = 0
-retiredBy input (received bs) = 0
-retiredBy input (frame f) = 0
-retiredBy input (taken n) = 0
+-- what is asked of one change: f of a run's mark, by endpoint, descriptors retired and bytes moved, and g of the bytes that it lost; any other change has 0
+unfoldable pub noted : (Endpoint → ℕ → ℕ → ℕ) → (ℕ → ℕ) → Change → ℕ
+noted f g (bus s) = 0
+noted f g (ran e k n) = f e k n
+noted f g (lost n) = g n
+noted f g (count c n) = 0
+noted f g (uf n) = 0
+noted f g (phase p) = 0
+noted f g (started n) = 0
+noted f g (gone b) = 0
+noted f g (suspended b) = 0
+noted f g (wasRunning b) = 0
+noted f g (credit n) = 0
+noted f g (budget n) = 0
+noted f g (counter n) = 0
+noted f g (block n c) = 0
+noted f g (timers ts) = 0
+noted f g (control c) = 0
+noted f g (queued bs) = 0
+noted f g popped = 0
+noted f g (pushed bs) = 0
+noted f g cleared = 0
+noted f g (reply n bs) = 0
+noted f g (device bs) = 0
+noted f g (config bs) = 0
+noted f g forgot = 0
+noted f g (midi n) = 0
+noted f g (serial n) = 0
+noted f g (received bs) = 0
+noted f g (frame x) = 0
+noted f g (taken n) = 0
 
--- and a list of changes
-unfoldable pub audioRetired : Bool → List Change → ℕ
-audioRetired input [] = 0
-audioRetired input (c ∷ cs) = retiredBy input c + audioRetired input cs
+-- of marks alone
+abbrev pub marked : (Endpoint → ℕ → ℕ → ℕ) → Change → ℕ
+marked f c = noted f (λ n. 0) c
+
+-- the sum over a list of changes
+unfoldable pub total : (Change → ℕ) → List Change → ℕ
+total f [] = 0
+total f (c ∷ cs) = f c + total f cs
+
+-- S-1: descriptors retired, on whatever endpoint
+abbrev pub retiredMark : Endpoint → ℕ → ℕ → ℕ
+retiredMark e k n = k
+
+abbrev pub allRetired : List Change → ℕ
+allRetired cs = total (marked retiredMark) cs
+
+-- bytes that no window took
+abbrev pub droppedMark : Endpoint → ℕ → ℕ → ℕ
+droppedMark e k n = 0
+
+abbrev pub allDropped : List Change → ℕ
+allDropped cs = total (noted droppedMark (λ n. n)) cs
+
+-- descriptors retired on an audio endpoint
+abbrev pub audioMark : Bool → Endpoint → ℕ → ℕ → ℕ
+audioMark input e k n = pick (isAudio input e) k 0
 
 abbrev pub audioInRetired : List Change → ℕ
-audioInRetired cs = audioRetired true cs
+audioInRetired cs = total (marked (audioMark true)) cs
 
 abbrev pub audioOutRetired : List Change → ℕ
-audioOutRetired cs = audioRetired false cs
+audioOutRetired cs = total (marked (audioMark false)) cs

@@ -19,7 +19,7 @@ use Rattle.record.specs.declared.State.{State}
 use Rattle.record.specs.Setups.{little}
 use Rattle.record.specs.World.{World, busOf, withBus, atPage, atBus, lined}
 use Rattle.record.specs.Change.{Change, bus, ran, lost, apply, Step, left, _then_, nothing, if, one, here, onBus, onPage, runs, ranStores}
-use Rattle.record.specs.Did.{Leads, dropping, afterRun}
+use Rattle.record.specs.Did.{Leads, counting, dropping, afterRun}
 
 -- ---- steps one after the other, by a test, by a single change
 
@@ -93,9 +93,10 @@ stored-run : (e : Endpoint) (bs : List ℕ) (w : World) (s : State) (m m′ : Me
 unfolding ranStores running apply
 stored-run e bs w s m m′ r p =
     let run = runDtds e bs (S.bus m (s .port .line)) in
-    ap (λ (n : ℕ). atBus w (dropping (lined s (r .line)) n) m′) (p .does .counted)
-    ∙ ap (λ (b : Bus). withBus (atBus w (dropping s (droppedBy (run .stores))) m) b) (p .does .is)
-    ∙ ap (λ (v : World). apply (lost (droppedBy (run .stores))) v) (sym (replay-bus (run .stores) (atBus w s m)))
+    ap (λ (n : ℕ). atBus w (dropping (counting (lined s (r .line)) (r .retired)) n) m′) (p .does .counted)
+    ∙ ap (λ (k : ℕ). atBus w (dropping (counting (lined s (r .line)) k) (droppedBy (run .stores))) m′) (p .retired)
+    ∙ ap (λ (b : Bus). withBus (atBus w (dropping (counting s (run .retired)) (droppedBy (run .stores))) m) b) (p .does .is)
+    ∙ ap (λ (v : World). apply (lost (droppedBy (run .stores))) (apply (ran e (run .retired) (run .moved)) v)) (sym (replay-bus (run .stores) (atBus w s m)))
     ∙ sym (replay-append apply (map bus (run .stores)) (ran e (run .retired) (run .moved) ∷ lost (droppedBy (run .stores)) ∷ []) (atBus w s m))
 
 -- a run, and a step that goes on from what it left

@@ -15,12 +15,12 @@ use Rattle.gptimers.specs.declared.Timers.{Timers}
 use Rattle.record.specs.declared.Phase.{Phase}
 use Rattle.record.specs.declared.Ring.{Ring}
 use Rattle.record.specs.declared.Control.{Control}
-use Rattle.record.specs.Record.{withUf, withT, withSuspended, withGone, withRunning, withCredit, withCounter, withBudget, withBlock, withReceived, withSending, withSetups, withMidi, withSerial, withDevice, withConfig, withCount, withDropped, withPhase, withTimers, Counter, counted, wrapped}
+use Rattle.record.specs.Record.{withUf, withT, withSuspended, withGone, withRunning, withCredit, withCounter, withBudget, withBlock, withReceived, withSending, withSetups, withMidi, withSerial, withDevice, withConfig, withCount, withDropped, withRetired, withPhase, withTimers, Counter, counted, wrapped}
 use Rattle.record.specs.World.{World, withState, withSetupQueue, withMidiQueue, withSerialQueue, withDeviceArea, withReplyArea, withConfigArea, withReceiveArea, withReceivedRing, inPort, inAudio, inControl, inStats, inLengths, inAnswer, busOf, withBus}
 
 pub data Change : Type 0 where
   bus : Store → Change  -- a store to memory, or the line's flag
-  ran : Endpoint → ℕ → ℕ → Change  -- the mark of a descriptor run: how many it retired, how many bytes it moved; nothing changes (536-621)
+  ran : Endpoint → ℕ → ℕ → Change  -- a descriptor run: how many it retired, which the answer counts (S-1), and how many bytes it moved (536-621)
   lost : ℕ → Change  -- bytes that no window took (document 01, "Memory windows")
   count : Counter → ℕ → Change  -- a counter of `stats` goes up
   uf : ℕ → Change  -- the microframe count (375)
@@ -78,7 +78,7 @@ takenFrom capacity n r = record { start = (r .start + n) % capacity; len = r .le
 
 unfoldable pub apply : Change → World → World
 apply (bus s) w = withBus w (store s (busOf w))
-apply (ran e k n) w = w
+apply (ran e k n) w = inAnswer w (withRetired (w .state .answer) (wrapped (w .state .answer .retired + k)))
 apply (lost n) w = inAnswer w (withDropped (w .state .answer) (wrapped (w .state .answer .dropped + n)))
 apply (count c n) w = inStats w (counted c n (w .state .stats))
 apply (uf n) w = inPort w (withUf (w .state .port) n)

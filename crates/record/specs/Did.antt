@@ -7,7 +7,7 @@ use Rattle.bus.specs.Sized.{Sized}
 use Rattle.dtd.specs.declared.Ran.{Ran}
 use Rattle.record.specs.declared.Phase.{Phase}
 use Rattle.record.specs.declared.State.{State}
-use Rattle.record.specs.Record.{wrapped, withDropped, withAnswer, withPhase, withPort, withT}
+use Rattle.record.specs.Record.{wrapped, withDropped, withRetired, withAnswer, withPhase, withPort, withT}
 use Rattle.record.specs.World.{World, withState, atPage, atBus, lined}
 use Rattle.record.specs.Change.{Step, left}
 
@@ -28,12 +28,16 @@ pub record Did (f : Step) (s : State) (m : Memory) (s′ : State) (m′ : Memory
   pub leads : (w : World) → Leads f (atBus w s m) (atBus w s′ m′)
   pub sized : Sized m′
 
--- the state after a run: the line's flag, and the bytes that no window took
+-- so many descriptors retired, and so many bytes that no window took, in the answer
+abbrev pub counting : State → ℕ → State
+counting s n = withAnswer s (withRetired (s .answer) (wrapped (s .answer .retired + n)))
+
 abbrev pub dropping : State → ℕ → State
 dropping s n = withAnswer s (withDropped (s .answer) (wrapped (s .answer .dropped + n)))
 
+-- the state after a run: the line's flag, and both of these
 abbrev pub afterRun : State → Ran → State
-afterRun s r = dropping (lined s (r .line)) (r .dropped)
+afterRun s r = dropping (counting (lined s (r .line)) (r .retired)) (r .dropped)
 
 -- the state in a phase that begins now
 abbrev pub entered : State → Phase → State

@@ -84,10 +84,13 @@ withConfig r x = record { setups = r .setups; midi = r .midi; serial = r .serial
 -- ---- a microframe's answer
 
 abbrev pub withCount : Answer → ℕ → Answer
-withCount r x = record { received = x; dropped = r .dropped }
+withCount r x = record { received = x; dropped = r .dropped; retired = r .retired }
 
 abbrev pub withDropped : Answer → ℕ → Answer
-withDropped r x = record { received = r .received; dropped = x }
+withDropped r x = record { received = r .received; dropped = x; retired = r .retired }
+
+abbrev pub withRetired : Answer → ℕ → Answer
+withRetired r x = record { received = r .received; dropped = r .dropped; retired = x }
 
 -- ---- all of the state
 

@@ -122,10 +122,11 @@ pub struct Lengths {
     pub config: usize,
 }
 
-// What a microframe answers: bytes in the receive area, and bytes that no window took.
+// What a microframe answers: bytes in the receive area, bytes that no window took, and descriptors retired.
 pub struct Answer {
     pub received: usize,
     pub dropped: u64,
+    pub retired: u64,
 }
 
 // All of these.
@@ -186,14 +187,16 @@ pub fn with_stage(c: Control, g: Stage) -> Control
     }
 }
 
-// The state after a run over descriptors: the line's flag, and the bytes that no window took.
+// The state after a run over descriptors: the line's flag, the bytes that no window took, and how many descriptors it retired.
 pub fn after_run(s: State, ran: Ran) -> State
     ensures { λ r. ⌜ r ≡ afterRun s ran ⌝ }
 {
     let mut next = s;
     next.port.line = ran.line;
     let dropped = wrapping_add_u64(s.answer.dropped, ran.dropped as u64);
+    let retired = wrapping_add_u64(s.answer.retired, ran.retired as u64);
     next.answer.dropped = dropped;
+    next.answer.retired = retired;
     next
 }
 

@@ -5,4 +5,4 @@ use Rattle.thin.specs.declared.Answered.{Answered}
 
 -- the by-value answer: the numbers of the answer, and the record behind the reference
 abbrev pub answered : Answered → Host → Framed
-answered r h = record { refusal = r .refusal; received = r .received; dropped = r .dropped; host = h }
+answered r h = record { refusal = r .refusal; received = r .received; dropped = r .dropped; retired = r .retired; host = h }

@@ -5,12 +5,13 @@ ghost use Rattle.usbhost.specs.Frame.{lent, lentIn, framed, frameAnswer};
 ghost use Rattle.thin.specs.Thin.{answered};
 use usbhost::Host;
 
-// A microframe's answer: 0 or the number of its refusal, how many MIDI or serial bytes stand in the receive area, and the bytes that no window
-// took.
+// A microframe's answer: 0 or the number of its refusal, how many MIDI or serial bytes stand in the receive area, the bytes that no window took,
+// and the descriptors retired.
 pub struct Answered {
     pub refusal: u8,
     pub received: usize,
     pub dropped: u64,
+    pub retired: u64,
 }
 
 // One microframe of 125 microseconds at a time, on the record behind a reference.
@@ -45,5 +46,6 @@ pub fn microframe(
         refusal: f.refusal,
         received: f.received,
         dropped: f.dropped,
+        retired: f.retired,
     }
 }

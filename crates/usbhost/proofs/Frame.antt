@@ -111,7 +111,7 @@ module _ (h : Host) (l : Lent) (e : frameNumber h l ≡ 0) where
 
 -- the number reads no settings but their count, no arrays but the setups, and not the state's answer
 pub bare-number : (s : State) (c : Settings) (p : Packer) (setups midi serial device : List ℕ) (l : Lent)
-    → frameNumber (bare (withAnswer s (record { received = 0; dropped = 0 })) (c .spans) p setups) l ≡ frameNumber (hostOf s c p setups midi serial device) l
+    → frameNumber (bare (withAnswer s (record { received = 0; dropped = 0; retired = 0 })) (c .spans) p setups) l ≡ frameNumber (hostOf s c p setups midi serial device) l
 unfolding frameNumber boundsOk inBounds enumeratingOk countsOk areasOk
 bare-number s c p setups midi serial device l = refl
 
@@ -129,7 +129,7 @@ module _ (t : ℕ) (h : Host) (l : Lent) {n : ℕ} (e : n ≡ frameNumber h l) w
       record { number = sym none; outcome = d .is ∙ simp none }
 
 -- over parts; f: the state with nothing received and nothing dropped
-module _ (t : ℕ) (s : State) (c : Settings) (p : Packer) (setups midi serial device : List ℕ) (l : Lent) {f : State} (u : f ≡ withAnswer s (record { received = 0; dropped = 0 })) {n : ℕ}
+module _ (t : ℕ) (s : State) (c : Settings) (p : Packer) (setups midi serial device : List ℕ) (l : Lent) {f : State} (u : f ≡ withAnswer s (record { received = 0; dropped = 0; retired = 0 })) {n : ℕ}
     (e : n ≡ frameNumber (bare f (c .spans) p setups) l) where
   abbrev whole : Host
   whole = hostOf s c p setups midi serial device
@@ -156,7 +156,7 @@ module _ (t : ℕ) (s : State) (c : Settings) (p : Packer) (setups midi serial d
 pub frame-entry : (t : ℕ) (h : Host) (l : Lent) {s : State} → s ≡ stateOf h → (r : Stored) (setups midi serial device : List ℕ) (l′ : Lent)
     → FramePromise t (hostOf s (h .settings) (h .packer) (h .setups) (h .midi) (h .serial) (h .device)) l r setups midi serial device l′
     → {g : Host} → g ≡ hostOf (r .state) (h .settings) (h .packer) setups midi serial device
-    → _≡_ {A = Framed} (record { refusal = r .refusal; received = r .state .answer .received; dropped = r .state .answer .dropped; host = g }) (frameAnswer t h l) × (l′ ≡ lentIn (framed t h l))
+    → _≡_ {A = Framed} (record { refusal = r .refusal; received = r .state .answer .received; dropped = r .state .answer .dropped; retired = r .state .answer .retired; host = g }) (frameAnswer t h l) × (l′ ≡ lentIn (framed t h l))
 unfolding frameAnswer
 frame-entry t h l e r setups midi serial device l′ d f =
     let p = rw e at d in
@@ -169,7 +169,7 @@ module _ (t : ℕ) (h : Host) (l : Lent) (m : frameNumber h l ≡ 0 → ⊥) whe
   unfolding framed
   stays = simp (ne-eqb (frameNumber h l) 0 m)
 
-  pub frame-refused : frameAnswer t h l ≡ record { refusal = frameNumber h l; received = 0; dropped = 0; host = h }
+  pub frame-refused : frameAnswer t h l ≡ record { refusal = frameNumber h l; received = 0; dropped = 0; retired = 0; host = h }
   unfolding frameAnswer
   frame-refused = rw stays refl
 

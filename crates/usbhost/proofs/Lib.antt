@@ -3,3 +3,4 @@ pub mod Outcomes
 pub mod Entries
 pub mod Kept
 pub mod Frame
+pub mod Descriptors

@@ -91,13 +91,14 @@ frameNumber h l =
 unfoldable pub framed : ℕ → Host → Lent → World
 framed t h l = pick (eqb (frameNumber h l) 0) (left (M.microframe t) (worldOf h l)) (worldOf h l)
 
--- the answer: the number, how many MIDI or serial bytes stand in the receive area, the bytes that no window took, and the next record;
--- of a refused microframe the number and the record alone
+-- the answer: the number, how many MIDI or serial bytes stand in the receive area, the bytes that no window took, the descriptors retired (S-1), and the
+-- next record; of a refused microframe the number and the record alone
 unfoldable pub frameAnswer : ℕ → Host → Lent → Framed
 frameAnswer t h l =
     record {
       refusal = frameNumber h l;
       received = framed t h l .state .answer .received;
       dropped = framed t h l .state .answer .dropped;
+      retired = framed t h l .state .answer .retired;
       host = hostIn (framed t h l);
     }

@@ -15,7 +15,7 @@ use Rattle.record.specs.declared.State.{State}
 use Rattle.usbhost.specs.declared.Host.{Host}
 use Rattle.usbhost.specs.declared.Created.{Created}
 
--- the state by its parts, with an answer of nothing received and nothing dropped
+-- the state by its parts, with an answer of nothing received, dropped or retired
 abbrev pub stateOf : Host → State
 stateOf h =
     record {
@@ -26,7 +26,7 @@ stateOf h =
       timers = h .timers;
       stats = h .stats;
       lengths = h .lengths;
-      answer = record { received = 0; dropped = 0 };
+      answer = record { received = 0; dropped = 0; retired = 0 };
     }
 
 -- ---- `new` (319-354)

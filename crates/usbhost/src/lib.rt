@@ -76,12 +76,13 @@ pub struct Read {
     pub host: Host,
 }
 
-// A microframe: 0 or the number of its refusal, how many MIDI or serial bytes stand in the receive area, the bytes that no window took, and
-// the next record.
+// A microframe: 0 or the number of its refusal, how many MIDI or serial bytes stand in the receive area, the bytes that no window took, the
+// descriptors retired, and the next record.
 pub struct Framed {
     pub refusal: u8,
     pub received: usize,
     pub dropped: u64,
+    pub retired: u64,
     pub host: Host,
 }
 
@@ -275,6 +276,7 @@ pub fn new_state() -> State
         answer: Answer {
             received: 0,
             dropped: 0,
+            retired: 0,
         },
     }
 }
@@ -563,13 +565,14 @@ fn microframe_number(
     )
 }
 
-// The state with nothing received and nothing dropped yet.
+// The state with nothing received, dropped or retired yet.
 fn unanswered(s: State) -> State
-    ensures { λ r. ⌜ r ≡ withAnswer s (record { received = 0; dropped = 0 }) ⌝ }
+    ensures { λ r. ⌜ r ≡ withAnswer s (record { received = 0; dropped = 0; retired = 0 }) ⌝ }
 {
     let none = Answer {
         received: 0,
         dropped: 0,
+        retired: 0,
     };
     let mut next = s;
     next.answer = none;
@@ -816,6 +819,7 @@ impl Host {
             answer: Answer {
                 received: 0,
                 dropped: 0,
+                retired: 0,
             },
         }
     }
@@ -879,6 +883,7 @@ impl Host {
             refusal: done.refusal,
             received: answer.received,
             dropped: answer.dropped,
+            retired: answer.retired,
             host: host_of(state, settings, p, setups, midi, serial, device),
         }
     }

@@ -108,8 +108,11 @@ field-1 = refl
 field-2 : fieldOf (ty 11) 2 ≡ at-field (tyInt w64, 16)
 field-2 = refl
 
-field-3 : fieldOf (ty 11) 3 ≡ at-field (hostTy, 24)
+field-3 : fieldOf (ty 11) 3 ≡ at-field (tyInt w64, 24)
 field-3 = refl
+
+field-4 : fieldOf (ty 11) 4 ≡ at-field (hostTy, 32)
+field-4 = refl
 
 -- the record's type spelled by its own table is that one. Here once, since the two are long to compare
 host-ty : T′.mir ≡ hostTy
@@ -117,7 +120,7 @@ host-ty = refl
 
 -- the answer behind the reference, of the one by value
 abbrev answer : Framed → Answered
-answer d = record { refusal = d .refusal; received = d .received; dropped = d .dropped }
+answer d = record { refusal = d .refusal; received = d .received; dropped = d .dropped; retired = d .retired }
 
 -- what the call by value ensures, of what it answers and of the slices at exit
 abbrev Ensured : ℕ → Host → Lent → Framed → Lent → Type 0
@@ -239,7 +242,7 @@ module _ {M : Type 1} (𝓤 : URA M) (H : Heap 𝓤) (A : Atoms 𝓤) (W : Given
 
   -- what whoever holds an answer knows of its fields
   is-host : (d : Framed) (vs : List Val) → Is D.the-row d vs → Is R (d .host) (valR (d .host) ∷ [])
-  is-host d vs is = LL.owed D.the-type D′.the-laws d vs is .1 .1 .1 .0
+  is-host d vs is = LL.owed D.the-type D′.the-laws d vs is .1 .1 .1 .1 .0
 
   refusal-fits : (d : Framed) (vs : List Val) → Is D.the-row d vs → d .refusal < 2 ^ 8
   refusal-fits d vs is = LL.owed D.the-type D′.the-laws d vs is .0 .1
@@ -250,8 +253,11 @@ module _ {M : Type 1} (𝓤 : URA M) (H : Heap 𝓤) (A : Atoms 𝓤) (W : Given
   dropped-fits : (d : Framed) (vs : List Val) → Is D.the-row d vs → d .dropped < 2 ^ 64
   dropped-fits d vs is = LL.owed D.the-type D′.the-laws d vs is .1 .1 .0 .1
 
+  retired-fits : (d : Framed) (vs : List Val) → Is D.the-row d vs → d .retired < 2 ^ 64
+  retired-fits d vs is = LL.owed D.the-type D′.the-laws d vs is .1 .1 .1 .0 .1
+
   is-answer : (d : Framed) (vs : List Val) → Is D.the-row d vs → Is N.the-row (answer d) (N′.lowered (answer d) ∷ [])
-  is-answer d vs is = LL.owes N.the-type N′.the-laws (answer d) ((refl, refusal-fits d vs is), ((refl, received-fits d vs is), ((refl, dropped-fits d vs is), tt)))
+  is-answer d vs is = LL.owes N.the-type N′.the-laws (answer d) ((refl, refusal-fits d vs is), ((refl, received-fits d vs is), ((refl, dropped-fits d vs is), ((refl, retired-fits d vs is), tt))))
 
   module _ (C : Calls 𝓤 H) (Λ : Loops 𝓤 H) (m0 m1 m2 m3 m4 m5 m6 m7 m8 m9 m10 m11 m12 m13 m14 m15 m16 m17 m18 m19 m20 m21 m22 m23 m24 m25 m26 : ℕ) (d : Framed) where
     -- the fields within the answer's cell, and the cell with another value in one of them
@@ -273,9 +279,13 @@ module _ {M : Type 1} (𝓤 : URA M) (H : Heap 𝓤) (A : Atoms 𝓤) (W : Given
     unfolding back
     dropped-in = sub ! 2 {d = 16} refl (whole !)
 
-    host-in : Within hostTy 24 (valR (d .host)) 3
+    retired-in : Within (tyInt w64) 24 (vint w64 (d .retired)) 3
     unfolding back
-    host-in = sub ! 3 {d = 24} refl (whole !)
+    retired-in = sub ! 3 {d = 24} refl (whole !)
+
+    host-in : Within hostTy 32 (valR (d .host)) 4
+    unfolding back
+    host-in = sub ! 4 {d = 32} refl (whole !)
 
     -- the locals at the return
     abbrev full : List (Ty × (ℕ × Val))
@@ -302,13 +312,13 @@ module _ {M : Type 1} (𝓤 : URA M) (H : Heap 𝓤) (A : Atoms 𝓤) (W : Given
     -- the answer is made
     made : (w : Val) (zs0 zs1 zs2 zs3 zs4 zs5 zs6 : List ℕ) → Ensured v h l d (lent (memory zs0 zs1 zs2) zs3 zs4 zs5 zs6 ys7) → length zs0 ≡ length ys0 → length zs1 ≡ length ys1 → length zs2 ≡ length ys2 → length zs3 ≡ length ys3 → length zs4 ≡ length ys4 → length zs5 ≡ length ys5 → length zs6 ≡ length ys6 → Is D.the-row d (w ∷ []) → Sq W (around w zs0 zs1 zs2 zs3 zs4 zs5 zs6 (valR (d .host)) (‵ (fat fullShare (ty 11) m11 0 (LL.val D.the-type D′.the-laws d))) (‵ (froom (ty 0) m0 0))) (runs C Λ E spelled.t-18 (atRet E Post))
     made w zs0 zs1 zs2 zs3 zs4 zs5 zs6 e l0 l1 l2 l3 l4 l5 l6 is =
-        assigns ! (agg ! (and-then ! (load ! (from ! (fld ! field-0 (stop !))) (look-in ! 44 refusal-in)) (and-then ! (load ! (from ! (fld ! field-1 (stop !))) (look-in ! 44 received-in)) (and-then ! (load ! (from ! (fld ! field-2 (stop !))) (look-in ! 44 dropped-in)) (no-more !))))) (from ! (stop !)) (init ! 66 refl (tt, (record { fits = refusal-fits d (w ∷ []) is }, (record { fits = received-fits d (w ∷ []) is }, (record { fits = dropped-fits d (w ∷ []) is }, tt))))) $
+        assigns ! (agg ! (and-then ! (load ! (from ! (fld ! field-0 (stop !))) (look-in ! 44 refusal-in)) (and-then ! (load ! (from ! (fld ! field-1 (stop !))) (look-in ! 44 received-in)) (and-then ! (load ! (from ! (fld ! field-2 (stop !))) (look-in ! 44 dropped-in)) (and-then ! (load ! (from ! (fld ! field-3 (stop !))) (look-in ! 44 retired-in)) (no-more !)))))) (from ! (stop !)) (init ! 66 refl (tt, (record { fits = refusal-fits d (w ∷ []) is }, (record { fits = received-fits d (w ∷ []) is }, (record { fits = dropped-fits d (w ∷ []) is }, (record { fits = retired-fits d (w ∷ []) is }, tt)))))) $
         closing w zs0 zs1 zs2 zs3 zs4 zs5 zs6 e l0 l1 l2 l3 l4 l5 l6 is
 
     -- the new record is stored
     stored : (w : Val) (zs0 zs1 zs2 zs3 zs4 zs5 zs6 : List ℕ) → Ensured v h l d (lent (memory zs0 zs1 zs2) zs3 zs4 zs5 zs6 ys7) → length zs0 ≡ length ys0 → length zs1 ≡ length ys1 → length zs2 ≡ length ys2 → length zs3 ≡ length ys3 → length zs4 ≡ length ys4 → length zs5 ≡ length ys5 → length zs6 ≡ length ys6 → Is D.the-row d (w ∷ []) → Sq W (around w zs0 zs1 zs2 zs3 zs4 zs5 zs6 (valR h) (‵ (fat fullShare (ty 11) m11 0 (LL.val D.the-type D′.the-laws d))) (‵ (froom (ty 0) m0 0))) (runs C Λ E spelled.t-17 (atRet E Post))
     stored w zs0 zs1 zs2 zs3 zs4 zs5 zs6 e l0 l1 l2 l3 l4 l5 l6 is =
-        assigns ! (of-opd ! (load ! (from ! (fld ! field-3 (stop !))) (look-in ! 44 host-in))) (from ! (hop ! (look ! 64 refl) (stop !))) (store ! 9 refl (host-typed (d .host) (is-host d (w ∷ []) is))) $
+        assigns ! (of-opd ! (load ! (from ! (fld ! field-4 (stop !))) (look-in ! 44 host-in))) (from ! (hop ! (look ! 64 refl) (stop !))) (store ! 9 refl (host-typed (d .host) (is-host d (w ∷ []) is))) $
         made w zs0 zs1 zs2 zs3 zs4 zs5 zs6 e l0 l1 l2 l3 l4 l5 l6 is
 
     -- the answer of the call lands
