@@ -1,16 +1,19 @@
 #!/usr/bin/env python3
-"""Makes the fixed list that the gate replays: scripts chosen to reach every kind of event, and the Rust's log of them.
+"""Makes the fixed list that the gate replays: scripts chosen to reach every kind of event, and the Rust's log of them; behind them runs with the
+lines that the Rust has not, and the judge's log.
 
-usage: fixed.py FOLDER-OF-THE-ORACLE-PROGRAMS WORKED-EXAMPLES SCRIPT LOG
+usage: fixed.py FOLDER-OF-THE-ORACLE-PROGRAMS WORKED-EXAMPLES JUDGE SCRIPT LOG
 The list is the worked examples of document 01 (the oracle's examples/worked.txt), one long run (the received ring full, the stream counter
 round), of generated runs those that a greedy choice needs, and the chosen runs of blocks.py (first bytes, lengths, silence, late waits). Each
 candidate of the greedy choice is run by itself with the oracle's figures (-c), and the smallest script that shows an event not seen yet is
 taken, until no candidate shows a new one. In generated runs microframes log nothing, but the record is observed after every eighth line of
-microframes and at the end.
+microframes and at the end. JUDGE is judge.py; it runs the whole list, and its log is to begin with the Rust's. The runs behind the Rust's are those of
+added.py, which has what their new lines are to answer.
 """
 import os, re, subprocess, sys
 
 sys.dont_write_bytecode = True
+import added
 import blocks
 
 PAGE, TABLE = 0xFC0B0000, 0x40000000
@@ -96,7 +99,7 @@ def chosen(oracle, gen):
 
 
 def main():
-    folder, examples, script, log = sys.argv[1:]
+    folder, examples, judge, script, log = sys.argv[1:]
     oracle, gen = os.path.join(folder, "oracle"), os.path.join(folder, "gen")
     taken, events = chosen(oracle, gen)
     text = "# The worked examples of document 01 that a run can show.\n" + open(examples).read()
@@ -105,9 +108,12 @@ def main():
         text += "# gen %s\n%s" % (name, run)
     for name, run in blocks.chosen():
         text += "# %s.\n%s" % (name, run.text())
-    open(script, "w").write(text)
-    with open(log, "wb") as f:
-        subprocess.run([oracle], input=text.encode(), stdout=f, check=True)
+    rust = subprocess.run([oracle], input=text.encode(), stdout=subprocess.PIPE, check=True).stdout.decode()
+    whole, answers = added.behind(judge, text)
+    if not answers.startswith(rust):
+        sys.exit("the judge and the Rust differ on the list")
+    open(script, "w").write(whole)
+    open(log, "w").write(answers)
     print("%d generated runs, %d events" % (len(taken), len(events)), file=sys.stderr)
 
 

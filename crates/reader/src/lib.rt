@@ -39,30 +39,6 @@ fn row_before(before: Work, number: u64, out: &mut [u8; 65536], at: usize) -> ta
     table::end_run(run, sums, out, at)
 }
 
-// Behind a line's answer: a log goes on behind it. In a table answers are not written, and a new run ends the one before it with a row.
-fn settled(before: Work, tabular: bool, next: Next, out: &mut [u8; 65536], at: usize) -> Work
-    requires { ⌜ (at ≤ 40000) × (next .at ≤ 65536) ⌝ }
-    ensures { λ r. ⌜ r .at ≤ 65536 ⌝ }
-{
-    let mut run = next.run;
-    if tabular {
-        run.mode = 0;
-        let summed = row_before(before, run.number, out, at);
-        let sums = summed.sums;
-        return Work {
-            run,
-            at: summed.at,
-            sums,
-        };
-    }
-    let sums = before.sums;
-    Work {
-        run,
-        at: next.at,
-        sums,
-    }
-}
-
 // Behind an observation, which a table does not show.
 fn looked(before: Work, tabular: bool, end: usize) -> Work
     requires { ⌜ (before .at ≤ 40000) × (end ≤ 65536) ⌝ }
@@ -75,7 +51,36 @@ fn looked(before: Work, tabular: bool, end: usize) -> Work
     after
 }
 
-// The line from `from` to `end`, which may be empty, and then the microframes that the run still asks for.
+// Behind a line's answer, which a table does not show.
+fn answered(before: Work, tabular: bool, next: Next) -> Work
+    requires { ⌜ (before .at ≤ 40000) × (next .at ≤ 65536) ⌝ }
+    ensures { λ r. ⌜ r .at ≤ 65536 ⌝ }
+{
+    let run = next.run;
+    let mut after = looked(before, tabular, next.at);
+    after.run = run;
+    if tabular {
+        after.run.mode = 0;
+    }
+    after
+}
+
+// Behind that of a line that may start a run, which ends the one before it with a row of the table.
+fn settled(before: Work, tabular: bool, next: Next, out: &mut [u8; 65536], at: usize) -> Work
+    requires { ⌜ ((before .at ≤ 40000) × (at ≤ 40000)) × (next .at ≤ 65536) ⌝ }
+    ensures { λ r. ⌜ r .at ≤ 65536 ⌝ }
+{
+    let mut after = answered(before, tabular, next);
+    if tabular {
+        let summed = row_before(before, after.run.number, out, at);
+        let sums = summed.sums;
+        after.sums = sums;
+        after.at = summed.at;
+    }
+    after
+}
+
+// The line from `from` to `end`: microframes, which an empty line goes on with where some are left, or another answer.
 fn take_line(
     before: Work,
     tabular: bool,
@@ -104,6 +109,34 @@ fn take_line(
     let line = &text[from..end];
     let at = before.at;
     let run = before.run;
+    let asked = lines::asked(run, line);
+    if asked.good {
+        let after = lines::go_on(
+            run,
+            asked,
+            setups,
+            midi,
+            serial,
+            device,
+            dynamic,
+            sram,
+            page,
+            reply,
+            config,
+            receive,
+            received,
+            &*sending,
+            out,
+            at,
+        );
+        let later = after.run;
+        let sums = before.sums;
+        return Work {
+            run: later,
+            at: after.at,
+            sums,
+        };
+    }
     if lines::is_look(run.live, run.stopped, line) {
         let last = lines::observe(
             run,
@@ -123,15 +156,16 @@ fn take_line(
         );
         return looked(before, tabular, last);
     }
+    if lines::is_access(run.live, run.stopped, line) {
+        let next = calls::access(run, line, &*setups, dynamic, sram, page, out, at);
+        return answered(before, tabular, next);
+    }
     let next = lines::answer(
         run,
         line,
         &*setups,
         midi,
         serial,
-        dynamic,
-        sram,
-        page,
         &*received,
         sending,
         bytes,
@@ -159,31 +193,7 @@ fn take_line(
         received,
         sending,
     );
-    let work = settled(before, tabular, next, out, at);
-    let after = lines::go_on(
-        work.run,
-        setups,
-        midi,
-        serial,
-        device,
-        dynamic,
-        sram,
-        page,
-        reply,
-        config,
-        receive,
-        received,
-        &*sending,
-        out,
-        work.at,
-    );
-    let later = after.run;
-    let sums = work.sums;
-    Work {
-        run: later,
-        at: after.at,
-        sums,
-    }
+    settled(before, tabular, next, out, at)
 }
 
 // The good `w` line that stands whole from `from` on, taken: where the next one begins, or `from` where there is none.

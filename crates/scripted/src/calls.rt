@@ -16,12 +16,13 @@ use usbhost::TakenFrame;
 
 // What a run holds beside its areas: `length` bytes of dynamic memory, `space` frames of the sending ring, the microframes that are still asked
 // for, how many calls were refused and bytes dropped, and what came in all. A run that is not live passes over its lines; behind a bad line all
-// lines are passed over. A run that goes `through` stays live where a byte was dropped.
+// lines are passed over. A run that goes `through`, by a line of its own or because its program `always` does, stays live where a byte was dropped.
 pub struct Run {
     pub number: u64,
     pub live: bool,
     pub stopped: bool,
     pub through: bool,
+    pub always: bool,
     pub mode: u8,
     pub length: usize,
     pub space: usize,
@@ -56,6 +57,7 @@ pub fn fresh(
         live,
         stopped: false,
         through,
+        always: through,
         mode: 1,
         length,
         space,
@@ -117,6 +119,39 @@ fn set_mode(run: Run, line: &[u8], out: &mut [u8; 65536], at: usize) -> Next
         let mut next = run;
         next.mode = (value % 256) as u8;
         return Next { run: next, at };
+    }
+    bad(run, out, at)
+}
+
+// `j GO`: whether the run goes on where a byte was dropped.
+fn set_through(run: Run, line: &[u8], out: &mut [u8; 65536], at: usize) -> Next
+    requires { ⌜ at ≤ 40000 ⌝ }
+    ensures { λ r. ⌜ r .at ≤ 65536 ⌝ }
+{
+    let go = parse::read_word(line, 1);
+    let value = go.value;
+    if go.good & ((go.next == line.len()) & (value <= 1)) {
+        let mut next = run;
+        next.through = run.always | (value == 1);
+        return Next { run: next, at };
+    }
+    bad(run, out, at)
+}
+
+// `x 1`: the descriptors that the last microframe retired, and the bytes that it dropped.
+fn show_answer(run: Run, line: &[u8], out: &mut [u8; 65536], at: usize) -> Next
+    requires { ⌜ at ≤ 40000 ⌝ }
+    ensures { λ r. ⌜ r .at ≤ 65536 ⌝ }
+{
+    let what = parse::read_word(line, 1);
+    if what.good & ((what.next == line.len()) & (what.value == 1)) {
+        let state = run.state;
+        let answer = state.answer;
+        let mut end = text::append(out, at, b"x 1");
+        end = text::field(out, end, answer.retired);
+        end = text::field(out, end, answer.dropped);
+        end = text::put(out, end, b'\n');
+        return Next { run, at: end };
     }
     bad(run, out, at)
 }
@@ -264,6 +299,12 @@ pub fn access(
     }
     if letter == b'd' {
         return device_write(run, line, setups, page, out, at);
+    }
+    if letter == b'j' {
+        return set_through(run, line, out, at);
+    }
+    if letter == b'x' {
+        return show_answer(run, line, out, at);
     }
     reach_run(run, line, dynamic, sram, page, out, at)
 }

@@ -9,6 +9,7 @@ use crate::log::Came;
 use crate::start;
 use crate::start::Start;
 use crate::turns;
+use crate::turns::Asked;
 use crate::turns::Turned;
 use record::State;
 use record::Stats;
@@ -124,25 +125,24 @@ fn new_run(run: Run, line: &[u8], out: &mut [u8; 65536], at: usize) -> Next
     let number = std::num::wrapping_add_u64(run.number, 1);
     let end = show_start(started.length <= 1048576, number, out, at);
     Next {
-        run: started_run(number, run.through, started),
+        run: started_run(number, run.always, started),
         at: end,
     }
 }
 
-// `u` and `U`: microframes are asked for.
-fn ask(run: Run, line: &[u8], out: &mut [u8; 65536], at: usize) -> Next
-    requires { ⌜ at ≤ 40000 ⌝ }
-    ensures { λ r. ⌜ r .at ≤ 65536 ⌝ }
-{
-    let asked = turns::read_asked(line);
-    if asked.good {
-        let mut next = run;
-        next.left = asked.count;
-        next.time = asked.time;
-        next.step = asked.step;
-        return Next { run: next, at };
+// The microframes that a run still asks for, or those of a line `u` or `U` in a live one; any other line asks for none.
+pub fn asked(run: Run, line: &[u8]) -> Asked {
+    let letter = parse::letter(line);
+    let mut asked = Asked {
+        good: run.left > 0,
+        count: run.left,
+        time: run.time,
+        step: run.step,
+    };
+    if ((letter == b'u') | (letter == b'U')) & (run.live & !run.stopped) {
+        asked = turns::read_asked(line);
     }
-    calls::bad(run, out, at)
+    asked
 }
 
 // Whether a line is `o` in a live run.
@@ -205,8 +205,8 @@ fn is_quiet(stopped: bool, line: &[u8]) -> bool {
     (line[0] == b'#') & (line.len() < 65536)
 }
 
-// Whether a line touches no area: a new run, microframes, one that asks for nothing, or one of a run that ended or of none. A line of 65,536 bytes
-// is the start of one that the buffer does not hold.
+// Whether a line touches no area: a new run, microframes that are not well asked for, one that asks for nothing, or one of a run that ended or of
+// none. A line of 65,536 bytes is the start of one that the buffer does not hold.
 fn is_plain(live: bool, stopped: bool, line: &[u8]) -> bool {
     if is_quiet(stopped, line) | (65536 <= line.len()) {
         return true;
@@ -234,21 +234,23 @@ fn plain(run: Run, line: &[u8], out: &mut [u8; 65536], at: usize) -> Next
         return new_run(run, line, out, at);
     }
     if run.live {
-        return ask(run, line, out, at);
+        return calls::bad(run, out, at);
     }
     Next { run, at }
 }
 
-// The answer to a line, but `o`.
+// Whether a line is on memory, registers or the log, or begins with no letter of a line.
+pub fn is_access(live: bool, stopped: bool, line: &[u8]) -> bool {
+    !(is_plain(live, stopped, line) | calls::is_queue(parse::letter(line)))
+}
+
+// The answer to another line: a new run, a queue, or a line that asks for nothing.
 pub fn answer(
     run: Run,
     line: &[u8],
     setups: &[u8; 2056],
     midi: &mut [u8; 4096],
     serial: &mut [u8; 4096],
-    dynamic: &mut [u8; 1048576],
-    sram: &mut [u8; 65536],
-    page: &mut [u8; 4096],
     received: &[u32; 576000],
     sending: &mut [u32; 576000],
     bytes: &mut [u8; 32768],
@@ -261,31 +263,29 @@ pub fn answer(
     if is_plain(run.live, run.stopped, line) {
         return plain(run, line, out, at);
     }
-    if calls::is_queue(parse::letter(line)) {
-        return calls::queue(
-            run,
-            line,
-            setups,
-            midi,
-            serial,
-            received,
-            sending,
-            bytes,
-            out,
-            at,
-        );
-    }
-    calls::access(run, line, setups, dynamic, sram, page, out, at)
+    calls::queue(
+        run,
+        line,
+        setups,
+        midi,
+        serial,
+        received,
+        sending,
+        bytes,
+        out,
+        at,
+    )
 }
 
 // The run behind its microframes.
-fn turned_run(run: Run, state: State, turned: Turned, left: u64) -> Run {
+fn turned_run(run: Run, state: State, turned: Turned, left: u64, step: u64) -> Run {
     let all = turned.all;
     let mut next = run;
     next.state = state;
     next.all = all;
     next.left = left;
     next.time = turned.time;
+    next.step = step;
     next.refused = turned.refused;
     next.dropped = turned.dropped;
     next.live = turned.live;
@@ -296,20 +296,21 @@ fn turned_run(run: Run, state: State, turned: Turned, left: u64) -> Run {
 }
 
 // Where a run's microframes start.
-fn turned_none(run: Run) -> Turned {
+fn turned_none(run: Run, time: u64) -> Turned {
     let all = run.all;
     Turned {
         all,
-        time: run.time,
+        time,
         refused: run.refused,
         dropped: run.dropped,
         live: run.live,
     }
 }
 
-// The microframes that a run still asks for, or as many as the output's buffer has room for.
+// The microframes that are asked for, or as many as the output's buffer has room for.
 pub fn go_on(
     run: Run,
+    asked: Asked,
     setups: &mut [u8; 2056],
     midi: &mut [u8; 4096],
     serial: &mut [u8; 4096],
@@ -332,8 +333,8 @@ pub fn go_on(
     let space = calls::ring_words(run.space, sending.len());
     let settings = run.settings;
     let mut state = run.state;
-    let mut turned = turned_none(run);
-    let mut left = run.left;
+    let mut turned = turned_none(run, asked.time);
+    let mut left = asked.count;
     let mut at = from;
     while left > 0 && at <= 40000 && turned.live {
         let done = usbhost::run_microframe(
@@ -359,7 +360,7 @@ pub fn go_on(
             turned,
             settings.cdc,
             run.through,
-            run.step,
+            asked.step,
             done.refusal,
             state.answer,
             &*receive,
@@ -384,7 +385,7 @@ pub fn go_on(
         }
     }
     Next {
-        run: turned_run(run, state, turned, left),
+        run: turned_run(run, state, turned, left, asked.step),
         at,
     }
 }

@@ -10,11 +10,11 @@ use Rattle.scripted.proofs.lines.go_on.Statement.{statement}
 use Rattle.scripted.proofs.lines.go_on.Tie as tie
 
 abbrev Inv-loop : tie.InvT-loop
-Inv-loop run setups₀ midi₀ serial₀ device₀ dynamic₀ sram₀ page₀ reply₀ config₀ receive₀ received₀ sending out₀ from memory space settings state₀ turned₀ left₀ at₀ setups midi serial device dynamic sram page reply config receive received out state turned left at =
+Inv-loop run asked setups₀ midi₀ serial₀ device₀ dynamic₀ sram₀ page₀ reply₀ config₀ receive₀ received₀ sending out₀ from memory space settings state₀ turned₀ left₀ at₀ setups midi serial device dynamic sram page reply config receive received out state turned left at =
     (at ≤ 65536) × (length dynamic ≡ length dynamic₀)
 
 abbrev μ-loop : tie.MeasureT-loop
-μ-loop run setups₀ midi₀ serial₀ device₀ dynamic₀ sram₀ page₀ reply₀ config₀ receive₀ received₀ sending out₀ from memory space settings state₀ turned₀ left₀ at₀ setups midi serial device dynamic sram page reply config receive received out state turned left at =
+μ-loop run asked setups₀ midi₀ serial₀ device₀ dynamic₀ sram₀ page₀ reply₀ config₀ receive₀ received₀ sending out₀ from memory space settings state₀ turned₀ left₀ at₀ setups midi serial device dynamic sram page reply config receive received out state turned left at =
     left
 
 at-most-requires : tie.Need-at-most-requires Inv-loop μ-loop
