@@ -2,7 +2,7 @@
 -- retirement stores five words outside the page (usbhost.rs 558-601).
 use Prim.Native.Nat.{ℕ, zero, suc, _+_, _*_, _≤_}
 use mathlib.Core.Bool.{Bool, not}
-use mathlib.Core.List.{List, [], _∷_, _++_}
+use mathlib.Core.List.{List, _++_}
 use mathlib.Core.Path.{_≡_, refl}
 use native.Mathlib.Omega.{arith}
 use lib.ListN.{length, drop}
@@ -12,11 +12,11 @@ use Rattle.bus.specs.Memory.{after, peek32}
 use Rattle.bus.specs.Steps.{exec, andThen}
 use Rattle.bus.specs.Stores.{Bus, Store, store, stored, dropped, droppedBy, dropped-append, putting, when}
 use Rattle.usbdev.specs.Registers as usb
-use Rattle.usbdev.specs.Registers.{Registers, registers, PageStore, lifted, setting}
+use Rattle.usbdev.specs.Registers.{registers, PageStore, lifted, setting}
 use Rattle.usbdev.specs.Transfer.{totalOf}
 use Rattle.usbdev.proofs.Laws.{Inside, none-dropped}
 use Rattle.usbdev.proofs.Tokens.{total-lt}
-use Rattle.transfer.specs.Transfer.{pointers, sending}
+use Rattle.transfer.specs.Transfer.{pointers}
 use Rattle.dtd.specs.Dtd.{Endpoint, bitOf, primed, queueHead, nextDtd, terminates, descriptor, tokenOf, isActive, interrupts, moves, dataOut, closing, completing, advancing, retiring, turning, following, Run, ended, joined, turns, most, listEnds, unpriming, reporting, settling, settled, runDtds}
 use Rattle.dtd.proofs.Laws.{dropped32-le}
 use Rattle.dtd.proofs.Runs.{lost-few}

@@ -9,8 +9,8 @@ use lib.Dec.{eqb}
 use Rattle.bits.specs.Pick.{pick, pick-both}
 use Rattle.bus.specs.Memory.{after, dropped32}
 use Rattle.bus.specs.Steps.{replay, andThen, choose, exec-then}
-use Rattle.bus.specs.Stores.{Store, droppedBy}
-use Rattle.dtd.specs.Dtd.{Endpoint, endpoint, queueHead, Run, runDtds, most}
+use Rattle.bus.specs.Stores.{droppedBy}
+use Rattle.dtd.specs.Dtd.{Endpoint, Run, runDtds, most}
 use Rattle.dtd.proofs.Laws.{dropped32-le}
 use Rattle.dtd.proofs.Where.{run-few}
 use Rattle.dtd.proofs.Dropped.{run-bounded}
@@ -18,17 +18,16 @@ use Rattle.record.specs.declared.Answer.{Answer}
 use Rattle.record.specs.declared.Phase.{Phase}
 use Rattle.record.specs.declared.Phase.the-variants.{Idle, Vbus, Reset, Enumerate, Stream}
 use Rattle.record.specs.declared.Settings.{Settings}
-use Rattle.record.specs.Setups.{little}
 use Rattle.record.specs.World.{World, busOf}
 use Rattle.record.specs.Change.{Change, bus, ran, lost, count, uf, phase, started, gone, suspended, wasRunning, credit, budget, counter, block, timers, control, queued, popped, pushed, cleared, reply, device, config, forgot, midi, serial, received, frame, taken, apply, Step, left, _then_, nothing, if, one, here, ranStores, runs}
 use Rattle.model.specs.Phases.{now, leaves, sleeps, suspends, startsFrame, idles, powers, resets}
-use Rattle.model.specs.Control.{enumerating, posts, posted, configured, keepsReply, dataStage, statusEnds, statusStage, unstalls, stalled, stages, controls}
+use Rattle.model.specs.Control.{enumerating, posts, posted, configured, dataStage, statusStage, unstalls, stalled, stages, controls}
 use Rattle.model.specs.Streams.{naks, reads, readsAt, midiIn, drainsSerial, serialStep, drainsMidi, midiOut, readsVendor}
 use Rattle.model.specs.Audio.{audioIn, addsBudget, clearsBudget, keepsRun, inputs, streamIn, unprimes, sendsBlock, streamOut, streams}
 use Rattle.model.specs.Microframe.{streaming, rsSet, goneAt, asleepAt, opens, enumerates, others, transfers, talks, atPhase, byPhase, frameOf, microframe}
 use Rattle.model.specs.Reach.{streamsIn, toPhase, phaseBy}
 use Rattle.model.specs.Marks.{noted, marked, total, retiredMark, allRetired, droppedMark, allDropped}
-use Rattle.model.proofs.Reading.{Reading, Lasting, Silent, silent-by, silent-then, silent-if, silent-nothing, silent-one, silent-stores, silent-bus, silent-page, silent-sleeps, silent-suspends, silent-frame, silent-status, silent-posts, silent-reply, silent-drops, silent-ends, silent-unstalls, silent-naks, silent-unprimes, silent-idles, silent-powers, silent-resets, silent-configured, silent-adds, silent-clears, silent-opens, silent-leaves, silent-kept}
+use Rattle.model.proofs.Reading.{Reading, Lasting, Silent, silent-by, silent-then, silent-if, silent-nothing, silent-one, silent-stores, silent-bus, silent-page, silent-sleeps, silent-suspends, silent-frame, silent-status, silent-reply, silent-drops, silent-ends, silent-unstalls, silent-naks, silent-unprimes, silent-idles, silent-powers, silent-resets, silent-configured, silent-adds, silent-clears, silent-opens, silent-leaves, silent-kept}
 use Rattle.model.proofs.Marks.{same, notedReading, notedLasting, notedUnheard, noted-sum, silent-none}
 use Rattle.model.proofs.Way.{Way, wayOf}
 use Rattle.model.proofs.OneBlock.{ways-frame, streaming-enumerates, ways-phase, idle-phase}

@@ -12,7 +12,7 @@ use Rattle.dtd.specs.Dtd.{Endpoint}
 use Rattle.record.specs.World.{World}
 use Rattle.record.specs.Change.{Change, bus, ran, lost, count, uf, phase, started, gone, suspended, wasRunning, credit, budget, counter, block, timers, control, queued, popped, pushed, cleared, reply, device, config, forgot, midi, serial, received, frame, taken, Step}
 use Rattle.model.specs.Marks.{noted, total, audioMark}
-use Rattle.model.proofs.Reading.{Reading, Lasting, Unheard, Unmarked, AudioAlone, through, Silent, quiet}
+use Rattle.model.proofs.Reading.{Reading, Lasting, Unheard, Unmarked, AudioAlone, Silent, quiet}
 
 -- ---- whatever is asked of runs, added up
 

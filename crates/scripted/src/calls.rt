@@ -10,6 +10,7 @@ use record::Settings;
 use record::State;
 use script::hash;
 use script::parse;
+use script::parse::Word;
 use script::text;
 use script::windows;
 use usbhost::TakenFrame;
@@ -108,16 +109,22 @@ fn stored(run: Run, state: State, refusal: u8, out: &mut [u8; 65536], at: usize)
     Next { run: next, at: end }
 }
 
+// The number behind a line's letter, good where nothing follows it.
+fn alone(line: &[u8]) -> Word {
+    let mut word = parse::read_word(line, 1);
+    word.good = word.good & (word.next == line.len());
+    word
+}
+
 // `h M`: what a microframe logs.
 fn set_mode(run: Run, line: &[u8], out: &mut [u8; 65536], at: usize) -> Next
     requires { ⌜ at ≤ 40000 ⌝ }
     ensures { λ r. ⌜ r .at ≤ 65536 ⌝ }
 {
-    let mode = parse::read_word(line, 1);
-    let value = mode.value;
-    if mode.good & ((mode.next == line.len()) & (value <= 2)) {
+    let mode = alone(line);
+    if mode.good & (mode.value <= 2) {
         let mut next = run;
-        next.mode = (value % 256) as u8;
+        next.mode = (mode.value % 256) as u8;
         return Next { run: next, at };
     }
     bad(run, out, at)
@@ -128,11 +135,10 @@ fn set_through(run: Run, line: &[u8], out: &mut [u8; 65536], at: usize) -> Next
     requires { ⌜ at ≤ 40000 ⌝ }
     ensures { λ r. ⌜ r .at ≤ 65536 ⌝ }
 {
-    let go = parse::read_word(line, 1);
-    let value = go.value;
-    if go.good & ((go.next == line.len()) & (value <= 1)) {
+    let go = alone(line);
+    if go.good & (go.value <= 1) {
         let mut next = run;
-        next.through = run.always | (value == 1);
+        next.through = run.always | (go.value == 1);
         return Next { run: next, at };
     }
     bad(run, out, at)
@@ -143,8 +149,8 @@ fn show_answer(run: Run, line: &[u8], out: &mut [u8; 65536], at: usize) -> Next
     requires { ⌜ at ≤ 40000 ⌝ }
     ensures { λ r. ⌜ r .at ≤ 65536 ⌝ }
 {
-    let what = parse::read_word(line, 1);
-    if what.good & ((what.next == line.len()) & (what.value == 1)) {
+    let what = alone(line);
+    if what.good & (what.value == 1) {
         let state = run.state;
         let answer = state.answer;
         let mut end = text::append(out, at, b"x 1");

@@ -1,6 +1,6 @@
 -- S-1: an accepted microframe answers as retired the number of descriptors that its list of changes retires, at most 128, and as dropped the bytes that no
 -- window took, with no remainder in either; a refused one answers 0 (`frame-refused`).
-use Prim.Native.Nat.{ℕ, _+_, _*_, _≤_, _<_, _^_}
+use Prim.Native.Nat.{ℕ, _+_, _*_, _≤_}
 use mathlib.Core.Path.{_≡_, refl, ap, _∙_}
 use mathlib.Core.Bool.{Bool, true, false, not, _&&_, _||_}
 use mathlib.Core.List.{List}
@@ -10,7 +10,6 @@ use Rattle.bits.specs.Pick.{pick}
 use Rattle.bits.proofs.Tests.{false-true}
 use Rattle.bus.specs.Steps.{replay}
 use Rattle.bus.proofs.Sizes.{and-true}
-use Rattle.record.specs.declared.Answer.{Answer}
 use Rattle.record.specs.declared.Phase.{Phase}
 use Rattle.record.specs.declared.Phase.the-variants.{Idle, Vbus, Reset, Enumerate, Stream}
 use Rattle.record.specs.Change.{Change, apply}
@@ -19,7 +18,7 @@ use Rattle.model.specs.Control.{enumerating}
 use Rattle.model.specs.Microframe as M
 use Rattle.model.specs.Microframe.{streaming}
 use Rattle.model.specs.Marks.{allRetired, allDropped}
-use Rattle.model.proofs.Descriptors.{Counts, counts-all, retired-any, retired-most, dropped-any}
+use Rattle.model.proofs.Descriptors.{counts-all, retired-any, retired-most, dropped-any}
 use Rattle.usbhost.specs.declared.Host.{Host}
 use Rattle.usbhost.specs.Host.{stateOf}
 use Rattle.usbhost.specs.Calls.{bounded}
