@@ -28,9 +28,9 @@ use Rattle.dtd.specs.Promises.{noneRan, TakesOne, SendsOne, Runs}
 use Rattle.dtd.proofs.Runs.{runs-unprimed, runs-ended, runs-active, single, says-unprimed, says-ended, says-active, input-bytes}
 use Rattle.record.specs.declared.Ring.{Ring}
 use Rattle.record.specs.declared.Audio.{Audio}
-use Rattle.record.specs.declared.Stats.{Stats}
 use Rattle.record.specs.declared.State.{State}
-use Rattle.record.specs.Record.{wrapped, counted, withAudio, withStats, withBudget, withCounter, withCredit, withSending, «in_transfers», «out_transfers», «out_frames», «out_underruns»}
+use Rattle.record.specs.Record.{wrapped, counted, withAudio, withStats, withBudget, withCounter, withCredit, withSending, «in_transfers», «out_transfers», «out_frames», «out_underruns», «in_frames», «bad_blocks», place, counterOf, withCounterAt, raised}
+use Rattle.record.proofs.Counters.{counter-kept}
 use Rattle.record.specs.World.{World, withState, withReceivedRing, lined}
 use Rattle.record.specs.Change.{count, budget, counter, credit, taken, takenFrom, apply, _then_, nothing, one, here, onBus, onPage}
 use Rattle.record.specs.Did.{Leads, afterRun}
@@ -149,7 +149,7 @@ or-none false y h = h
 
 keeps-run : (r : Run) (t : Bool) → brought r ≡ t → (w : World) (d d′ : Decoded) (l l′ : List ℕ) → Keeps (keepsBlocks (blocksOf (r .bytes))) d l d′ l′
     → Leads (keepsRun r) (atBlocks w d l) (atBlocks (withState w (countedIn (w .state) t)) d′ l′)
-unfolding keepsRun apply counted
+unfolding keepsRun apply raised
 keeps-run r true e w d d′ l l′ p =
     by-true (λ v. brought r) _ nothing e
     (in-turn (once (λ v. count «in_transfers» 1) (atBlocks w d l) (atBlocks (withState w (countedIn (w .state) true)) d l) refl) (p .leads (withState w (countedIn (w .state) true))))
@@ -158,12 +158,15 @@ keeps-run r false e w d d′ l l′ p =
     (leads-as (unchanged (atBlocks w d l)) (none-kept (r .bytes) d d′ l l′ (or-none (r .done) (nonempty (r .bytes)) e) p w))
 
 -- the state with a run counted
-abbrev withTransfers : Stats → ℕ → Stats
-withTransfers r n = record { microframes = r .microframes; «in_transfers» = n; «out_transfers» = r .«out_transfers»; «in_frames» = r .«in_frames»; «out_frames» = r .«out_frames»; «bad_blocks» = r .«bad_blocks»; «midi_dtds» = r .«midi_dtds»; «midi_asleep» = r .«midi_asleep»; «out_underruns» = r .«out_underruns»; «midi_packets_out» = r .«midi_packets_out»; «vendor_in_bytes» = r .«vendor_in_bytes»; restarts = r .restarts; enumerations = r .enumerations }
+pub counts-in : (s : State) (t : Bool) {r : State} → r ≡ withStats s (counted «in_transfers» 1 (s .stats)) → t ≡ true → r ≡ countedIn s t
+counts-in s t e h = e ∙ ap (countedIn s) (sym h)
 
-pub counts-in : (s : State) (t : Bool) (n : ℕ) → n ≡ wrapped (s .stats .«in_transfers» + 1) → t ≡ true → withStats s (withTransfers (s .stats) n) ≡ countedIn s t
-unfolding counted
-counts-in s t n e h = ap (λ (x : ℕ). withStats s (withTransfers (s .stats) x)) e ∙ ap (countedIn s) (sym h)
+-- what blocks change, put back as it was
+pub decoded-same : (s : State) → 5 < length (s .stats) → withDecoded s (decodedOf s) ≡ s
+decoded-same s long =
+    ap (withStats s)
+    (ap (withCounterAt (place «bad_blocks») (counterOf «bad_blocks» (s .stats))) (counter-kept (place «in_frames») (s .stats) (omega (arith, long)))
+    ∙ counter-kept (place «bad_blocks») (s .stats) long)
 
 -- input of an active descriptor
 module _ (s : State) (m m′ : Memory) (l l′ : List ℕ) (qh td tok total : ℕ) (ps : List ℕ) (d : Decoded) (ran : Ran) (t : Bool)
@@ -171,7 +174,7 @@ module _ (s : State) (m m′ : Memory) (l l′ : List ℕ) (qh td tok total : �
     (at : ℕ) (is-at : at ≡ descriptor td) (is-pointers : ps ≡ pointersFor m at total)
     (before : Decoded) (is-before : before ≡ decodedOf s) (kept : Keeps (keepsBlocks (blocksOf (bytesIn m ps total))) before l d l′)
     (takes : TakesOne qh td tok (bitOf audioIn) (S.bus m (s .port .line)) (S.bus m′ (ran .line)) ran)
-    (is-brought : t ≡ ran .done || not (eqb total 0)) where
+    (is-brought : t ≡ ran .done || not (eqb total 0)) (same : withDecoded s before ≡ s) where
   abbrev run : Run
   run = runDtds audioIn [] (S.bus m (s .port .line))
 
@@ -199,7 +202,8 @@ module _ (s : State) (m m′ : Memory) (l l′ : List ℕ) (qh td tok total : �
   unfolding inputs
   input-leads w =
       run-then audioIn [] keepsRun (withReceivedRing w l) s m m′ ran ran-so
-      (keeps-run run t brought-so (atHeard w (afterRun s ran) m′ l) (decodedOf s) d l l′ kept-so)
+      (leads-from (ap (λ (x : State). atHeard w (afterRun x ran) m′ l) (sym (ap (withDecoded s) (sym is-before) ∙ same)))
+      (keeps-run run t brought-so (atHeard w (afterRun s ran) m′ l) (decodedOf s) d l l′ kept-so))
 
   same-out : (t : Bool) → SameOut s (withDecoded (countedIn (afterRun s ran) t) d)
   same-out true = record { sending = refl; block = refl; channels = refl }
@@ -292,26 +296,30 @@ module _ (s : State) (m m′ : Memory) (l bs : List ℕ) (ran : Ran)
       (run-then audioOut bs (λ r. one (λ v. count «out_transfers» 1) then one (λ v. count «out_frames» 7)) (atSent w s m l) s₄ m m′ ran ran-so counts))))
 
 -- the state after a block in the code's words
-abbrev sentCounts : Stats → ℕ → ℕ → ℕ → Stats
-sentCounts r u t f = record { microframes = r .microframes; «in_transfers» = r .«in_transfers»; «out_transfers» = t; «in_frames» = r .«in_frames»; «out_frames» = f; «bad_blocks» = r .«bad_blocks»; «midi_dtds» = r .«midi_dtds»; «midi_asleep» = r .«midi_asleep»; «out_underruns» = u; «midi_packets_out» = r .«midi_packets_out»; «vendor_in_bytes» = r .«vendor_in_bytes»; restarts = r .restarts; enumerations = r .enumerations }
+abbrev sentAudio : State → ℕ → ℕ → ℕ → State
+sentAudio s c start len =
+    withAudio s (withSending (withCredit (withCounter (s .audio) c) (s .audio .credit - 7)) (record { start = start; len = len }))
 
-abbrev sentWith : State → ℕ → ℕ → ℕ → ℕ → ℕ → ℕ → State
-sentWith s c start len u t f =
-    withStats
-    (withAudio s (withSending (withCredit (withCounter (s .audio) c) (s .audio .credit - 7)) (record { start = start; len = len })))
-    (sentCounts (s .stats) u t f)
+abbrev sentCounts : State → ℕ → State
+sentCounts s n = withStats s (counted «out_frames» 7 (counted «out_transfers» 1 (counted «out_underruns» n (s .stats))))
 
-module _ (s : State) (capacity n c start u t f : ℕ) (is-count : n ≡ min 7 (s .audio .sending .len))
+module _ (s : State) (capacity n c start : ℕ) {x y z : State} (is-count : n ≡ min 7 (s .audio .sending .len))
     (is-start : start ≡ (s .audio .sending .start + n) % capacity) (is-counter : c ≡ (s .audio .counter + 7) % 2 ^ 16)
-    (is-underruns : u ≡ wrapped (s .stats .«out_underruns» + (7 - n))) (is-transfers : t ≡ wrapped (s .stats .«out_transfers» + 1))
-    (is-frames : f ≡ wrapped (s .stats .«out_frames» + 7)) where
-  pub sent-as : sentWith s c start (s .audio .sending .len - n) u t f ≡ sentBlock s capacity
-  unfolding counted takenFrom
-  sent-as =
+    (lacks : x ≡ withStats s (counted «out_underruns» (7 - n) (s .stats))) (moved : y ≡ withStats x (counted «out_transfers» 1 (x .stats)))
+    (sends : z ≡ withStats y (counted «out_frames» 7 (y .stats))) where
+  counted-all : z ≡ sentCounts s (7 - s .audio .sending .len)
+  counted-all =
       let missing : 7 - n ≡ 7 - s .audio .sending .len = omega (arith, is-count) in
-      ap₂ (λ (x y : ℕ). sentWith s x y (s .audio .sending .len - n) u t f) is-counter (is-start ∙ ap (λ (x : ℕ). (s .audio .sending .start + x) % capacity) is-count)
-      ∙ ap₂ (λ (x y : ℕ). sentWith s ((s .audio .counter + 7) % 2 ^ 16) ((s .audio .sending .start + min 7 (s .audio .sending .len)) % capacity) (s .audio .sending .len - x) y t f) is-count (is-underruns ∙ ap (λ (x : ℕ). wrapped (s .stats .«out_underruns» + x)) missing)
-      ∙ ap₂ (λ (x y : ℕ). sentWith s ((s .audio .counter + 7) % 2 ^ 16) ((s .audio .sending .start + min 7 (s .audio .sending .len)) % capacity) (s .audio .sending .len - min 7 (s .audio .sending .len)) (wrapped (s .stats .«out_underruns» + (7 - s .audio .sending .len))) x y) is-transfers is-frames
+      sends
+      ∙ ap (λ (v : State). withStats v (counted «out_frames» 7 (v .stats))) (moved ∙ ap (λ (v : State). withStats v (counted «out_transfers» 1 (v .stats))) lacks)
+      ∙ ap (sentCounts s) missing
+
+  pub sent-as : withAudio z (withSending (withCredit (withCounter (z .audio) c) (s .audio .credit - 7)) (record { start = start; len = s .audio .sending .len - n })) ≡ sentBlock s capacity
+  unfolding takenFrom
+  sent-as =
+      ap₂ (λ (v : State) (k : ℕ). withAudio v (withSending (withCredit (withCounter (v .audio) k) (s .audio .credit - 7)) (record { start = start; len = s .audio .sending .len - n }))) counted-all is-counter
+      ∙ ap₂ (λ (i k : ℕ). withStats (sentAudio s ((s .audio .counter + 7) % 2 ^ 16) i (s .audio .sending .len - k)) (counted «out_frames» 7 (counted «out_transfers» 1 (counted «out_underruns» (7 - s .audio .sending .len) (s .stats)))))
+      (is-start ∙ ap (λ (k : ℕ). (s .audio .sending .start + k) % capacity) is-count) is-count
 
 -- the ring that a block was taken from is in order
 taken-from : (r : Ring) (capacity n : ℕ) → InSending r capacity → InSending (takenFrom capacity n r) capacity
@@ -350,7 +358,7 @@ module _ (s : State) (m : Memory) (l : List ℕ) (z : Sized m) (can : CanSend s 
     out-ended f r m′ p =
         let says = says-ended audioOut m f in
         record {
-          leads = λ w. by-true _ _ nothing (primed-enough (says .0)) (by-false (λ v. nextActive audioOut (v .memory)) (here (λ v. sendsBlock (blockOf v))) unprimes (says .1) (p .leads w l));
+          leads = λ w. by-true _ _ nothing (primed-enough (says .0)) (by-false (λ v. nextActive audioOut (v .lent .memory)) (here (λ v. sendsBlock (blockOf v))) unprimes (says .1) (p .leads w l));
           sized = p .sized;
           can = record {
             ring = subst (λ (x : Audio). InSending (x .sending) (length l / 12)) (sym (p .audio)) (can .ring);
@@ -371,7 +379,7 @@ module _ (s : State) (m : Memory) (l : List ℕ) (z : Sized m) (can : CanSend s 
         (record {
           leads =
               λ w. by-true _ _ nothing (primed-enough (says .prime))
-              (by-true (λ v. nextActive audioOut (v .memory)) (here (λ v. sendsBlock (blockOf v))) unprimes (says .active)
+              (by-true (λ v. nextActive audioOut (v .lent .memory)) (here (λ v. sendsBlock (blockOf v))) unprimes (says .active)
               (from-here (λ v. sendsBlock (blockOf v)) (atSent w s m l)
               (subst (λ (x : List ℕ). Leads (sendsBlock x) (atSent w s m l) (atSent w (sentBlock (afterRun s ran) (length l / 12)) m′ l)) (built w) (sends-block s m m′ l bs ran ran-so w))));
           sized = ran-so .does .sized;

@@ -12,8 +12,8 @@ use Rattle.usbdev.specs.Transfer.{totalOf}
 use Rattle.dtd.specs.Dtd.{primed, terminates, nextDtd, tokenOf}
 use Rattle.record.specs.declared.Ring.{Ring}
 use Rattle.record.specs.declared.State.{State}
-use Rattle.record.specs.Record.{wrapped, counted, withAudio, withStats, withCounter, withCredit, withSending, «in_transfers», «out_transfers», «out_frames», «out_underruns»}
-use Rattle.record.specs.World.{World}
+use Rattle.record.specs.Record.{wrapped, counted, withAudio, withStats, withCounter, withCredit, withSending, «in_transfers», «out_transfers», «out_frames», «out_underruns», counterOf, «bad_blocks», «in_frames»}
+use Rattle.record.specs.World.{World, withReceivedRing, withSendingRing, atBus}
 use Rattle.record.specs.Change.{Step, takenFrom}
 use Rattle.record.specs.Did.{Leads}
 use Rattle.model.specs.Audio.{audioIn, unprimes}
@@ -34,7 +34,7 @@ pacedOf m budget =
 
 -- what blocks change of a state
 abbrev pub decodedOf : State → Decoded
-decodedOf s = record { ring = s .audio .received; credit = s .audio .credit; frames = s .stats .«in_frames»; bad = s .stats .«bad_blocks» }
+decodedOf s = record { ring = s .audio .received; credit = s .audio .credit; frames = counterOf «in_frames» (s .stats); bad = counterOf «bad_blocks» (s .stats) }
 
 -- 871-872: the state with one more run counted, where it brought something
 abbrev pub countedIn : State → Bool → State
@@ -48,7 +48,7 @@ pub record SameOut (s s′ : State) : Type 0 where
 
 -- a World with state, memory and received ring in it
 abbrev pub atHeard : World → State → Memory → List ℕ → World
-atHeard r s m l = record { settings = r .settings; packer = r .packer; state = s; memory = m; setups = r .setups; midi = r .midi; serial = r .serial; device = r .device; reply = r .reply; config = r .config; receive = r .receive; received = l; sending = r .sending }
+atHeard r s m l = withReceivedRing (atBus r s m) l
 
 pub record Hears (f : Step) (s : State) (m : Memory) (l : List ℕ) (s′ : State) (m′ : Memory) (l′ : List ℕ) : Type 0 where
   pub leads : (w : World) → Leads f (atHeard w s m l) (atHeard w s′ m′ l′)
@@ -81,7 +81,7 @@ sentBlock s capacity =
 
 -- a World with state, memory and sending ring in it
 abbrev pub atSent : World → State → Memory → List ℕ → World
-atSent r s m l = record { settings = r .settings; packer = r .packer; state = s; memory = m; setups = r .setups; midi = r .midi; serial = r .serial; device = r .device; reply = r .reply; config = r .config; receive = r .receive; received = r .received; sending = l }
+atSent r s m l = withSendingRing (atBus r s m) l
 
 pub record Outputs (f : Step) (s : State) (m : Memory) (l : List ℕ) (s′ : State) (m′ : Memory) : Type 0 where
   pub leads : (w : World) → Leads f (atSent w s m l) (atSent w s′ m′ l)
@@ -99,7 +99,7 @@ pub record Unprimes (s : State) (m : Memory) (s′ : State) (m′ : Memory) : Ty
 
 -- a World with state, memory and both rings in it
 abbrev pub atStream : World → State → Memory → List ℕ → List ℕ → World
-atStream r s m l k = record { settings = r .settings; packer = r .packer; state = s; memory = m; setups = r .setups; midi = r .midi; serial = r .serial; device = r .device; reply = r .reply; config = r .config; receive = r .receive; received = l; sending = k }
+atStream r s m l k = withSendingRing (withReceivedRing (atBus r s m) l) k
 
 pub record Streams (f : Step) (s : State) (m : Memory) (l k : List ℕ) (s′ : State) (m′ : Memory) (l′ : List ℕ) : Type 0 where
   pub leads : (w : World) → Leads f (atStream w s m l k) (atStream w s′ m′ l′ k)

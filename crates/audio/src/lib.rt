@@ -62,16 +62,17 @@ fn pace(dynamic: &[u8], sram: &[u8], page: &[u8], budget: u64) -> Paced
     }
 }
 
-// What blocks change of a state.
+// What blocks change of a state: put back, it leaves the state as it is.
 fn decoded_of(s: State) -> Decoded
     ensures { λ r. ⌜ r ≡ P.decodedOf s ⌝ }
+    ensures { λ r. ⌜ withDecoded s r ≡ s ⌝ }
 {
     let ring = s.audio.received;
     Decoded {
         ring,
         credit: s.audio.credit,
-        frames: s.stats.in_frames,
-        bad: s.stats.bad_blocks,
+        frames: record::counter(s, record::IN_FRAMES),
+        bad: record::counter(s, record::BAD_BLOCKS),
     }
 }
 
@@ -80,12 +81,11 @@ fn with_decoded(s: State, d: Decoded) -> State
     ensures { λ r. ⌜ r ≡ withDecoded s d ⌝ }
 {
     let ring = d.ring;
-    let mut next = s;
+    let counted = record::with_counter(s, record::IN_FRAMES, d.frames);
+    let mut next = record::with_counter(counted, record::BAD_BLOCKS, d.bad);
     next.audio.received.start = ring.start;
     next.audio.received.len = ring.len;
     next.audio.credit = d.credit;
-    next.stats.in_frames = d.frames;
-    next.stats.bad_blocks = d.bad;
     next
 }
 
@@ -94,10 +94,7 @@ fn count_in(s: State, brought: bool) -> State
     ensures { λ r. ⌜ r ≡ P.countedIn s brought ⌝ }
 {
     if brought {
-        let transfers = wrapping_add_u64(s.stats.in_transfers, 1);
-        let mut next = s;
-        next.stats.in_transfers = transfers;
-        return next;
+        return record::count(s, record::IN_TRANSFERS, 1);
     }
     s
 }
@@ -181,19 +178,15 @@ fn after_block(s: State, capacity: usize) -> State
     let missing = (Audio::FRAMES_PER_BLOCK - count) as u64;
     let start = blocks::place(ring.start, count, capacity);
     let counter = wrapping_add_u16(s.audio.counter, Audio::FRAMES_PER_BLOCK as u16);
-    let underruns = wrapping_add_u64(s.stats.out_underruns, missing);
-    let transfers = wrapping_add_u64(s.stats.out_transfers, 1);
-    let frames = wrapping_add_u64(s.stats.out_frames, Audio::FRAMES_PER_BLOCK as u64);
     let credit = s.audio.credit - Audio::FRAMES_PER_BLOCK as u64;
     let len = ring.len - count;
-    let mut next = s;
+    let lacks = record::count(s, record::OUT_UNDERRUNS, missing);
+    let moved = record::count(lacks, record::OUT_TRANSFERS, 1);
+    let mut next = record::count(moved, record::OUT_FRAMES, Audio::FRAMES_PER_BLOCK as u64);
     next.audio.counter = counter;
     next.audio.credit = credit;
     next.audio.sending.start = start;
     next.audio.sending.len = len;
-    next.stats.out_underruns = underruns;
-    next.stats.out_transfers = transfers;
-    next.stats.out_frames = frames;
     next
 }
 

@@ -17,7 +17,7 @@ use Rattle.bus.specs.Steps.{exec-then}
 use Rattle.transfer.specs.Transfer.{bytesIn, bytesFrom}
 use Rattle.transfer.proofs.Laws.{length-tabulate, getD-tabulate, length-bytesIn, from-in}
 use Rattle.record.specs.declared.Ring.{Ring}
-use Rattle.record.specs.Record.{wrapped, counted, «in_frames», «bad_blocks»}
+use Rattle.record.specs.Record.{wrapped, raised, «in_frames», «bad_blocks»}
 use Rattle.record.specs.World.{World}
 use Rattle.record.specs.Change.{count, credit, frame, apply, Step, left, nothing, one, ringed, ringedPlace}
 use Rattle.record.specs.Did.{Leads}
@@ -178,7 +178,7 @@ bad-short b short = simp (lt-leb 368 (length b) short)
 
 module _ (b : List ℕ) (d : Decoded) (l : List ℕ) where
   bad-leads : good b ≡ false → (w : World) → Leads (keepsBlock b) (atBlocks w d l) (atBlocks w (oneBad d) l)
-  unfolding keepsBlock apply counted
+  unfolding keepsBlock apply raised
   bad-leads e w =
       subst (λ (t : Bool). Leads (pick t (keepsGood b) (one (λ v. count «bad_blocks» 1))) (atBlocks w d l) (atBlocks w (oneBad d) l)) (sym e)
       (once (λ v. count «bad_blocks» 1) (atBlocks w d l) (atBlocks w (oneBad d) l) refl)
@@ -187,7 +187,7 @@ module _ (b : List ℕ) (d : Decoded) (l : List ℕ) where
   keeps-bad e i = record { leads = bad-leads e; inside = i }
 
   pub keeps-good : good b ≡ true → (r : Ring) (l′ : List ℕ) → KeepsFrames (drop 32 b) (d .ring) l r l′ → Keeps (keepsBlock b) d l (oneGood d r) l′
-  unfolding keepsBlock keepsGood apply counted
+  unfolding keepsBlock keepsGood apply raised
   keeps-good e r l′ p =
       record {
         leads =

@@ -2,10 +2,9 @@
 use Prim.Native.Nat.{ℕ, _+_, _<_, _≤_}
 use mathlib.Core.List.{List}
 use Rattle.record.specs.declared.Ring.{Ring}
-use Rattle.record.specs.declared.Stats.{Stats}
 use Rattle.record.specs.declared.State.{State}
-use Rattle.record.specs.Record.{wrapped, withReceived, withCredit, withAudio, withStats}
-use Rattle.record.specs.World.{World}
+use Rattle.record.specs.Record.{Stats, place, «in_frames», «bad_blocks», wrapped, withCounterAt, withReceived, withCredit, withAudio, withStats}
+use Rattle.record.specs.World.{World, withState, withReceivedRing, inAudio}
 use Rattle.record.specs.Change.{Step}
 use Rattle.record.specs.Did.{Leads}
 use Rattle.model.specs.Audio.{keepsFrames}
@@ -18,7 +17,7 @@ pub record InRing (r : Ring) : Type 0 where
 
 -- a World with the received ring in it
 abbrev pub atRing : World → Ring → List ℕ → World
-atRing r x l = record { settings = r .settings; packer = r .packer; state = withAudio (r .state) (withReceived (r .state .audio) x); memory = r .memory; setups = r .setups; midi = r .midi; serial = r .serial; device = r .device; reply = r .reply; config = r .config; receive = r .receive; received = l; sending = r .sending }
+atRing r x l = withReceivedRing (inAudio r (withReceived (r .state .audio) x)) l
 
 -- usbhost.rs 882-888: seven frames from bs on
 pub record KeepsFrames (bs : List ℕ) (r : Ring) (l : List ℕ) (r′ : Ring) (l′ : List ℕ) : Type 0 where
@@ -27,14 +26,14 @@ pub record KeepsFrames (bs : List ℕ) (r : Ring) (l : List ℕ) (r′ : Ring) (
 
 -- counts of frames and of bad blocks
 abbrev pub withBlocks : Stats → ℕ → ℕ → Stats
-withBlocks r f b = record { microframes = r .microframes; «in_transfers» = r .«in_transfers»; «out_transfers» = r .«out_transfers»; «in_frames» = f; «out_frames» = r .«out_frames»; «bad_blocks» = b; «midi_dtds» = r .«midi_dtds»; «midi_asleep» = r .«midi_asleep»; «out_underruns» = r .«out_underruns»; «midi_packets_out» = r .«midi_packets_out»; «vendor_in_bytes» = r .«vendor_in_bytes»; restarts = r .restarts; enumerations = r .enumerations }
+withBlocks r f b = withCounterAt (place «bad_blocks») b (withCounterAt (place «in_frames») f r)
 
 -- a state with what blocks change in it, and a World with that and the received ring
 abbrev pub withDecoded : State → Decoded → State
 withDecoded s d = withStats (withAudio s (withReceived (withCredit (s .audio) (d .credit)) (d .ring))) (withBlocks (s .stats) (d .frames) (d .bad))
 
 abbrev pub atBlocks : World → Decoded → List ℕ → World
-atBlocks r d l = record { settings = r .settings; packer = r .packer; state = withDecoded (r .state) d; memory = r .memory; setups = r .setups; midi = r .midi; serial = r .serial; device = r .device; reply = r .reply; config = r .config; receive = r .receive; received = l; sending = r .sending }
+atBlocks r d l = withReceivedRing (withState r (withDecoded (r .state) d)) l
 
 pub record Keeps (f : Step) (d : Decoded) (l : List ℕ) (d′ : Decoded) (l′ : List ℕ) : Type 0 where
   pub leads : (w : World) → Leads f (atBlocks w d l) (atBlocks w d′ l′)

@@ -1,16 +1,20 @@
 -- Facts on the tests of the bounds.
-use Prim.Native.Nat.{ℕ, _+_, _-_, _<_, _≤_}
+use Prim.Native.Nat.{ℕ, zero, suc, _+_, _-_, _<_, _≤_}
 use mathlib.Core.Bool.{Bool, true, false, not, _&&_, _||_}
 use mathlib.Core.List.{List}
-use mathlib.Core.Path.{_≡_, refl, sym}
+use mathlib.Core.Path.{_≡_, refl, sym, subst}
 use native.Mathlib.Numerals.{add-one}
-use borrow.Author.Tests.{eq-eqb, eqb-true, le-leb, leb-true, ltb-true}
+use native.Mathlib.Omega.{arith}
+use borrow.Author.Tests.{eq-eqb, eqb-true, eqb-false, le-leb, leb-true, ltb-true}
 use lib.Dec.{eqb, leb, ltb}
+use lib.ListN.{getD}
 use Rattle.bus.proofs.Sizes.{and-true}
 use Rattle.midi.specs.declared.Packer.{Packer}
 use Rattle.midi.specs.Packer.{messageLength, PackerBound}
 use Rattle.record.specs.declared.Ring.{Ring}
-use Rattle.bounds.specs.Bounds.{madeAt, allMade, other, noneAsks, packerOk, ringOk}
+use Rattle.record.specs.Record.{Stats, counterAt, counterOf, microframes}
+use Rattle.record.proofs.Counters.{counter-element}
+use Rattle.bounds.specs.Bounds.{madeAt, allMade, other, noneAsks, times, noneAbove, countersOk, packerOk, ringOk}
 
 -- one setup more
 pub made-more : (q : List ℕ) (n : ℕ) → (allMade q n && madeAt q n) ≡ allMade q (n + 1)
@@ -20,6 +24,31 @@ made-more q n = rw add-one refl
 pub asks-more : (q : List ℕ) (n : ℕ) → (noneAsks q n && other q n) ≡ noneAsks q (n + 1)
 unfolding noneAsks
 asks-more q n = rw add-one refl
+
+-- one counter more
+pub above-more : (m : ℕ) (r : Stats) (n : ℕ) → (noneAbove m r n && leb (getD r (n + 1) 0) m) ≡ noneAbove m r (n + 1)
+unfolding noneAbove
+above-more m r n = rw (← counter-element (n + 1) r, add-one) refl
+
+-- each of them
+none-above : (m : ℕ) (r : Stats) (n : ℕ) → noneAbove m r n ≡ true → (k : ℕ) → k < n → leb (counterAt (suc k) r) m ≡ true
+unfolding noneAbove
+none-above m r zero e k l = absurd (omega arith)
+none-above m r (suc n) e k l = by-last (eqb k n) refl (none-above m r n (and-true (noneAbove m r n) _ e .0) k)
+  where
+    by-last : (b : Bool) → eqb k n ≡ b → (k < n → leb (counterAt (suc k) r) m ≡ true) → leb (counterAt (suc k) r) m ≡ true
+    by-last true i h = subst (λ (j : ℕ). leb (counterAt (suc j) r) m ≡ true) (sym (eqb-true k n i)) (and-true (noneAbove m r n) _ e .1)
+    by-last false i h = h (omega (arith, eqb-false k n i))
+
+pub all-below : (m : ℕ) (r : Stats) (n : ℕ) → ((k : ℕ) → k < n → leb (counterAt (suc k) r) m ≡ true) → noneAbove m r n ≡ true
+unfolding noneAbove
+all-below m r zero h = refl
+all-below m r (suc n) h = simp (all-below m r n (λ k l. h k (omega arith)), h n (omega arith))
+
+-- a counter of a record that is in its bounds, by its place behind that of the microframes
+pub counter-below : (r : Stats) → countersOk r ≡ true → (k : ℕ) → k < 12 → leb (counterAt (suc k) r) (times 32767 (counterOf microframes r)) ≡ true
+unfolding countersOk
+counter-below r e = none-above (times 32767 (counterOf microframes r)) r 12 e
 
 -- a test or one that holds
 pub or-true : (b : Bool) → (b || true) ≡ true

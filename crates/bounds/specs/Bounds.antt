@@ -11,11 +11,11 @@ use Rattle.gptimers.specs.Timer.{ZERO}
 use Rattle.record.specs.declared.Ring.{Ring}
 use Rattle.record.specs.declared.Audio.{Audio}
 use Rattle.record.specs.declared.Control.{Control}
-use Rattle.record.specs.declared.Stats.{Stats}
 use Rattle.record.specs.declared.Lengths.{Lengths}
 use Rattle.record.specs.declared.State.{State}
 use Rattle.record.specs.Change.{FRAMES, WORDS}
 use Rattle.record.specs.Setups.{little}
+use Rattle.record.specs.Record.{Stats, counterAt, counterOf, microframes}
 use Rattle.model.specs.Control.{wLength, enumerating}
 
 -- ---- setups that the source makes (usbhost.rs 477-482, 713, 723-735)
@@ -89,17 +89,20 @@ MOST = 2 ^ 40
 -- the two microframe counts are equal and not above 2^40, and no phase began after them
 unfoldable pub countsOk : State → Bool
 countsOk s =
-    eqb (s .stats .microframes) (s .port .uf) && (leb (s .port .uf) MOST && leb (s .port .t) (s .port .uf))
+    eqb (counterOf microframes (s .stats)) (s .port .uf) && (leb (s .port .uf) MOST && leb (s .port .t) (s .port .uf))
 
 -- a bound that grows with the microframes, of which there are at most 2^40
 abbrev pub times : ℕ → ℕ → ℕ
 times k n = k * min n MOST
 
+-- the counters at the places 1 to n are at most m
+unfoldable pub noneAbove : ℕ → Stats → ℕ → Bool
+noneAbove m r zero = true
+noneAbove m r (suc n) = noneAbove m r n && leb (counterAt (suc n) r) m
+
 -- every other counter: the twelve of usbhost.rs 293-309, at most 32,767 a microframe
 unfoldable pub countersOk : Stats → Bool
-countersOk r =
-    (leb (r .«in_transfers») (times 32767 (r .microframes)) && (leb (r .«out_transfers») (times 32767 (r .microframes)) && (leb (r .«in_frames») (times 32767 (r .microframes)) && (leb (r .«out_frames») (times 32767 (r .microframes)) && leb (r .«bad_blocks») (times 32767 (r .microframes))))))
-    && (leb (r .«midi_dtds») (times 32767 (r .microframes)) && (leb (r .«midi_asleep») (times 32767 (r .microframes)) && (leb (r .«out_underruns») (times 32767 (r .microframes)) && (leb (r .«midi_packets_out») (times 32767 (r .microframes)) && (leb (r .«vendor_in_bytes») (times 32767 (r .microframes)) && (leb (r .restarts) (times 32767 (r .microframes)) && leb (r .enumerations) (times 32767 (r .microframes))))))))
+countersOk r = noneAbove (times 32767 (counterOf microframes r)) r 12
 
 -- credit: a multiple of seven, at most 623 a microframe (a total of 32,767 bytes has 89 whole blocks of 368, of seven frames each)
 unfoldable pub creditOk : ℕ → ℕ → Bool
@@ -133,7 +136,7 @@ heldOk s p = queuesOk (s .lengths) && packerOk p
 abbrev pub countedOk : State → Bool
 countedOk s =
     countsOk s
-    && (countersOk (s .stats) && (creditOk (s .audio .credit) (s .stats .microframes) && timersOk (s .timers) (s .stats .microframes)))
+    && (countersOk (s .stats) && (creditOk (s .audio .credit) (counterOf microframes (s .stats)) && timersOk (s .timers) (counterOf microframes (s .stats))))
 
 -- all of it
 unfoldable pub inBounds : State → Packer → List ℕ → Bool

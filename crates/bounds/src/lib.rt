@@ -13,7 +13,6 @@ use record::Lengths;
 use record::Phase;
 use record::Ring;
 use record::State;
-use record::Stats;
 use record::word_from;
 
 // A configuration request's first word: 80 06 00 02.
@@ -167,7 +166,8 @@ pub fn packer_ok(p: Packer) -> bool
 pub fn counts_ok(s: State) -> bool
     ensures { λ r. ⌜ r ≡ B.countsOk s ⌝ }
 {
-    (s.stats.microframes == s.port.uf) & ((s.port.uf <= MOST) & (s.port.t <= s.port.uf))
+    let n = record::counter(s, record::MICROFRAMES);
+    (n == s.port.uf) & ((s.port.uf <= MOST) & (s.port.t <= s.port.uf))
 }
 
 // The smaller of n and the most microframes.
@@ -181,20 +181,17 @@ fn at_most(n: u64) -> u64
 }
 
 // The counters but that of microframes.
-pub fn counters_ok(r: Stats) -> bool
+pub fn counters_ok(r: [u64; record::COUNTERS]) -> bool
     ensures { λ ok. ⌜ ok ≡ B.countersOk r ⌝ }
 {
-    let most = 32767 * at_most(r.microframes);
-    let audio = (r.in_transfers <= most)
-        & ((r.out_transfers <= most)
-            & ((r.in_frames <= most) & ((r.out_frames <= most) & (r.bad_blocks <= most))));
-    let others = (r.midi_dtds <= most)
-        & ((r.midi_asleep <= most)
-            & ((r.out_underruns <= most)
-                & ((r.midi_packets_out <= most)
-                    & ((r.vendor_in_bytes <= most)
-                        & ((r.restarts <= most) & (r.enumerations <= most))))));
-    audio & others
+    let most = 32767 * at_most(r[record::MICROFRAMES]);
+    let mut ok = true;
+    let mut k = 0;
+    while k < record::COUNTERS - 1 {
+        ok = ok & (r[k + 1] <= most);
+        k += 1;
+    }
+    ok
 }
 
 // The credit after n microframes.
@@ -256,7 +253,7 @@ fn counted_ok(s: State) -> bool
 {
     let stats = s.stats;
     let timers = s.timers;
-    let n = s.stats.microframes;
+    let n = record::counter(s, record::MICROFRAMES);
     counts_ok(s) & (counters_ok(stats) & (credit_ok(s.audio.credit, n) & timers_ok(timers, n)))
 }
 

@@ -28,9 +28,9 @@ use Rattle.record.proofs.Phase.{the-type as the-phase}
 use denote.Enum.Declared.{tagOf}
 use types.Run.{OneOf}
 use mathlib.Core.Logic.{⊎-elim}
-use Rattle.record.specs.declared.Stats.{Stats}
 use Rattle.record.specs.declared.State.{State}
-use Rattle.record.specs.Record.{wrapped, withOn, withSetups, withDropped, withPhase, withStats, withControl, withLengths, withAnswer, enumerations, counted}
+use Rattle.record.specs.Record.{wrapped, counted, withOn, withSetups, withDropped, withPhase, withStats, withControl, withLengths, withAnswer, enumerations}
+use Rattle.record.proofs.Counters.{counts-one}
 use Rattle.record.specs.World.{World, withState, lined}
 use Rattle.record.specs.Change.{apply, drained, phase, count, control, popped, lost, _then_, nothing, when, one}
 use Rattle.record.specs.Did.{Leads, Alone}
@@ -161,19 +161,14 @@ module _ (s : State) {t : ℕ} (is : t ≡ (s .control .t0 + 16000) % 2 ^ 64) wh
   goes-on h =
       record { leads = λ w. by-false timedOut dropsRequest nothing (ap (λ (x : ℕ). ltb x (s .port .uf)) (sym is) ∙ le-ltb t (s .port .uf) h) (unchanged (withState w s)) }
 
-abbrev pub withEnumerations : Stats → ℕ → Stats
-withEnumerations r x = record { microframes = r .microframes; «in_transfers» = r .«in_transfers»; «out_transfers» = r .«out_transfers»; «in_frames» = r .«in_frames»; «out_frames» = r .«out_frames»; «bad_blocks» = r .«bad_blocks»; «midi_dtds» = r .«midi_dtds»; «midi_asleep» = r .«midi_asleep»; «out_underruns» = r .«out_underruns»; «midi_packets_out» = r .«midi_packets_out»; «vendor_in_bytes» = r .«vendor_in_bytes»; restarts = r .restarts; enumerations = x }
-
-pub enumeration-ends : (s : State) {x : State} {n : ℕ} → s .phase ≡ Enumerate → x ≡ withPhase s Stream → n ≡ (s .stats .enumerations + 1) % 2 ^ 64
-    → Alone configured s (withStats x (withEnumerations (x .stats) n))
-unfolding configured apply counted
-enumeration-ends s {x} {n} h ex en =
+pub enumeration-ends : (s : State) {x r : State} → s .phase ≡ Enumerate → x ≡ withPhase s Stream → r ≡ withStats x (counted enumerations 1 (x .stats))
+    → Alone configured s r
+unfolding configured apply
+enumeration-ends s h ex er =
     record {
       leads = λ w.
           by-true (λ v. enumerating (v .state .phase)) (one (λ v. phase Stream) then one (λ v. count enumerations 1)) nothing (ap enumerating h)
-          (in-turn (once (λ v. phase Stream) (withState w s) (withState w (withPhase s Stream)) refl)
-          (once (λ v. count enumerations 1) (withState w (withPhase s Stream)) (withState w (withStats x (withEnumerations (x .stats) n)))
-          (ap₂ (λ (y : State) (k : ℕ). withState w (withStats y (withEnumerations (y .stats) k))) ex en)));
+          (in-turn (once (λ v. phase Stream) (withState w s) _ (ap (withState w) ex)) (counts-one enumerations 1 w er));
     }
 
 -- the tags of the phases that are not enumeration

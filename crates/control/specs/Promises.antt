@@ -10,7 +10,7 @@ use Rattle.bus.specs.Sized.{Sized}
 use Rattle.bus.specs.Stores.{BusStep, putting, _then_}
 use Rattle.record.specs.Setups.{little}
 use Rattle.record.specs.declared.State.{State}
-use Rattle.record.specs.World.{World, atBus}
+use Rattle.record.specs.World.{World, withSetupQueue, withDeviceArea, withReplyArea, withConfigArea, atBus}
 use Rattle.record.specs.Change as H
 use Rattle.record.specs.Change.{Step}
 use Rattle.record.specs.Did.{Leads}
@@ -30,7 +30,7 @@ putsSetup qh first second = putting (after qh 0x28) first then putting (after qh
 
 -- a World with state, memory and setups in its place
 abbrev pub atSetups : World → State → Memory → List ℕ → World
-atSetups r s m q = record { settings = r .settings; packer = r .packer; state = s; memory = m; setups = q; midi = r .midi; serial = r .serial; device = r .device; reply = r .reply; config = r .config; receive = r .receive; received = r .received; sending = r .sending }
+atSetups r s m q = withSetupQueue (atBus r s m) q
 
 pub record Posts (f : Step) (s : State) (m : Memory) (q : List ℕ) (s′ : State) (m′ : Memory) (q′ : List ℕ) : Type 0 where
   pub leads : (w : World) → Leads f (atSetups w s m q) (atSetups w s′ m′ q′)
@@ -38,7 +38,7 @@ pub record Posts (f : Step) (s : State) (m : Memory) (q : List ℕ) (s′ : Stat
 
 -- with state, memory and reply in its place
 abbrev pub atReply : World → State → Memory → List ℕ → World
-atReply r s m p = record { settings = r .settings; packer = r .packer; state = s; memory = m; setups = r .setups; midi = r .midi; serial = r .serial; device = r .device; reply = p; config = r .config; receive = r .receive; received = r .received; sending = r .sending }
+atReply r s m p = withReplyArea (atBus r s m) p
 
 -- a data stage leaves a request that is ready for its status stage
 pub record Stages (f : Step) (s : State) (m : Memory) (p : List ℕ) (s′ : State) (m′ : Memory) (p′ : List ℕ) : Type 0 where
@@ -59,7 +59,7 @@ pub record Bounded (s : State) : Type 0 where
 
 -- with all that control takes in its place: state, memory, setups, device descriptor, reply and configuration
 abbrev pub atControl : World → State → Memory → List ℕ → List ℕ → List ℕ → List ℕ → World
-atControl r s m q d p c = record { settings = r .settings; packer = r .packer; state = s; memory = m; setups = q; midi = r .midi; serial = r .serial; device = d; reply = p; config = c; receive = r .receive; received = r .received; sending = r .sending }
+atControl r s m q d p c = withConfigArea (withReplyArea (withDeviceArea (withSetupQueue (atBus r s m) q) d) p) c
 
 pub record Controls (f : Step) (s : State) (m : Memory) (q d p c : List ℕ) (s′ : State) (m′ : Memory) (q′ d′ p′ c′ : List ℕ) : Type 0 where
   pub leads : (w : World) → Leads f (atControl w s m q d p c) (atControl w s′ m′ q′ d′ p′ c′)

@@ -74,10 +74,8 @@ fn configured(s: State) -> State
     let phase = s.phase;
     match phase {
         Phase::Enumerate => {
-            let mut next = record::with_phase(s, Phase::Stream);
-            let count = wrapping_add_u64(s.stats.enumerations, 1);
-            next.stats.enumerations = count;
-            next
+            let next = record::with_phase(s, Phase::Stream);
+            record::count(next, record::ENUMERATIONS, 1)
         }
         _ => s,
     }

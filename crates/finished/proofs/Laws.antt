@@ -108,7 +108,7 @@ whole-asked s q p {q′} none h₂ h₃ e d c =
     let bytes = asked-bytes (getD p 2 0) (getD p 3 0) h₂ h₃ in
     record {
       leads = λ w.
-          once (λ v. pushed (0x80 ∷ 6 ∷ 0 ∷ 2 ∷ 0 ∷ 0 ∷ getD (v .reply) 2 0 ∷ getD (v .reply) 3 0 ∷ [])) (atRequest w s q d p c) (atRequest w (withLengths s (withSetups (s .lengths) 1)) q′ d p c)
+          once (λ v. pushed (0x80 ∷ 6 ∷ 0 ∷ 2 ∷ 0 ∷ 0 ∷ getD (v .lent .reply) 2 0 ∷ getD (v .lent .reply) 3 0 ∷ [])) (atRequest w s q d p c) (atRequest w (withLengths s (withSetups (s .lengths) 1)) q′ d p c)
           (ap (λ (x : List ℕ). atRequest w (withLengths s (withSetups (s .lengths) 1)) x d p c) (e ∙ ap (sets q 0) bytes)
           ∙ ap (λ (n : ℕ). atRequest w (withLengths s (withSetups (s .lengths) (n + 1))) (sets q 0 ((0x80 ∷ 6 ∷ 0 ∷ 2 ∷ 0 ∷ 0 ∷ getD p 2 0 ∷ getD p 3 0 ∷ []) ++ take (8 * n) q)) d p c) (sym none));
     }
@@ -233,7 +233,7 @@ module _ (s : State) (q p : List ℕ) {info : ConfigInfo} (is : info ≡ tableOf
       let e₂′ : q₂ ≡ sets q₁ 8 (interfaceSetups (ch .pairs)) = e₂ ∙ ap (λ (x : ConfigInfo). sets q₁ 8 (interfaceSetups (pairsFrom (x .interfaces) (x .alternates) 0 (x .count)))) is ∙ ap (λ (ps : List (ℕ × ℕ)). sets q₁ 8 (interfaceSetups ps)) (pairs-of (ch .pairs) _ _) in
       record {
         leads = λ w.
-            from-here (λ v. chooses (parsed (take (v .state .control .got) (v .reply)))) (atRequest w s q d p c)
+            from-here (λ v. chooses (parsed (take (v .state .control .got) (v .lent .reply)))) (atRequest w s q d p c)
             (leads-as
             (in-turn (by-size w s q d p c (ch .output) (ltb 32 (ch .output)) refl) (pairs-queued w (withOut s (outBlock (ch .output) (blockOf s))) q d p c (ch .pairs) none e₁ e₂′))
             (ap₂ (λ (b : OutBlock) (n : ℕ). atRequest w (withLengths (withOut s b) (withSetups (s .lengths) (1 + n))) q₂ d p c) eo′ ec));

@@ -5,7 +5,7 @@ use mathlib.Core.List.{List, [], _∷_}
 use mathlib.Core.Path.{_≡_}
 use lib.ListN.{getD}
 use Rattle.record.specs.declared.State.{State}
-use Rattle.record.specs.World.{World}
+use Rattle.record.specs.World.{World, withState, withSetupQueue, withDeviceArea, withReplyArea, withConfigArea}
 use Rattle.record.specs.Change.{device, config, Step}
 use Rattle.record.specs.Did.{Leads}
 use Rattle.model.specs.Control.{asksFor, wLength}
@@ -19,7 +19,7 @@ pub record Ready (s : State) : Type 0 where
 
 -- a World with what a finished request takes in its place: state, setups, device descriptor, reply and configuration
 abbrev pub atRequest : World → State → List ℕ → List ℕ → List ℕ → List ℕ → World
-atRequest r s q d p c = record { settings = r .settings; packer = r .packer; state = s; memory = r .memory; setups = q; midi = r .midi; serial = r .serial; device = d; reply = p; config = c; receive = r .receive; received = r .received; sending = r .sending }
+atRequest r s q d p c = withConfigArea (withReplyArea (withDeviceArea (withSetupQueue (withState r s) q) d) p) c
 
 -- a step on these, which leaves the reply
 pub record Brings (f : Step) (s : State) (q d p c : List ℕ) (s′ : State) (q′ d′ c′ : List ℕ) : Type 0 where

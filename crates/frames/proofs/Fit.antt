@@ -11,6 +11,7 @@ use Rattle.midi.specs.declared.Packer.{Packer}
 use Rattle.record.specs.declared.Audio.{Audio}
 use Rattle.record.specs.declared.Control.{Control}
 use Rattle.record.specs.declared.State.{State}
+use Rattle.record.specs.Record.{counterOf, microframes}
 use Rattle.model.specs.Control.{requestType, request, descriptorType, wLength, asksFor, enumerating}
 use Rattle.bounds.specs.Bounds.{MOST, le, made, asksConfiguration, setupsOk, enumeratingOk, requestOk, queuesOk, packerOk, countsOk, countersOk, creditOk, timersOk, audioOk, askedOk, heldOk, countedOk, inBounds, ringOk, receivedOk, sendingOk}
 use Rattle.kept.proofs.Timers.{timers-range}
@@ -137,10 +138,10 @@ fit-of s p setups words e f g few none =
     let queues = and-true (leb (s .lengths .midi) 4096) _ (and-true (queuesOk (s .lengths)) (packerOk p) (b .0) .0) in
     let rest = and-true (eqb (s .lengths .midi % 4) 0) _ (queues .1) in
     let counts = and-true (countsOk s) _ (d .0) in
-    let equal = and-true (eqb (s .stats .microframes) (s .port .uf)) _ (counts .0) in
+    let equal = and-true (eqb (counterOf microframes (s .stats)) (s .port .uf)) _ (counts .0) in
     let most = leb-true (s .port .uf) MOST (and-true (leb (s .port .uf) MOST) _ (equal .1) .0) in
-    let times = and-true (creditOk (s .audio .credit) (s .stats .microframes)) (timersOk (s .timers) (s .stats .microframes)) (and-true (countersOk (s .stats)) _ (counts .1) .1) .1 in
-    let range = timers-range (s .timers) (s .stats .microframes) (omega (arith, most, eqb-true (s .stats .microframes) (s .port .uf) (equal .0))) times in
+    let times = and-true (creditOk (s .audio .credit) (counterOf microframes (s .stats))) (timersOk (s .timers) (counterOf microframes (s .stats))) (and-true (countersOk (s .stats)) _ (counts .1) .1) .1 in
+    let range = timers-range (s .timers) (counterOf microframes (s .stats)) (omega (arith, most, eqb-true (counterOf microframes (s .stats)) (s .port .uf) (equal .0))) times in
     record {
       zero = range .0;
       one = range .1;

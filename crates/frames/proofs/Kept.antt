@@ -31,12 +31,12 @@ abbrev On : World → Type 0
 On w =
     Asks (w .state .phase) (w .state .control) (w .state .lengths .setups)
     × ((w .state .lengths .midi ≤ 4096)
-    × ((w .state .lengths .serial ≤ 4096) × (Rings (w .state .audio) (length (w .sending)) × (w .state .answer .received ≡ 0))))
+    × ((w .state .lengths .serial ≤ 4096) × (Rings (w .state .audio) (length (w .lent .sending)) × (w .state .answer .received ≡ 0))))
 
-to-on : (w : World) → Going (w .state) (length (w .sending)) → On w
+to-on : (w : World) → Going (w .state) (length (w .lent .sending)) → On w
 to-on w g = (g .asks, (g .flows .midi, (g .flows .serial, (g .flows .rings, g .flows .none))))
 
-from-on : (w : World) → On w → Going (w .state) (length (w .sending))
+from-on : (w : World) → On w → Going (w .state) (length (w .lent .sending))
 from-on w h = record { asks = h .0; flows = record { midi = h .1 .0; serial = h .1 .1 .0; rings = h .1 .1 .1 .0; none = h .1 .1 .1 .1 } }
 
 -- ---- single changes

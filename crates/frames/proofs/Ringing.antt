@@ -22,7 +22,7 @@ use Rattle.kept.proofs.Every.{Each, adds-any, clears-any, from-controls}
 use Rattle.framing.specs.Promises.{Rings}
 
 abbrev Ringed : World → Type 0
-Ringed w = Rings (w .state .audio) (length (w .sending))
+Ringed w = Rings (w .state .audio) (length (w .lent .sending))
 
 -- the fields that they are about are as they were
 same : (a b : Audio) (n : ℕ) → b .received ≡ a .received → b .sending ≡ a .sending → b .block ≡ a .block → b .channels ≡ a .channels → Rings a n → Rings b n
@@ -86,5 +86,5 @@ after-pop : (w : World) → Ringed w → Ringed (apply popped w)
 unfolding apply
 after-pop w h = h
 
-pub rings-controls : (stack : Bool) (w : World) → Rings (w .state .audio) (length (w .sending)) → Rings (left (controls stack) w .state .audio) (length (left (controls stack) w .sending))
+pub rings-controls : (stack : Bool) (w : World) → Rings (w .state .audio) (length (w .lent .sending)) → Rings (left (controls stack) w .state .audio) (length (left (controls stack) w .lent .sending))
 rings-controls stack w h = from-controls Ringed Ringed (rings-each .early) rings-each (λ v p. p) after-pop stack w h

@@ -18,7 +18,7 @@ use denote.Enum.Declared.{tagOf}
 use types.Run.{OneOf}
 use Rattle.record.specs.declared.Settings.{Settings}
 use Rattle.record.specs.declared.State.{State}
-use Rattle.record.specs.World.{World}
+use Rattle.record.specs.World.{Own, Lent, World, world, own, ownSetups, lent, lentPage}
 use Rattle.record.specs.Change.{Step}
 use Rattle.record.specs.Did.{Leads, Alone, Paged}
 use Rattle.record.proofs.Laws.{in-turn, by-true, by-false, unchanged, from-here}
@@ -30,7 +30,7 @@ use Rattle.control.specs.Promises.{Bounded, atControl, Controls}
 use Rattle.framing.specs.Promises.{Rings, Flows, Transfers}
 use Rattle.framing.proofs.Held.{Held, heldOf, keeps-controls}
 use Rattle.framing.proofs.Steps.{some}
-use Rattle.frames.specs.Promises.{Asks, afterSuspend, afterGone, Areas, areas, world, atAll, Goes, Frame}
+use Rattle.frames.specs.Promises.{Asks, afterSuspend, afterGone, atAll, Goes, Frame}
 use Rattle.frames.proofs.Ringing.{rings-controls}
 
 -- ---- what the record's bounds give to control
@@ -58,27 +58,27 @@ module _ (c : Settings) (k : List ℕ) (stack : Bool) (s s′ : State) (m m′ :
       record {
         midi = subst (λ (n : ℕ). n ≤ 4096) (sym (ap (λ (x : Held). x .midi) same)) (h .midi);
         serial = subst (λ (n : ℕ). n ≤ 4096) (sym (ap (λ (x : Held). x .serial) same)) (h .serial);
-        rings = subst (λ (w : World). Rings (w .state .audio) (length (w .sending))) (sym e) (rings-controls stack (atControl (some c s k) s m q d p f) (h .rings));
+        rings = subst (λ (w : World). Rings (w .state .audio) (length (w .lent .sending))) (sym e) (rings-controls stack (atControl (some c s k) s m q d p f) (h .rings));
         none = ap (λ (x : Held). x .answered) same ∙ h .none;
       }
 
-module _ (c : Settings) (t : ℕ) (s : State) (m : Memory) (a : Areas) (k : List ℕ) where
-  pub talks-off : (rs : Bool) → rs ≡ false → Sized m → Goes (talks c t rs) s m a k s m a
+module _ (c : Settings) (t : ℕ) (s : State) (o : Own) (l : Lent) where
+  pub talks-off : (rs : Bool) → rs ≡ false → Sized (l .memory) → Goes (talks c t rs) s o l s o l
   unfolding talks
   talks-off rs e z = record { leads = λ w. by-false _ _ _ e (unchanged _); sized = z }
 
-  pub talks-goes : (rs : Bool) → rs ≡ true → (s₁ : State) (page₁ : List ℕ) → Paged startsFrame s (m .page) s₁ page₁
-      → (s₂ : State) (m₂ : Memory) (q d p f : List ℕ) → Controls (controls (c .«device_stack»)) s₁ (memory (m .dynamic) (m .sram) page₁) (a .setups) (a .device) (a .reply) (a .config) s₂ m₂ q d p f
-      → (s₃ : State) (m₃ : Memory) (i u out l : List ℕ) → Transfers (transfers c t) s₂ m₂ (a .midi) (a .serial) (a .receive) (a .received) k s₃ m₃ i u out l
-      → Goes (talks c t rs) s m a k s₃ m₃ (areas q i u d p f out l)
+  pub talks-goes : (rs : Bool) → rs ≡ true → (s₁ : State) (page₁ : List ℕ) → Paged startsFrame s (l .memory .page) s₁ page₁
+      → (s₂ : State) (m₂ : Memory) (q d p f : List ℕ) → Controls (controls (c .«device_stack»)) s₁ (lentPage l page₁ .memory) (o .setups) (o .device) (l .reply) (l .config) s₂ m₂ q d p f
+      → (s₃ : State) (m₃ : Memory) (i u out ring : List ℕ) → Transfers (transfers c t) s₂ m₂ (o .midi) (o .serial) (l .receive) (l .received) (l .sending) s₃ m₃ i u out ring
+      → Goes (talks c t rs) s o l s₃ (own q i u d) (lent m₃ p f out ring (l .sending))
   unfolding talks enumerates
-  talks-goes rs e s₁ page₁ starts s₂ m₂ q d p f asks s₃ m₃ i u out l flows =
+  talks-goes rs e s₁ page₁ starts s₂ m₂ q d p f asks s₃ m₃ i u out ring flows =
       record {
         leads = λ w.
             by-true _ _ _ e
             (in-turn
-            (in-turn (starts .leads (atAll w s m a k)) (asks .leads (atAll w s₁ (memory (m .dynamic) (m .sram) page₁) a k)))
-            (flows .leads (atAll w s₂ m₂ (areas q (a .midi) (a .serial) d p f (a .receive) (a .received)) k)));
+            (in-turn (starts .leads (atAll w s o l)) (asks .leads (atAll w s₁ o (lentPage l page₁))))
+            (flows .leads (atAll w s₂ (own q (o .midi) (o .serial) d) (lent m₂ p f (l .receive) (l .received) (l .sending)))));
         sized = flows .sized;
       }
 
@@ -96,38 +96,41 @@ at-phase : (c : Settings) (t : ℕ) (rs : Bool) (p : Phase) (x y : World) → x 
 unfolding byPhase
 at-phase c t rs p x y e l = from-here _ x (subst (λ (q : Phase). Leads (atPhase c t rs q) x y) (sym e) l)
 
-module _ (c : Settings) (t : ℕ) (rs : Bool) (s : State) (a : Areas) (k : List ℕ) where
-  module _ (dynamic sram page page′ : List ℕ) (s′ : State) (z : Sized (memory dynamic sram page)) (same : length page′ ≡ 4096) where
-    pub phase-idle : s .phase ≡ Idle → Paged idles s page s′ page′ → Goes (byPhase c t rs) s (memory dynamic sram page) a k s′ (memory dynamic sram page′) a
-    phase-idle e p = record { leads = λ w. at-phase c t rs _ _ _ e (p .leads (atAll w s (memory dynamic sram page) a k)); sized = sized-page dynamic sram page page′ z same }
+module _ (c : Settings) (t : ℕ) (rs : Bool) (s : State) (o : Own) (l : Lent) where
+  module _ (page′ : List ℕ) (s′ : State) (z : Sized (l .memory)) (same : length page′ ≡ 4096) where
+    sized-next : Sized (lentPage l page′ .memory)
+    sized-next = sized-page (l .memory .dynamic) (l .memory .sram) (l .memory .page) page′ z same
 
-    pub phase-vbus : s .phase ≡ Vbus → Paged (powers rs) s page s′ page′ → Goes (byPhase c t rs) s (memory dynamic sram page) a k s′ (memory dynamic sram page′) a
-    phase-vbus e p = record { leads = λ w. at-phase c t rs _ _ _ e (p .leads (atAll w s (memory dynamic sram page) a k)); sized = sized-page dynamic sram page page′ z same }
+    pub phase-idle : s .phase ≡ Idle → Paged idles s (l .memory .page) s′ page′ → Goes (byPhase c t rs) s o l s′ o (lentPage l page′)
+    phase-idle e p = record { leads = λ w. at-phase c t rs _ _ _ e (p .leads (atAll w s o l)); sized = sized-next }
 
-    pub phase-reset : s .phase ≡ Reset → (q : List ℕ) → Queued resets s page (a .setups) s′ page′ q
-        → Goes (byPhase c t rs) s (memory dynamic sram page) a k s′ (memory dynamic sram page′) (areas q (a .midi) (a .serial) (a .device) (a .reply) (a .config) (a .receive) (a .received))
-    phase-reset e q p = record { leads = λ w. at-phase c t rs _ _ _ e (p .leads (atAll w s (memory dynamic sram page) a k)); sized = sized-page dynamic sram page page′ z same }
+    pub phase-vbus : s .phase ≡ Vbus → Paged (powers rs) s (l .memory .page) s′ page′ → Goes (byPhase c t rs) s o l s′ o (lentPage l page′)
+    phase-vbus e p = record { leads = λ w. at-phase c t rs _ _ _ e (p .leads (atAll w s o l)); sized = sized-next }
 
-  pub phase-talks : (m m′ : Memory) (s′ : State) (a′ : Areas) → OneOf (3 ∷ 4 ∷ []) (tagOf the-phase (s .phase)) → Goes (talks c t rs) s m a k s′ m′ a′ → Goes (byPhase c t rs) s m a k s′ m′ a′
-  phase-talks m m′ s′ a′ o p =
-      record { leads = λ w. at-phase c t rs (s .phase) _ _ refl (subst (λ (f : Step). Leads f (atAll w s m a k) (atAll w s′ m′ a′ k)) (sym (talks-phase c t rs (s .phase) o)) (p .leads w)); sized = p .sized }
+    pub phase-reset : s .phase ≡ Reset → (q : List ℕ) → Queued resets s (l .memory .page) (o .setups) s′ page′ q
+        → Goes (byPhase c t rs) s o l s′ (ownSetups o q) (lentPage l page′)
+    phase-reset e q p = record { leads = λ w. at-phase c t rs _ _ _ e (p .leads (atAll w s o l)); sized = sized-next }
+
+  pub phase-talks : (s′ : State) (o′ : Own) (l′ : Lent) → OneOf (3 ∷ 4 ∷ []) (tagOf the-phase (s .phase)) → Goes (talks c t rs) s o l s′ o′ l′ → Goes (byPhase c t rs) s o l s′ o′ l′
+  phase-talks s′ o′ l′ tag p =
+      record { leads = λ w. at-phase c t rs (s .phase) _ _ refl (subst (λ (f : Step). Leads f (atAll w s o l) (atAll w s′ o′ l′)) (sym (talks-phase c t rs (s .phase) tag)) (p .leads w)); sized = p .sized }
 
 -- ---- suspended, gone, and the whole
 
-module _ (c : Settings) (t : ℕ) (rs : Bool) (s : State) (a : Areas) (k : List ℕ) where
-  pub suspended-sleeps : (m : Memory) (asleep : Bool) → asleep ≡ true → Sized m → (s′ : State) → Alone sleeps s s′ → Goes (afterSuspend c t rs asleep) s m a k s′ m a
-  suspended-sleeps m asleep e z s′ p = rw e (record { leads = λ w. p .leads (atAll w s m a k); sized = z })
+module _ (c : Settings) (t : ℕ) (rs : Bool) (s : State) (o : Own) (l : Lent) where
+  pub suspended-sleeps : (asleep : Bool) → asleep ≡ true → Sized (l .memory) → (s′ : State) → Alone sleeps s s′ → Goes (afterSuspend c t rs asleep) s o l s′ o l
+  suspended-sleeps asleep e z s′ p = rw e (record { leads = λ w. p .leads (atAll w s o l); sized = z })
 
-  pub suspended-goes : (m m′ : Memory) (asleep : Bool) → asleep ≡ false → (s₁ s′ : State) (a′ : Areas) → Alone (leaves (c .«device_stack») rs) s s₁ → Goes (byPhase c t rs) s₁ m a k s′ m′ a′ → Goes (afterSuspend c t rs asleep) s m a k s′ m′ a′
-  suspended-goes m m′ asleep e s₁ s′ a′ p g =
-      rw e (record { leads = λ w. in-turn (p .leads (atAll w s m a k)) (g .leads w); sized = g .sized })
+  pub suspended-goes : (asleep : Bool) → asleep ≡ false → (s₁ s′ : State) (o′ : Own) (l′ : Lent) → Alone (leaves (c .«device_stack») rs) s s₁ → Goes (byPhase c t rs) s₁ o l s′ o′ l′ → Goes (afterSuspend c t rs asleep) s o l s′ o′ l′
+  suspended-goes asleep e s₁ s′ o′ l′ p g =
+      rw e (record { leads = λ w. in-turn (p .leads (atAll w s o l)) (g .leads w); sized = g .sized })
 
-  pub gone-sleeps : (m : Memory) (gone asleep : Bool) → gone ≡ true → Sized m → (s′ : State) → Alone sleeps s s′ → Goes (afterGone c t rs gone asleep) s m a k s′ m a
-  gone-sleeps m gone asleep e z s′ p = rw e (record { leads = λ w. p .leads (atAll w s m a k); sized = z })
+  pub gone-sleeps : (gone asleep : Bool) → gone ≡ true → Sized (l .memory) → (s′ : State) → Alone sleeps s s′ → Goes (afterGone c t rs gone asleep) s o l s′ o l
+  gone-sleeps gone asleep e z s′ p = rw e (record { leads = λ w. p .leads (atAll w s o l); sized = z })
 
-  pub gone-goes : (m m′ : Memory) (gone asleep within : Bool) → gone ≡ false → asleep ≡ within → (s₁ s′ : State) (page : List ℕ) (a′ : Areas) → Paged (suspends asleep) s (m .page) s₁ page → Goes (afterSuspend c t rs asleep) s₁ (memory (m .dynamic) (m .sram) page) a k s′ m′ a′ → Goes (afterGone c t rs gone within) s m a k s′ m′ a′
-  gone-goes m m′ gone asleep within e f s₁ s′ page a′ p g =
-      rw (e, ← f) (record { leads = λ w. in-turn (p .leads (atAll w s m a k)) (g .leads w); sized = g .sized })
+  pub gone-goes : (gone asleep within : Bool) → gone ≡ false → asleep ≡ within → (s₁ s′ : State) (page : List ℕ) (o′ : Own) (l′ : Lent) → Paged (suspends asleep) s (l .memory .page) s₁ page → Goes (afterSuspend c t rs asleep) s₁ o (lentPage l page) s′ o′ l′ → Goes (afterGone c t rs gone within) s o l s′ o′ l′
+  gone-goes gone asleep within e f s₁ s′ page o′ l′ p g =
+      rw (e, ← f) (record { leads = λ w. in-turn (p .leads (atAll w s o l)) (g .leads w); sized = g .sized })
 
 frame-parts : (c : Settings) (t : ℕ) (rs g b : Bool) (x y z : World) → Leads (opens c g) x y → Leads (afterGone c t rs g b) y z → Leads (frameOf c t rs g b) x z
 unfolding frameOf
@@ -135,16 +138,16 @@ frame-parts c t rs true b x y z p q = in-turn p q
 frame-parts c t rs false true x y z p q = in-turn p q
 frame-parts c t rs false false x y z p q = in-turn p q
 
-module _ (c : Settings) (t : ℕ) (s : State) (m : Memory) (a : Areas) (k : List ℕ) where
-  pub whole-frame : (rs g : Bool) → rs ≡ any (wordAt (m .page) USBCMD) 1 → g ≡ anySpan (c .gone) 0 (c .spans) t
-      → (s₁ s′ : State) (page : List ℕ) (m′ : Memory) (a′ : Areas) → Paged (opens c g) s (m .page) s₁ page
-      → Goes (afterGone c t rs g (within (c .suspend) t)) s₁ (memory (m .dynamic) (m .sram) page) a k s′ m′ a′
-      → Frame t c s m a k s′ m′ a′
+module _ (c : Settings) (t : ℕ) (s : State) (o : Own) (l : Lent) where
+  pub whole-frame : (rs g : Bool) → rs ≡ any (wordAt (l .memory .page) USBCMD) 1 → g ≡ anySpan (c .gone) 0 (c .spans) t
+      → (s₁ s′ : State) (page : List ℕ) (o′ : Own) (l′ : Lent) → Paged (opens c g) s (l .memory .page) s₁ page
+      → Goes (afterGone c t rs g (within (c .suspend) t)) s₁ o (lentPage l page) s′ o′ l′
+      → Frame t c s o l s′ o′ l′
   unfolding microframe
-  whole-frame rs g er eg s₁ s′ page m′ a′ p d =
+  whole-frame rs g er eg s₁ s′ page o′ l′ p d =
       record {
         leads = λ packer.
-            let w = world c packer s m a k in
+            let w = world c packer s o l in
             from-here _ w (rw (← er, ← eg) (frame-parts c t rs g (within (c .suspend) t) _ _ _ (p .leads w) (d .leads w)));
         sized = d .sized;
       }

@@ -4,7 +4,6 @@ use mathlib.Core.Bool.{Bool, true, false}
 use mathlib.Core.List.{List}
 use mathlib.Core.Path.{_≡_}
 use lib.ListN.{length}
-use Rattle.bus.specs.Memory.{Memory}
 use Rattle.bus.specs.Sized.{Sized}
 use Rattle.gptimers.specs.Timer.{inRange}
 use Rattle.midi.specs.declared.Packer.{Packer}
@@ -13,7 +12,7 @@ use Rattle.record.specs.declared.Phase.the-variants.{Reset}
 use Rattle.record.specs.declared.Control.{Control}
 use Rattle.record.specs.declared.Settings.{Settings}
 use Rattle.record.specs.declared.State.{State}
-use Rattle.record.specs.World.{World}
+use Rattle.record.specs.World.{Own, Lent, World, world}
 use Rattle.record.specs.Change.{Step, _then_}
 use Rattle.record.specs.Did.{Leads}
 use Rattle.model.specs.Phases.{sleeps, suspends, leaves}
@@ -56,41 +55,24 @@ afterGone c t rs false s = suspends s then afterSuspend c t rs s
 
 -- ---- a World with what a function takes in its place
 
--- all that is lent beside memory and the sending ring
-pub record Areas : Type 0 where
-  pub setups : List ℕ
-  pub midi : List ℕ
-  pub serial : List ℕ
-  pub device : List ℕ
-  pub reply : List ℕ
-  pub config : List ℕ
-  pub receive : List ℕ
-  pub received : List ℕ
-
-abbrev pub areas : List ℕ → List ℕ → List ℕ → List ℕ → List ℕ → List ℕ → List ℕ → List ℕ → Areas
-areas setups midi serial device reply config receive received = record { setups = setups; midi = midi; serial = serial; device = device; reply = reply; config = config; receive = receive; received = received }
-
 -- the areas are long enough
-pub record Long (a : Areas) : Type 0 where
-  pub reply : 65535 ≤ length (a .reply)
-  pub config : 65535 ≤ length (a .config)
-  pub receive : 196608 ≤ length (a .receive)
-  pub received : length (a .received) ≡ 576000
+pub record Long (reply config receive received : List ℕ) : Type 0 where
+  pub reply-long : 65535 ≤ length reply
+  pub config-long : 65535 ≤ length config
+  pub receive-long : 196608 ≤ length receive
+  pub received-whole : length received ≡ 576000
 
-abbrev pub world : Settings → Packer → State → Memory → Areas → List ℕ → World
-world c p s m a k = record { settings = c; packer = p; state = s; memory = m; setups = a .setups; midi = a .midi; serial = a .serial; device = a .device; reply = a .reply; config = a .config; receive = a .receive; received = a .received; sending = k }
-
-abbrev pub atAll : World → State → Memory → Areas → List ℕ → World
-atAll w s m a k = world (w .settings) (w .packer) s m a k
+abbrev pub atAll : World → State → Own → Lent → World
+atAll w s o l = world (w .settings) (w .packer) s o l
 
 -- ---- what a function does
 
 -- on everything
-pub record Goes (f : Step) (s : State) (m : Memory) (a : Areas) (k : List ℕ) (s′ : State) (m′ : Memory) (a′ : Areas) : Type 0 where
-  pub leads : (w : World) → Leads f (atAll w s m a k) (atAll w s′ m′ a′ k)
-  pub sized : Sized m′
+pub record Goes (f : Step) (s : State) (o : Own) (l : Lent) (s′ : State) (o′ : Own) (l′ : Lent) : Type 0 where
+  pub leads : (w : World) → Leads f (atAll w s o l) (atAll w s′ o′ l′)
+  pub sized : Sized (l′ .memory)
 
 -- a whole microframe at a time, by the settings
-pub record Frame (t : ℕ) (c : Settings) (s : State) (m : Memory) (a : Areas) (k : List ℕ) (s′ : State) (m′ : Memory) (a′ : Areas) : Type 0 where
-  pub leads : (p : Packer) → Leads (microframe t) (world c p s m a k) (world c p s′ m′ a′ k)
-  pub sized : Sized m′
+pub record Frame (t : ℕ) (c : Settings) (s : State) (o : Own) (l : Lent) (s′ : State) (o′ : Own) (l′ : Lent) : Type 0 where
+  pub leads : (p : Packer) → Leads (microframe t) (world c p s o l) (world c p s′ o′ l′)
+  pub sized : Sized (l′ .memory)

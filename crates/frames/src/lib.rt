@@ -4,6 +4,7 @@ ghost use Prim.Native.Nat.{_≤_};
 ghost use lib.ListN.{length};
 ghost use Rattle.bus.specs.Memory.{shown};
 ghost use Rattle.bus.specs.Sized.{Sized};
+ghost use Rattle.record.specs.World.{own, lent};
 ghost use Rattle.model.specs.Phases.{within, anySpan};
 ghost use Rattle.model.specs.Microframe as M;
 ghost use Rattle.frames.specs.Promises as P;
@@ -32,9 +33,9 @@ fn connected(
     running: bool,
 ) -> State
     requires { ⌜ Sized (shown dynamic sram page) ⌝ }
-    requires { ⌜ P.Long (P.areas (now setups) (now midi) (now serial) (now device) (now reply) (now config) (now receive) (now received)) ⌝ }
+    requires { ⌜ P.Long (now reply) (now config) (now receive) (now received) ⌝ }
     requires { ⌜ P.Going s (length (now sending)) ⌝ }
-    ensures { λ r. ⌜ P.Goes (M.talks c time running) s (shown (dynamic .entry) (sram .entry) (page .entry)) (P.areas (now (setups .entry)) (now (midi .entry)) (now (serial .entry)) (now (device .entry)) (now (reply .entry)) (now (config .entry)) (now (receive .entry)) (now (received .entry))) (now (sending .entry)) r (shown (dynamic .exit) (sram .exit) (page .exit)) (P.areas (now (setups .exit)) (now (midi .exit)) (now (serial .exit)) (now (device .exit)) (now (reply .exit)) (now (config .exit)) (now (receive .exit)) (now (received .exit))) ⌝ }
+    ensures { λ r. ⌜ P.Goes (M.talks c time running) s (own (now (setups .entry)) (now (midi .entry)) (now (serial .entry)) (now (device .entry))) (lent (shown (dynamic .entry) (sram .entry) (page .entry)) (now (reply .entry)) (now (config .entry)) (now (receive .entry)) (now (received .entry)) (now (sending .entry))) r (own (now (setups .exit)) (now (midi .exit)) (now (serial .exit)) (now (device .exit))) (lent (shown (dynamic .exit) (sram .exit) (page .exit)) (now (reply .exit)) (now (config .exit)) (now (receive .exit)) (now (received .exit)) (now (sending .entry))) ⌝ }
 {
     if !running {
         return s;
@@ -86,9 +87,9 @@ fn by_phase(
     running: bool,
 ) -> State
     requires { ⌜ Sized (shown dynamic sram page) ⌝ }
-    requires { ⌜ P.Long (P.areas (now setups) (now midi) (now serial) (now device) (now reply) (now config) (now receive) (now received)) ⌝ }
+    requires { ⌜ P.Long (now reply) (now config) (now receive) (now received) ⌝ }
     requires { ⌜ P.Going s (length (now sending)) ⌝ }
-    ensures { λ r. ⌜ P.Goes (M.byPhase c time running) s (shown (dynamic .entry) (sram .entry) (page .entry)) (P.areas (now (setups .entry)) (now (midi .entry)) (now (serial .entry)) (now (device .entry)) (now (reply .entry)) (now (config .entry)) (now (receive .entry)) (now (received .entry))) (now (sending .entry)) r (shown (dynamic .exit) (sram .exit) (page .exit)) (P.areas (now (setups .exit)) (now (midi .exit)) (now (serial .exit)) (now (device .exit)) (now (reply .exit)) (now (config .exit)) (now (receive .exit)) (now (received .exit))) ⌝ }
+    ensures { λ r. ⌜ P.Goes (M.byPhase c time running) s (own (now (setups .entry)) (now (midi .entry)) (now (serial .entry)) (now (device .entry))) (lent (shown (dynamic .entry) (sram .entry) (page .entry)) (now (reply .entry)) (now (config .entry)) (now (receive .entry)) (now (received .entry)) (now (sending .entry))) r (own (now (setups .exit)) (now (midi .exit)) (now (serial .exit)) (now (device .exit))) (lent (shown (dynamic .exit) (sram .exit) (page .exit)) (now (reply .exit)) (now (config .exit)) (now (receive .exit)) (now (received .exit)) (now (sending .entry))) ⌝ }
 {
     let phase = s.phase;
     match phase {
@@ -137,9 +138,9 @@ fn after_suspend(
     asleep: bool,
 ) -> State
     requires { ⌜ Sized (shown dynamic sram page) ⌝ }
-    requires { ⌜ P.Long (P.areas (now setups) (now midi) (now serial) (now device) (now reply) (now config) (now receive) (now received)) ⌝ }
+    requires { ⌜ P.Long (now reply) (now config) (now receive) (now received) ⌝ }
     requires { ⌜ P.Going s (length (now sending)) ⌝ }
-    ensures { λ r. ⌜ P.Goes (P.afterSuspend c time running asleep) s (shown (dynamic .entry) (sram .entry) (page .entry)) (P.areas (now (setups .entry)) (now (midi .entry)) (now (serial .entry)) (now (device .entry)) (now (reply .entry)) (now (config .entry)) (now (receive .entry)) (now (received .entry))) (now (sending .entry)) r (shown (dynamic .exit) (sram .exit) (page .exit)) (P.areas (now (setups .exit)) (now (midi .exit)) (now (serial .exit)) (now (device .exit)) (now (reply .exit)) (now (config .exit)) (now (receive .exit)) (now (received .exit))) ⌝ }
+    ensures { λ r. ⌜ P.Goes (P.afterSuspend c time running asleep) s (own (now (setups .entry)) (now (midi .entry)) (now (serial .entry)) (now (device .entry))) (lent (shown (dynamic .entry) (sram .entry) (page .entry)) (now (reply .entry)) (now (config .entry)) (now (receive .entry)) (now (received .entry)) (now (sending .entry))) r (own (now (setups .exit)) (now (midi .exit)) (now (serial .exit)) (now (device .exit))) (lent (shown (dynamic .exit) (sram .exit) (page .exit)) (now (reply .exit)) (now (config .exit)) (now (receive .exit)) (now (received .exit)) (now (sending .entry))) ⌝ }
 {
     if asleep {
         return phases::asleep(s);
@@ -186,9 +187,9 @@ fn after_gone(
     gone: bool,
 ) -> State
     requires { ⌜ Sized (shown dynamic sram page) ⌝ }
-    requires { ⌜ P.Long (P.areas (now setups) (now midi) (now serial) (now device) (now reply) (now config) (now receive) (now received)) ⌝ }
+    requires { ⌜ P.Long (now reply) (now config) (now receive) (now received) ⌝ }
     requires { ⌜ P.Going s (length (now sending)) ⌝ }
-    ensures { λ r. ⌜ P.Goes (P.afterGone c time running gone (within (c .suspend) time)) s (shown (dynamic .entry) (sram .entry) (page .entry)) (P.areas (now (setups .entry)) (now (midi .entry)) (now (serial .entry)) (now (device .entry)) (now (reply .entry)) (now (config .entry)) (now (receive .entry)) (now (received .entry))) (now (sending .entry)) r (shown (dynamic .exit) (sram .exit) (page .exit)) (P.areas (now (setups .exit)) (now (midi .exit)) (now (serial .exit)) (now (device .exit)) (now (reply .exit)) (now (config .exit)) (now (receive .exit)) (now (received .exit))) ⌝ }
+    ensures { λ r. ⌜ P.Goes (P.afterGone c time running gone (within (c .suspend) time)) s (own (now (setups .entry)) (now (midi .entry)) (now (serial .entry)) (now (device .entry))) (lent (shown (dynamic .entry) (sram .entry) (page .entry)) (now (reply .entry)) (now (config .entry)) (now (receive .entry)) (now (received .entry)) (now (sending .entry))) r (own (now (setups .exit)) (now (midi .exit)) (now (serial .exit)) (now (device .exit))) (lent (shown (dynamic .exit) (sram .exit) (page .exit)) (now (reply .exit)) (now (config .exit)) (now (receive .exit)) (now (received .exit)) (now (sending .entry))) ⌝ }
 {
     if gone {
         return phases::asleep(s);
@@ -248,9 +249,9 @@ pub fn microframe(
     time: u64,
 ) -> State
     requires { ⌜ Sized (shown dynamic sram page) ⌝ }
-    requires { ⌜ P.Long (P.areas (now setups) (now midi) (now serial) (now device) (now reply) (now config) (now receive) (now received)) ⌝ }
+    requires { ⌜ P.Long (now reply) (now config) (now receive) (now received) ⌝ }
     requires { ⌜ P.Fit s (length (now sending)) × (c .spans ≤ 16) ⌝ }
-    ensures { λ r. ⌜ P.Frame time c s (shown (dynamic .entry) (sram .entry) (page .entry)) (P.areas (now (setups .entry)) (now (midi .entry)) (now (serial .entry)) (now (device .entry)) (now (reply .entry)) (now (config .entry)) (now (receive .entry)) (now (received .entry))) (now (sending .entry)) r (shown (dynamic .exit) (sram .exit) (page .exit)) (P.areas (now (setups .exit)) (now (midi .exit)) (now (serial .exit)) (now (device .exit)) (now (reply .exit)) (now (config .exit)) (now (receive .exit)) (now (received .exit))) ⌝ }
+    ensures { λ r. ⌜ P.Frame time c s (own (now (setups .entry)) (now (midi .entry)) (now (serial .entry)) (now (device .entry))) (lent (shown (dynamic .entry) (sram .entry) (page .entry)) (now (reply .entry)) (now (config .entry)) (now (receive .entry)) (now (received .entry)) (now (sending .entry))) r (own (now (setups .exit)) (now (midi .exit)) (now (serial .exit)) (now (device .exit))) (lent (shown (dynamic .exit) (sram .exit) (page .exit)) (now (reply .exit)) (now (config .exit)) (now (receive .exit)) (now (received .exit)) (now (sending .entry))) ⌝ }
 {
     let running = bits::any(bus::word_at(&*page, USBCMD), 1);
     let gone = in_gone(c, time);

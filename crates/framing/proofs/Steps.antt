@@ -17,15 +17,17 @@ use types.Run.{OneOf}
 use Rattle.record.specs.declared.Lengths.{Lengths}
 use Rattle.record.specs.declared.Settings.{Settings}
 use Rattle.record.specs.declared.State.{State}
+use Rattle.record.specs.Record.{withStats, counted, «midi_asleep»}
 use Rattle.record.specs.World.{World, withState, atPage, atBus}
 use Rattle.record.specs.Change.{left, apply, one, when}
 use Rattle.record.specs.Did.{Alone, Paged, Did}
 use Rattle.record.proofs.Laws.{in-turn, by-true, by-false, unchanged}
-use Rattle.model.specs.Phases.{within, counts, ticks, cable}
+use Rattle.record.proofs.Counters.{counts-one}
+use Rattle.model.specs.Phases.{within, counts, sleeps, ticks, cable}
 use Rattle.model.specs.Streams.{midiIn, serialStep, midiOut, readsVendor}
 use Rattle.model.specs.Audio.{streams}
 use Rattle.model.specs.Microframe.{streaming, others, transfers, opens}
-use Rattle.streams.specs.Promises.{Fewer, Receives, Writes, ServesBoth}
+use Rattle.streams.specs.Promises.{atReceive, Fewer, Receives, Writes, ServesBoth}
 use Rattle.audio.specs.Promises.{CanSend, atStream, Streams}
 use Rattle.framing.specs.Promises.{Rings, atFlow, Stacks, Bridges, Transfers}
 use Rattle.model.specs.Microframe.{midiSteps, stackSteps, bridgeSteps}
@@ -38,16 +40,8 @@ some c s k =
       settings = c;
       packer = record { status = 0; first = 0; second = 0; held = 0; sysex = false };
       state = s;
-      memory = memory [] [] [];
-      setups = [];
-      midi = [];
-      serial = [];
-      device = [];
-      reply = [];
-      config = [];
-      receive = [];
-      received = [];
-      sending = k;
+      own = record { setups = []; midi = []; serial = []; device = [] };
+      lent = record { memory = memory [] [] []; reply = []; config = []; receive = []; received = []; sending = k };
     }
 
 pub can-of : (s : State) (k : List ℕ) → Rings (s .audio) (length k) → CanSend s k
@@ -65,12 +59,13 @@ module _ (c : Settings) (t : ℕ) (s : State) (m : Memory) (out : List ℕ) wher
   pub midi-off : c .«midi_in» ≡ false → Sized m → Receives (midiSteps c t) s m out s m out
   midi-off e z = record { leads = λ w. by-false _ _ _ e (unchanged _); sized = z; few = fewer-same (s .lengths) }
 
-  pub midi-sleeps : c .«midi_in» ≡ true → within (c .sleep) t ≡ true → (r : State) → ((every : ℕ) → Alone (midiIn true every) s r) → r .lengths ≡ s .lengths → Sized m → Receives (midiSteps c t) s m out r m out
-  midi-sleeps e n r p l z =
+  pub midi-sleeps : c .«midi_in» ≡ true → within (c .sleep) t ≡ true → (r : State) → r ≡ withStats s (counted «midi_asleep» 1 (s .stats)) → Sized m → Receives (midiSteps c t) s m out r m out
+  unfolding midiIn sleeps
+  midi-sleeps e n r is z =
       record {
-        leads = λ w. by-true _ _ _ e (rw n (p (c .«midi_every») .leads (atBus (record { settings = w .settings; packer = w .packer; state = w .state; memory = w .memory; setups = w .setups; midi = w .midi; serial = w .serial; device = w .device; reply = w .reply; config = w .config; receive = out; received = w .received; sending = w .sending }) s m)));
+        leads = λ w. by-true _ _ _ e (rw n (counts-one «midi_asleep» 1 (atReceive w s m out) is));
         sized = z;
-        few = fewer-as (s .lengths) (r .lengths) l;
+        few = fewer-as (s .lengths) (r .lengths) (ap (λ (x : State). x .lengths) is);
       }
 
   pub midi-wakes : c .«midi_in» ≡ true → within (c .sleep) t ≡ false → (r : State) (m′ : Memory) (out′ : List ℕ) → Receives (midiIn false (c .«midi_every»)) s m out r m′ out′ → Receives (midiSteps c t) s m out r m′ out′
@@ -85,7 +80,7 @@ module _ (stack : Bool) (s : State) (m : Memory) (q : List ℕ) where
   pub stack-goes : stack ≡ true → (s₁ s₂ : State) (m₁ m₂ : Memory) (q₁ : List ℕ) → Writes midiOut s m q s₁ m₁ q₁ → Did readsVendor s₁ m₁ s₂ m₂ → Stacks (stackSteps stack) s m q s₂ m₂ q₁
   stack-goes e s₁ s₂ m₁ m₂ q₁ p d =
       record {
-        leads = λ w. by-true _ _ _ e (in-turn (p .leads w) (d .leads (atFlow w s₁ m₁ q₁ (w .serial) (w .receive) (w .received) (w .sending))));
+        leads = λ w. by-true _ _ _ e (in-turn (p .leads w) (d .leads (atFlow w s₁ m₁ q₁ (w .own .serial) (w .lent .receive) (w .lent .received) (w .lent .sending))));
         sized = d .sized;
       }
 
@@ -109,8 +104,8 @@ unfolding others
 bridge-goes c t s s₁ s₂ s₃ m m₁ m₂ m₃ q q₃ out out₂ l l₁ k p r d =
     record {
       leads = λ w.
-          in-turn (p .leads (atFlow w s m q (w .serial) out l k))
-          (in-turn (r .leads (atFlow w s₁ m₁ q (w .serial) out l₁ k)) (d .leads (atFlow w s₂ m₂ q (w .serial) out₂ l₁ k)));
+          in-turn (p .leads (atFlow w s m q (w .own .serial) out l k))
+          (in-turn (r .leads (atFlow w s₁ m₁ q (w .own .serial) out l₁ k)) (d .leads (atFlow w s₂ m₂ q (w .own .serial) out₂ l₁ k)));
       sized = d .sized;
     }
 

@@ -6,7 +6,7 @@ use Rattle.bus.specs.Memory.{Memory}
 use Rattle.bus.specs.Sized.{Sized}
 use Rattle.record.specs.declared.Audio.{Audio}
 use Rattle.record.specs.declared.State.{State}
-use Rattle.record.specs.World.{World}
+use Rattle.record.specs.World.{World, withMidiQueue, withSerialQueue, withReceiveArea, withReceivedRing, withSendingRing, atBus}
 use Rattle.record.specs.Change.{Step}
 use Rattle.record.specs.Did.{Leads}
 use Rattle.blocks.specs.Promises.{InRing}
@@ -34,18 +34,18 @@ pub record Flows (s : State) (words : ℕ) : Type 0 where
 
 -- with the parts of the streams: MIDI and serial queue, receive area, both rings
 abbrev pub atFlow : World → State → Memory → List ℕ → List ℕ → List ℕ → List ℕ → List ℕ → World
-atFlow w s m midi serial receive received k = record { settings = w .settings; packer = w .packer; state = s; memory = m; setups = w .setups; midi = midi; serial = serial; device = w .device; reply = w .reply; config = w .config; receive = receive; received = received; sending = k }
+atFlow w s m midi serial receive received k = withSendingRing (withReceivedRing (withReceiveArea (withSerialQueue (withMidiQueue (atBus w s m) midi) serial) receive) received) k
 
 -- ---- what a function does
 
 -- on state, memory and MIDI queue
 pub record Stacks (f : Step) (s : State) (m : Memory) (midi : List ℕ) (s′ : State) (m′ : Memory) (midi′ : List ℕ) : Type 0 where
-  pub leads : (w : World) → Leads f (atFlow w s m midi (w .serial) (w .receive) (w .received) (w .sending)) (atFlow w s′ m′ midi′ (w .serial) (w .receive) (w .received) (w .sending))
+  pub leads : (w : World) → Leads f (atFlow w s m midi (w .own .serial) (w .lent .receive) (w .lent .received) (w .lent .sending)) (atFlow w s′ m′ midi′ (w .own .serial) (w .lent .receive) (w .lent .received) (w .lent .sending))
   pub sized : Sized m′
 
 -- on state, memory, MIDI queue, receive area and rings
 pub record Bridges (f : Step) (s : State) (m : Memory) (midi receive received k : List ℕ) (s′ : State) (m′ : Memory) (midi′ receive′ received′ : List ℕ) : Type 0 where
-  pub leads : (w : World) → Leads f (atFlow w s m midi (w .serial) receive received k) (atFlow w s′ m′ midi′ (w .serial) receive′ received′ k)
+  pub leads : (w : World) → Leads f (atFlow w s m midi (w .own .serial) receive received k) (atFlow w s′ m′ midi′ (w .own .serial) receive′ received′ k)
   pub sized : Sized m′
 
 -- on these and the serial queue

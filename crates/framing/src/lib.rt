@@ -35,7 +35,7 @@ fn midi_in(
     }
     let sleep = c.sleep;
     if phases::in_span(sleep.from, sleep.to, time) {
-        return midiin::midi_asleep(s);
+        return record::count(s, record::MIDI_ASLEEP, 1);
     }
     midiin::midi_step(s, c.midi_every, dynamic, sram, page, receive)
 }

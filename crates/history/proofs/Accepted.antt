@@ -10,14 +10,17 @@ use Rattle.bounds.specs.Bounds.{MOST, times, askedOk, heldOk, countsOk, counter
 use Rattle.usbhost.specs.declared.Host.{Host}
 use Rattle.usbhost.specs.Host.{stateOf}
 use Rattle.usbhost.specs.Calls.{bounded}
-use Rattle.usbhost.specs.Frame.{Lent, boundsOk, frameNumber}
+use Rattle.usbhost.specs.Frame.{boundsOk, frameNumber}
+use Rattle.record.specs.World.{Lent}
 use Rattle.usbhost.proofs.Frame.{accepted-tests}
+use Rattle.record.specs.Record.{counterOf, microframes, «in_frames», «out_frames»}
+use Rattle.bounds.proofs.Laws.{counter-below}
 
 pub record Small (h : Host) : Type 0 where
   pub credit : h .audio .credit ≤ 623 * MOST
   pub sevens : h .audio .credit % 7 ≡ 0
-  pub received : h .stats .«in_frames» ≤ 32767 * MOST
-  pub sent : h .stats .«out_frames» ≤ 32767 * MOST
+  pub received : counterOf «in_frames» (h .stats) ≤ 32767 * MOST
+  pub sent : counterOf «out_frames» (h .stats) ≤ 32767 * MOST
 
 pub bound-le : (k n : ℕ) → k * min n MOST ≤ k * MOST
 bound-le k n = mul-le k (min n MOST) MOST (omega arith)
@@ -27,7 +30,7 @@ bound-le k n = mul-le k (min n MOST) MOST (omega arith)
     mul-le (suc k) a b h = omega (arith, mul-le k a b h)
 
 pub small-bounded : (h : Host) → bounded h ≡ true → Small h
-unfolding inBounds countersOk creditOk
+unfolding inBounds creditOk
 small-bounded h e =
     let s = stateOf h in
     let e₁ = and-second (askedOk s (h .setups)) _ e in
@@ -36,16 +39,12 @@ small-bounded h e =
     let c₁ = and-second (countsOk s) _ counted in
     let counters = and-first (countersOk (h .stats)) _ c₁ in
     let c₂ = and-second (countersOk (h .stats)) _ c₁ in
-    let credit = and-first (creditOk (h .audio .credit) (h .stats .microframes)) _ c₂ in
-    let audio = and-first _ _ counters in
-    let a₁ = and-second (leb (h .stats .«in_transfers») (times 32767 (h .stats .microframes))) _ audio in
-    let a₂ = and-second (leb (h .stats .«out_transfers») (times 32767 (h .stats .microframes))) _ a₁ in
-    let a₃ = and-second (leb (h .stats .«in_frames») (times 32767 (h .stats .microframes))) _ a₂ in
+    let credit = and-first (creditOk (h .audio .credit) (counterOf microframes (h .stats))) _ c₂ in
     record {
-      credit = omega (arith, leb-true (h .audio .credit) _ (and-second (eqb (h .audio .credit % 7) 0) _ credit), bound-le 623 (h .stats .microframes));
+      credit = omega (arith, leb-true (h .audio .credit) _ (and-second (eqb (h .audio .credit % 7) 0) _ credit), bound-le 623 (counterOf microframes (h .stats)));
       sevens = eqb-true (h .audio .credit % 7) 0 (and-first _ _ credit);
-      received = omega (arith, leb-true (h .stats .«in_frames») _ (and-first _ _ a₂), bound-le 32767 (h .stats .microframes));
-      sent = omega (arith, leb-true (h .stats .«out_frames») _ (and-first _ _ a₃), bound-le 32767 (h .stats .microframes));
+      received = omega (arith, leb-true (counterOf «in_frames» (h .stats)) _ (counter-below (h .stats) counters 2 (omega arith)), bound-le 32767 (counterOf microframes (h .stats)));
+      sent = omega (arith, leb-true (counterOf «out_frames» (h .stats)) _ (counter-below (h .stats) counters 3 (omega arith)), bound-le 32767 (counterOf microframes (h .stats)));
     }
 
 pub accepted-small : (h : Host) (l : Lent) → frameNumber h l ≡ 0 → Small h

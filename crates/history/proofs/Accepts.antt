@@ -21,7 +21,8 @@ use Rattle.config.specs.Config.{Bytes}
 use Rattle.record.specs.declared.Settings.{Settings}
 use Rattle.record.specs.Change.{FRAMES, WORDS, left}
 use Rattle.model.specs.Microframe as M
-use Rattle.bounds.specs.Bounds.{MOST, inBounds, setupsOk, allMade, noneAsks, enumeratingOk, requestOk, queuesOk, packerOk, countsOk, countersOk, creditOk, timersOk, timerOk, audioOk, ringOk, areasOk, receivedOk, sendingOk}
+use Rattle.record.specs.Record.{counterAt}
+use Rattle.bounds.specs.Bounds.{noneAbove, MOST, inBounds, setupsOk, allMade, noneAsks, enumeratingOk, requestOk, queuesOk, packerOk, countsOk, countersOk, creditOk, timersOk, timerOk, audioOk, ringOk, areasOk, receivedOk, sendingOk}
 use Rattle.kept.proofs.Shape.{Shape, shape-kept}
 use Rattle.kept.proofs.Rings.{sending-kept}
 use Rattle.kept.proofs.Setups.{Entry}
@@ -33,7 +34,8 @@ use Rattle.usbhost.specs.declared.Taken.{Taken}
 use Rattle.usbhost.specs.Host.{stateOf, settled, noSettings, newHost, created}
 use Rattle.usbhost.specs.Calls as C
 use Rattle.usbhost.specs.Calls.{unless, fewSpans, bounded, sendingLength, midiNumber, midiQueued, midiSent, serialNumber, serialQueued, serialSent, giveNumber, frameGiven, given, takeNumber, holdsFrame, frameTaken, takenFrame, accessNumber, registersOf, withFlag, deviceWritten}
-use Rattle.usbhost.specs.Frame.{Lent, worldOf, hostIn, lengthsOk, areaLengths, boundsOk, frameNumber, framed, frameAnswer}
+use Rattle.usbhost.specs.Frame.{worldOf, hostIn, lengthsOk, areaLengths, boundsOk, frameNumber, framed, frameAnswer}
+use Rattle.record.specs.World.{Lent}
 use Rattle.usbhost.proofs.Laws.{same-bounds}
 use Rattle.usbhost.proofs.Frame.{Accepted, accepted-tests, frame-refused}
 use Rattle.usbhost.proofs.Kept.{Kept, midi-kept, serial-kept, give-kept, take-kept, write-kept, midi-refused, serial-refused, give-refused, take-refused, write-refused, new-bounded, new-received, new-sending, new-few}
@@ -184,7 +186,7 @@ module _ (h : Host) (l : Lent) (s : Sound h) (b : BytesLent l) (a : Accepted h l
         sound =
             record {
               few = ap (λ (x : Shape). leb (x .settings .spans) 16) shape ∙ s .few;
-              bounds = same-bounds (v .state) (v .settings) (v .packer) (v .setups) (v .midi) (v .serial) (v .device) ∙ next .record-bounds;
+              bounds = same-bounds (v .state) (v .settings) (v .packer) (v .own) ∙ next .record-bounds;
               received = next .received;
               setups-length = z .arrays .setups ∙ s .setups-length;
               setups-bytes = z .setups-bytes;
@@ -399,7 +401,7 @@ accepts c k cs ring b r n =
 
 -- one length of the ring is asked for with reason: with eight frames in a ring of eight, one of seven frames is refused with 5
 pub other-ring : numberOf (after (newHost noSettings) (replicate 8 (frameGive (replicate 12 0) (replicate 96 0)))) (frameGive (replicate 12 0) (replicate 84 0)) ≡ 5
-unfolding numberOf after step given giveNumber frameGiven sendingLength newHost inBounds setupsOk allMade noneAsks enumeratingOk requestOk queuesOk packerOk countsOk countersOk creditOk timersOk timerOk audioOk ringOk
+unfolding numberOf after step given giveNumber frameGiven sendingLength newHost inBounds setupsOk allMade noneAsks enumeratingOk requestOk queuesOk packerOk countsOk countersOk noneAbove counterAt creditOk timersOk timerOk audioOk ringOk
 other-ring = refl
 
 -- ---- such areas can be had: zeros, of any right lengths

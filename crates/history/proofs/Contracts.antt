@@ -28,7 +28,8 @@ use Rattle.usbhost.specs.declared.Read.{Read}
 use Rattle.usbhost.specs.Host.{created}
 use Rattle.usbhost.specs.Calls as C
 use Rattle.usbhost.specs.Calls.{midiSent, serialSent, given, takenFrame, deviceWritten}
-use Rattle.usbhost.specs.Frame.{Lent, lent, lentIn, framed, frameAnswer}
+use Rattle.usbhost.specs.Frame.{framed, frameAnswer}
+use Rattle.record.specs.World.{Lent, lent}
 use Rattle.usbhost.proofs.Host.microframe.Kinds as Microframe
 use Rattle.usbhost.proofs.Host.microframe.Reads as Microframe·contract
 use Rattle.usbhost.proofs.Host.microframe.Statement as Microframe·code
@@ -128,7 +129,7 @@ thinLent κs a =
 abbrev pub ThinPost : (κs : Lfts 9) → Args Thin·spec.signature κs → Res Thin·spec.signature κs → AtExit Thin·spec.ended κs → Type 0
 ThinPost κs a r s =
     (answered r (s .0 .now) ≡ frameAnswer (a .1 .0) (a .0 .now) (thinLent κs a))
-    × (lent (memory (s .1 .1 .0 .now) (s .1 .1 .1 .0 .now) (s .1 .1 .1 .1 .0 .now)) (s .1 .1 .1 .1 .1 .0 .now) (s .1 .1 .1 .1 .1 .1 .0 .now) (s .1 .1 .1 .1 .1 .1 .1 .0 .now) (s .1 .1 .1 .1 .1 .1 .1 .1 .0 .now) (a .1 .1 .1 .1 .1 .1 .1 .1 .1 .0 .now) ≡ lentIn (framed (a .1 .0) (a .0 .now) (thinLent κs a)))
+    × (lent (memory (s .1 .1 .0 .now) (s .1 .1 .1 .0 .now) (s .1 .1 .1 .1 .0 .now)) (s .1 .1 .1 .1 .1 .0 .now) (s .1 .1 .1 .1 .1 .1 .0 .now) (s .1 .1 .1 .1 .1 .1 .1 .0 .now) (s .1 .1 .1 .1 .1 .1 .1 .1 .0 .now) (a .1 .1 .1 .1 .1 .1 .1 .1 .1 .0 .now) ≡ framed (a .1 .0) (a .0 .now) (thinLent κs a) .lent)
 
 pub thin-ensures : {M : Type 1} (𝓤 : URA M) (H : Heap 𝓤) (A : Atoms 𝓤) (mem : Memory → SProp 𝓤) (run : Routine → Fun 𝓤) (κs : Lfts 9) (a : Args Thin·spec.signature κs) (r : Res Thin·spec.signature κs) (s : AtExit Thin·spec.ended κs)
     → Thin·spec.clauses 𝓤 H A mem run κs a .ensures tt r s ≡ fact 𝓤 (ThinPost κs a r s)

@@ -9,7 +9,7 @@ use lib.ListN.{length}
 use borrow.Author.Tests.{leb-true, eqb-true}
 use Rattle.bits.specs.Pick.{pick, pick-both}
 use Rattle.record.specs.declared.Settings.{Settings}
-use Rattle.record.specs.World.{World}
+use Rattle.record.specs.World.{Lent, World}
 use Rattle.record.specs.Change.{left}
 use Rattle.model.specs.Microframe as M
 use Rattle.model.specs.Microframe.{rsSet, goneAt, asleepAt}
@@ -22,7 +22,7 @@ use Rattle.usbhost.specs.declared.Created.{Created}
 use Rattle.usbhost.specs.Host.{newHost, settled, noSettings, created}
 use Rattle.usbhost.specs.Calls as C
 use Rattle.usbhost.specs.Calls.{midiNumber, midiQueued, midiSent, serialNumber, serialQueued, serialSent, giveNumber, frameGiven, given, holdsFrame, frameTaken, takenFrame, accessNumber, withFlag, deviceWritten}
-use Rattle.usbhost.specs.Frame.{Lent, worldOf, hostIn, frameNumber, framed}
+use Rattle.usbhost.specs.Frame.{worldOf, hostIn, frameNumber, framed}
 use Rattle.history.specs.Calls.{Call, microframe, midiSend, serialSend, frameGive, frameTake, deviceRead, deviceWrite, step, after}
 use Rattle.history.specs.Sums as S
 use Rattle.history.specs.Sums.{Sums, none, receive, send, inputReached, outputReached, reset, heard, answered, summed, sums, Balanced}

@@ -13,7 +13,8 @@ use Rattle.bus.proofs.Sizes.{is-sized, sized-is}
 use Rattle.usbdev.specs.Access.{fits}
 use Rattle.record.specs.Change.{FRAMES, WORDS}
 use Rattle.usbhost.specs.Calls.{unless, sendingLength}
-use Rattle.usbhost.specs.Frame.{Lent, lengthsOk, areaLengths}
+use Rattle.usbhost.specs.Frame.{lengthsOk, areaLengths}
+use Rattle.record.specs.World.{Lent}
 use Rattle.usbhost.proofs.Laws.{met}
 use Rattle.history.specs.Calls.{Call, microframe, midiSend, serialSend, frameGive, frameTake, deviceRead, deviceWrite}
 use Rattle.history.specs.Accepts.{inputNumber, RightRing, RightAreas, RightAccess, RightInput}

@@ -11,8 +11,8 @@ use borrow.Author.Tests.{leb-true, ltb-true, eqb-true}
 use Rattle.bits.specs.Pick.{pick, pick-map}
 use Rattle.bits.proofs.Tests.{and-first, and-second, and-rest, and-false, false-true}
 use Rattle.bus.specs.Steps.{replay}
-use Rattle.record.specs.Record.{wrapped}
-use Rattle.record.specs.World.{World}
+use Rattle.record.specs.Record.{wrapped, counterOf, «out_frames»}
+use Rattle.record.specs.World.{Lent, World}
 use Rattle.record.specs.Change.{Change, apply, Step, takenFrom}
 use Rattle.bounds.specs.Bounds.{ringOk, areasOk, receivedOk}
 use Rattle.model.specs.Audio.{inputs, streamOut}
@@ -31,7 +31,7 @@ use Rattle.usbhost.specs.declared.Host.{Host}
 use Rattle.usbhost.specs.declared.Framed.{Framed}
 use Rattle.usbhost.specs.Host.{stateOf}
 use Rattle.usbhost.specs.Calls.{bounded}
-use Rattle.usbhost.specs.Frame.{Lent, worldOf, hostIn, lengthsOk, boundsOk, frameNumber, framed, frameAnswer}
+use Rattle.usbhost.specs.Frame.{worldOf, hostIn, lengthsOk, boundsOk, frameNumber, framed, frameAnswer}
 use Rattle.usbhost.proofs.Frame.{accepted-tests, frame-refused}
 use Rattle.usbhost.proofs.Descriptors.{frame-retired, frame-few, frame-dropped}
 use Rattle.history.specs.Calls.{microframe, step}
@@ -123,8 +123,8 @@ pub record CallBlock (t : ℕ) (h : Host) (l : Lent) : Type 0 where
       ≡ pick (callSends t h l)
       (record { start = (h .audio .sending .start + min 7 (h .audio .sending .len)) % (length (l .sending) / 12); len = h .audio .sending .len - 7 })
       (h .audio .sending)
-  pub words : framed t h l .sending ≡ l .sending
-  pub sent : step h (microframe t l) .stats .«out_frames» ≡ h .stats .«out_frames» + pick (callSends t h l) 7 0
+  pub words : framed t h l .lent .sending ≡ l .sending
+  pub sent : counterOf «out_frames» (step h (microframe t l) .stats) ≡ counterOf «out_frames» (h .stats) + pick (callSends t h l) 7 0
   pub retired : audioOutRetired (changesOf t h l) ≡ pick (callSends t h l) 1 0
   -- where the output step is reached its changes stand in the call's list, whole: those of one block, or at most the store that un-primes
   pub placed : reachesOutput t h l ≡ true → Placed (λ w. changesOf t h l) (worldOf h l) streamOut (atOutput (worldOf h l))
@@ -155,7 +155,7 @@ module _ (t : ℕ) (h : Host) (l : Lent) where
       by false = refl
 
   -- an accepted record's counter of frames does not wrap
-  sent-plain : callSends t h l ≡ true → wrapped (h .stats .«out_frames» + 7) ≡ h .stats .«out_frames» + 7
+  sent-plain : callSends t h l ≡ true → wrapped (counterOf «out_frames» (h .stats) + 7) ≡ counterOf «out_frames» (h .stats) + 7
   sent-plain e =
       let s = accepted-small h l (eqb-true (frameNumber h l) 0 (sends-accepted e)) in
       omega (arith, s .sent)
@@ -185,7 +185,7 @@ module _ (t : ℕ) (h : Host) (l : Lent) where
         sent =
             ap (λ (x : Out). x .sent) out-call
             ∙ pick-map (λ (x : Out). x .sent) (callSends t h l) (sentOut o) o
-            ∙ by-test (λ b. pick b (wrapped (h .stats .«out_frames» + 7)) (h .stats .«out_frames») ≡ h .stats .«out_frames» + pick b 7 0)
+            ∙ by-test (λ b. pick b (wrapped (counterOf «out_frames» (h .stats) + 7)) (counterOf «out_frames» (h .stats)) ≡ counterOf «out_frames» (h .stats) + pick b 7 0)
             (callSends t h l) sent-plain (λ no. omega arith);
         retired = out-retired;
         placed = λ e. placed-call t h l streamOut (atOutput w) (and-first _ _ e) (placed-output t w (and-second (accepted h l) _ e));
@@ -202,7 +202,7 @@ module _ (t : ℕ) (h : Host) (l : Lent) where
 -- received ring, which are the last 48,000 with those of the run's good blocks (870-896), and the endpoint's descriptors retired (870)
 pub record CallInput (t : ℕ) (h : Host) (l : Lent) : Type 0 where
   pub frames :
-      toTake (step h (microframe t l)) (framed t h l .received)
+      toTake (step h (microframe t l)) (framed t h l .lent .received)
       ≡ pick (callReads t h l) (lastOf 48000 (toTake h (l .received) ++ framesRead (inBytes (atInput (worldOf h l))))) (toTake h (l .received))
   pub retired : audioInRetired (changesOf t h l) ≡ pick (callReads t h l) 1 0
   -- where the input step is reached its changes stand in the call's list, whole

@@ -30,8 +30,8 @@ use borrow.Rule.Slice.Element.{OwnS}
 use borrow.Rule.Slice.Know.{AllWT, fit-at, sl-known}
 use Rattle.bus.specs.Memory.{memory}
 use Rattle.config.specs.Config.{Bytes}
-use Rattle.usbhost.specs.Frame.{lent}
 use Rattle.history.specs.Accepts.{BytesLent}
+use Rattle.record.specs.World.{lent}
 
 -- ---- the token of one lifetime of several
 

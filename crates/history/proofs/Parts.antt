@@ -27,7 +27,8 @@ use Rattle.usbhost.specs.declared.Read.{Read}
 use Rattle.usbhost.specs.Host.{hostOf}
 use Rattle.usbhost.specs.Calls as C
 use Rattle.usbhost.specs.Calls.{midiSent, serialSent, given, takenFrame, deviceWritten}
-use Rattle.usbhost.specs.Frame.{Lent, lent, hostIn}
+use Rattle.usbhost.specs.Frame.{hostIn}
+use Rattle.record.specs.World.{Own, Lent, own, lent, ownSetups, ownMidi, ownSerial}
 use Rattle.usbhost.specs.Promises.{withSpans}
 use Rattle.usbhost.proofs.run_microframe.Kinds as RunMicroframe
 use Rattle.usbhost.proofs.run_microframe.Reads as RunMicroframe·contract
@@ -72,7 +73,7 @@ partsLent κs a =
 
 pub run-microframe-follows : (κs : Lfts 12) (a : Dens κs RunMicroframe.ps) (r : resT RunMicroframe.r κs .Denot) (s : AtExit (endedOf 12 RunMicroframe.ps RunMicroframe.r) κs)
     → RunMicroframe·contract.Post κs a r s
-    → Follows (hostOf (a .0) (a .1 .0) (a .1 .1 .0) (a .1 .1 .1 .0 .now) (a .1 .1 .1 .1 .0 .now) (a .1 .1 .1 .1 .1 .0 .now) (a .1 .1 .1 .1 .1 .1 .0 .now)) (microframe (a .1 .1 .1 .1 .1 .1 .1 .1 .1 .1 .1 .1 .1 .1 .1 .0) (partsLent κs a)) (r .refusal) (hostOf (r .state) (a .1 .0) (a .1 .1 .0) (s .1 .1 .1 .0 .now) (s .1 .1 .1 .1 .0 .now) (s .1 .1 .1 .1 .1 .0 .now) (s .1 .1 .1 .1 .1 .1 .0 .now))
+    → Follows (hostOf (a .0) (a .1 .0) (a .1 .1 .0) (own (a .1 .1 .1 .0 .now) (a .1 .1 .1 .1 .0 .now) (a .1 .1 .1 .1 .1 .0 .now) (a .1 .1 .1 .1 .1 .1 .0 .now))) (microframe (a .1 .1 .1 .1 .1 .1 .1 .1 .1 .1 .1 .1 .1 .1 .1 .0) (partsLent κs a)) (r .refusal) (hostOf (r .state) (a .1 .0) (a .1 .1 .0) (own (s .1 .1 .1 .0 .now) (s .1 .1 .1 .1 .0 .now) (s .1 .1 .1 .1 .1 .0 .now) (s .1 .1 .1 .1 .1 .1 .0 .now)))
 unfolding step numberOf
 run-microframe-follows κs a r s p = record { answers = p .number; leaves = ap hostIn (p .outcome) }
 
@@ -96,8 +97,8 @@ module _ {M : Type 1} (𝓤 : URA M) (H : Heap 𝓤) where
 
 -- ---- the record by its parts, whatever its settings but their count of spans
 
-abbrev pub whole : Settings → ℕ → List ℕ → State → Packer → List ℕ → List ℕ → List ℕ → Host
-whole c spans setups s p midi serial device = hostOf s (withSpans c spans) p setups midi serial device
+abbrev pub whole : Settings → ℕ → State → Packer → Own → Host
+whole c spans s p o = hostOf s (withSpans c spans) p o
 
 -- a send's answer
 sends : (h : Host) (call : Call) (number : ℕ) (next : Host) (x : Sent) → x .refusal ≡ numberOf h call → x .host ≡ step h call
@@ -107,72 +108,72 @@ sends h call number next x n l e =
 
 -- ---- `send_midi`
 
-pub send-midi-follows : (κs : Lfts 3) (a : Dens κs SendMidi.ps) (r : resT SendMidi.r κs .Denot) (s : AtExit (endedOf 3 SendMidi.ps SendMidi.r) κs) (c : Settings) (serial device : List ℕ)
+pub send-midi-follows : (κs : Lfts 3) (a : Dens κs SendMidi.ps) (r : resT SendMidi.r κs .Denot) (s : AtExit (endedOf 3 SendMidi.ps SendMidi.r) κs) (c : Settings) (o : Own)
     → SendMidi·contract.Post κs a r s
-    → Follows (whole c (a .1 .0) (a .1 .1 .1 .1 .0 .now) (a .0) (a .1 .1 .0) (a .1 .1 .1 .1 .1 .0 .now) serial device) (midiSend (a .1 .1 .1 .0 .now)) (r .refusal) (whole c (a .1 .0) (a .1 .1 .1 .1 .0 .now) (r .state) (r .packer) (s .1 .1 .1 .1 .1 .0 .now) serial device)
+    → Follows (whole c (a .1 .0) (a .0) (a .1 .1 .0) (ownMidi (ownSetups o (a .1 .1 .1 .1 .0 .now)) (a .1 .1 .1 .1 .1 .0 .now))) (midiSend (a .1 .1 .1 .0 .now)) (r .refusal) (whole c (a .1 .0) (r .state) (r .packer) (ownMidi (ownSetups o (a .1 .1 .1 .1 .0 .now)) (s .1 .1 .1 .1 .1 .0 .now)))
 unfolding step numberOf midiSent
-send-midi-follows κs a r s c serial device q =
-    sends _ (midiSend (a .1 .1 .1 .0 .now)) _ _ _ refl refl (q .done c serial device)
+send-midi-follows κs a r s c o q =
+    sends _ (midiSend (a .1 .1 .1 .0 .now)) _ _ _ refl refl (q .done c o)
 
 pub send-midi-met : {M : Type 1} → SendMidi·code.statement M
 send-midi-met = SendMidi·proof.met
 
 -- ---- `send_serial`
 
-pub send-serial-follows : (κs : Lfts 3) (a : Dens κs SendSerial.ps) (r : resT SendSerial.r κs .Denot) (s : AtExit (endedOf 3 SendSerial.ps SendSerial.r) κs) (c : Settings) (midi device : List ℕ)
+pub send-serial-follows : (κs : Lfts 3) (a : Dens κs SendSerial.ps) (r : resT SendSerial.r κs .Denot) (s : AtExit (endedOf 3 SendSerial.ps SendSerial.r) κs) (c : Settings) (o : Own)
     → SendSerial·contract.Post κs a r s
-    → Follows (whole c (a .1 .0) (a .1 .1 .1 .1 .0 .now) (a .0) (a .1 .1 .0) midi (a .1 .1 .1 .1 .1 .0 .now) device) (serialSend (a .1 .1 .1 .0 .now)) (r .refusal) (whole c (a .1 .0) (a .1 .1 .1 .1 .0 .now) (r .state) (a .1 .1 .0) midi (s .1 .1 .1 .1 .1 .0 .now) device)
+    → Follows (whole c (a .1 .0) (a .0) (a .1 .1 .0) (ownSerial (ownSetups o (a .1 .1 .1 .1 .0 .now)) (a .1 .1 .1 .1 .1 .0 .now))) (serialSend (a .1 .1 .1 .0 .now)) (r .refusal) (whole c (a .1 .0) (r .state) (a .1 .1 .0) (ownSerial (ownSetups o (a .1 .1 .1 .1 .0 .now)) (s .1 .1 .1 .1 .1 .0 .now)))
 unfolding step numberOf serialSent
-send-serial-follows κs a r s c midi device q =
-    sends _ (serialSend (a .1 .1 .1 .0 .now)) _ _ _ refl refl (q .done c midi device)
+send-serial-follows κs a r s c o q =
+    sends _ (serialSend (a .1 .1 .1 .0 .now)) _ _ _ refl refl (q .done c o)
 
 pub send-serial-met : {M : Type 1} → SendSerial·code.statement M
 send-serial-met = SendSerial·proof.met
 
 -- ---- `give_frame`
 
-pub give-frame-follows : (κs : Lfts 3) (a : Dens κs GiveFrame.ps) (r : resT GiveFrame.r κs .Denot) (s : AtExit (endedOf 3 GiveFrame.ps GiveFrame.r) κs) (c : Settings) (midi serial device : List ℕ)
+pub give-frame-follows : (κs : Lfts 3) (a : Dens κs GiveFrame.ps) (r : resT GiveFrame.r κs .Denot) (s : AtExit (endedOf 3 GiveFrame.ps GiveFrame.r) κs) (c : Settings) (o : Own)
     → GiveFrame·contract.Post κs a r s
-    → Follows (whole c (a .1 .0) (a .1 .1 .1 .1 .0 .now) (a .0) (a .1 .1 .0) midi serial device) (frameGive (a .1 .1 .1 .0 .now) (a .1 .1 .1 .1 .1 .0 .now)) (r .refusal) (whole c (a .1 .0) (a .1 .1 .1 .1 .0 .now) (r .state) (a .1 .1 .0) midi serial device)
+    → Follows (whole c (a .1 .0) (a .0) (a .1 .1 .0) (ownSetups o (a .1 .1 .1 .1 .0 .now))) (frameGive (a .1 .1 .1 .0 .now) (a .1 .1 .1 .1 .1 .0 .now)) (r .refusal) (whole c (a .1 .0) (r .state) (a .1 .1 .0) (ownSetups o (a .1 .1 .1 .1 .0 .now)))
 unfolding step numberOf given
-give-frame-follows κs a r s c midi serial device q =
-    sends _ (frameGive (a .1 .1 .1 .0 .now) (a .1 .1 .1 .1 .1 .0 .now)) _ _ _ refl refl (q .done c midi serial device)
+give-frame-follows κs a r s c o q =
+    sends _ (frameGive (a .1 .1 .1 .0 .now) (a .1 .1 .1 .1 .1 .0 .now)) _ _ _ refl refl (q .done c o)
 
 pub give-frame-met : {M : Type 1} → GiveFrame·code.statement M
 give-frame-met = GiveFrame·proof.met
 
 -- ---- `take_frame`
 
-pub take-frame-follows : (κs : Lfts 2) (a : Dens κs TakeFrame.ps) (r : resT TakeFrame.r κs .Denot) (s : AtExit (endedOf 2 TakeFrame.ps TakeFrame.r) κs) (c : Settings) (midi serial device : List ℕ)
+pub take-frame-follows : (κs : Lfts 2) (a : Dens κs TakeFrame.ps) (r : resT TakeFrame.r κs .Denot) (s : AtExit (endedOf 2 TakeFrame.ps TakeFrame.r) κs) (c : Settings) (o : Own)
     → TakeFrame·contract.Post κs a r s
-    → Follows (whole c (a .1 .0) (a .1 .1 .1 .0 .now) (a .0) (a .1 .1 .0) midi serial device) (frameTake (a .1 .1 .1 .1 .0 .now)) (r .refusal) (whole c (a .1 .0) (a .1 .1 .1 .0 .now) (r .state) (a .1 .1 .0) midi serial device)
+    → Follows (whole c (a .1 .0) (a .0) (a .1 .1 .0) (ownSetups o (a .1 .1 .1 .0 .now))) (frameTake (a .1 .1 .1 .1 .0 .now)) (r .refusal) (whole c (a .1 .0) (r .state) (a .1 .1 .0) (ownSetups o (a .1 .1 .1 .0 .now)))
 unfolding step numberOf takenFrame
-take-frame-follows κs a r s c midi serial device q =
-    record { answers = ap (λ (x : Taken). x .refusal) (q .done c midi serial device); leaves = ap (λ (x : Taken). x .host) (q .done c midi serial device) }
+take-frame-follows κs a r s c o q =
+    record { answers = ap (λ (x : Taken). x .refusal) (q .done c o); leaves = ap (λ (x : Taken). x .host) (q .done c o) }
 
 pub take-frame-met : {M : Type 1} → TakeFrame·code.statement M
 take-frame-met = TakeFrame·proof.met
 
 -- ---- `read_device`: the record stays
 
-pub read-device-follows : (κs : Lfts 2) (a : Dens κs ReadDevice.ps) (r : resT ReadDevice.r κs .Denot) (s : AtExit (endedOf 2 ReadDevice.ps ReadDevice.r) κs) (c : Settings) (midi serial device : List ℕ)
+pub read-device-follows : (κs : Lfts 2) (a : Dens κs ReadDevice.ps) (r : resT ReadDevice.r κs .Denot) (s : AtExit (endedOf 2 ReadDevice.ps ReadDevice.r) κs) (c : Settings) (o : Own)
     → ReadDevice·contract.Post κs a r s
-    → Follows (whole c (a .1 .0) (a .1 .1 .1 .0 .now) (a .0) (a .1 .1 .0) midi serial device) (deviceRead (a .1 .1 .1 .1 .0 .now) (a .1 .1 .1 .1 .1 .0) (a .1 .1 .1 .1 .1 .1 .0)) (r .refusal) (whole c (a .1 .0) (a .1 .1 .1 .0 .now) (a .0) (a .1 .1 .0) midi serial device)
+    → Follows (whole c (a .1 .0) (a .0) (a .1 .1 .0) (ownSetups o (a .1 .1 .1 .0 .now))) (deviceRead (a .1 .1 .1 .1 .0 .now) (a .1 .1 .1 .1 .1 .0) (a .1 .1 .1 .1 .1 .1 .0)) (r .refusal) (whole c (a .1 .0) (a .0) (a .1 .1 .0) (ownSetups o (a .1 .1 .1 .0 .now)))
 unfolding step numberOf C.deviceRead
-read-device-follows κs a r s c midi serial device q =
-    record { answers = ap (λ (x : Read). x .refusal) (q .done c midi serial device); leaves = ap (λ (x : Read). x .host) (q .done c midi serial device) }
+read-device-follows κs a r s c o q =
+    record { answers = ap (λ (x : Read). x .refusal) (q .done c o); leaves = ap (λ (x : Read). x .host) (q .done c o) }
 
 pub read-device-met : {M : Type 1} → ReadDevice·code.statement M
 read-device-met = ReadDevice·proof.met
 
 -- ---- `write_device`
 
-pub write-device-follows : (κs : Lfts 2) (a : Dens κs WriteDevice.ps) (r : resT WriteDevice.r κs .Denot) (s : AtExit (endedOf 2 WriteDevice.ps WriteDevice.r) κs) (c : Settings) (midi serial device : List ℕ)
+pub write-device-follows : (κs : Lfts 2) (a : Dens κs WriteDevice.ps) (r : resT WriteDevice.r κs .Denot) (s : AtExit (endedOf 2 WriteDevice.ps WriteDevice.r) κs) (c : Settings) (o : Own)
     → WriteDevice·contract.Post κs a r s
-    → Follows (whole c (a .1 .0) (a .1 .1 .1 .0 .now) (a .0) (a .1 .1 .0) midi serial device) (deviceWrite (a .1 .1 .1 .1 .0 .now) (a .1 .1 .1 .1 .1 .0) (a .1 .1 .1 .1 .1 .1 .0) (a .1 .1 .1 .1 .1 .1 .1 .0)) (r .refusal) (whole c (a .1 .0) (a .1 .1 .1 .0 .now) (r .state) (a .1 .1 .0) midi serial device)
+    → Follows (whole c (a .1 .0) (a .0) (a .1 .1 .0) (ownSetups o (a .1 .1 .1 .0 .now))) (deviceWrite (a .1 .1 .1 .1 .0 .now) (a .1 .1 .1 .1 .1 .0) (a .1 .1 .1 .1 .1 .1 .0) (a .1 .1 .1 .1 .1 .1 .1 .0)) (r .refusal) (whole c (a .1 .0) (r .state) (a .1 .1 .0) (ownSetups o (a .1 .1 .1 .0 .now)))
 unfolding step numberOf deviceWritten
-write-device-follows κs a r s c midi serial device q =
-    sends _ (deviceWrite (a .1 .1 .1 .1 .0 .now) (a .1 .1 .1 .1 .1 .0) (a .1 .1 .1 .1 .1 .1 .0) (a .1 .1 .1 .1 .1 .1 .1 .0)) _ _ _ refl refl (q .done c midi serial device)
+write-device-follows κs a r s c o q =
+    sends _ (deviceWrite (a .1 .1 .1 .1 .0 .now) (a .1 .1 .1 .1 .1 .0) (a .1 .1 .1 .1 .1 .1 .0) (a .1 .1 .1 .1 .1 .1 .1 .0)) _ _ _ refl refl (q .done c o)
 
 pub write-device-met : {M : Type 1} → WriteDevice·code.statement M
 write-device-met = WriteDevice·proof.met

@@ -14,12 +14,14 @@ use Rattle.bits.specs.Pick.{pick}
 use Rattle.bits.proofs.Tests.{false-true, not-true, and-first, and-second, and-both}
 use Rattle.record.specs.declared.Settings.{Settings}
 use Rattle.record.specs.Change.{left}
+use Rattle.record.specs.Record.{counterOf, microframes, «midi_asleep», «midi_dtds»}
 use Rattle.model.specs.Microframe as M
 use Rattle.model.specs.Microframe.{rsSet, goneAt, asleepAt}
 use Rattle.model.specs.Reach.{backBy, leftBy, comesBack, deviceLeft}
 use Rattle.model.specs.PortMarks.{InGone, InSuspend, RunBit, RunTested, NoMidi, midiCome}
 use Rattle.model.proofs.Spans.{gone-spans, suspend-span, run-bit}
 use Rattle.model.proofs.PortMarks.{is-test, gone-mark, suspend-mark, suspend-kept, run-mark, run-kept, run-left, asleep-counted, asleep-kept}
+use Rattle.bounds.proofs.Laws.{counter-below}
 use Rattle.bounds.specs.Bounds.{MOST, times, askedOk, heldOk, countsOk, countersOk, countedOk, inBounds}
 use Rattle.model.proofs.Unread.{midi-unread}
 use Rattle.kept.proofs.Shape.{Shape, shape-kept}
@@ -27,7 +29,8 @@ use Rattle.usbhost.specs.declared.Host.{Host}
 use Rattle.usbhost.specs.Host.{stateOf, settled, newHost}
 use Rattle.usbhost.specs.Calls as C
 use Rattle.usbhost.specs.Calls.{bounded, midiNumber, midiQueued, midiSent, serialNumber, serialQueued, serialSent, giveNumber, frameGiven, given, holdsFrame, frameTaken, takenFrame, accessNumber, withFlag, deviceWritten}
-use Rattle.usbhost.specs.Frame.{Lent, worldOf, hostIn, boundsOk, frameNumber, framed}
+use Rattle.usbhost.specs.Frame.{worldOf, hostIn, boundsOk, frameNumber, framed}
+use Rattle.record.specs.World.{Lent}
 use Rattle.usbhost.proofs.Frame.{accepted-tests}
 use Rattle.history.specs.Calls.{Call, microframe, midiSend, serialSend, frameGive, frameTake, deviceRead, deviceWrite, step, after}
 use Rattle.history.specs.PortMarks.{later, lastBrought, timeOf, pageOf, Some, HostBack, DeviceLeft}
@@ -72,29 +75,25 @@ module _ (h : Host) (t : ℕ) (l : Lent) (e : frameNumber h l ≡ 0) where
   call-left d = running-is ∙ run-left t (worldOf h l) d
 
   -- 409, 427, 776: the microframes in which the host reads no MIDI are counted
-  asleep-is : next .stats .«midi_asleep» ≡ left (M.microframe t) (worldOf h l) .state .stats .«midi_asleep»
-  asleep-is = ap (λ (x : Host). x .stats .«midi_asleep») next-is
+  asleep-is : counterOf «midi_asleep» (next .stats) ≡ counterOf «midi_asleep» (left (M.microframe t) (worldOf h l) .state .stats)
+  asleep-is = ap (λ (x : Host). counterOf «midi_asleep» (x .stats)) next-is
 
-  few-asleep : h .stats .«midi_asleep» ≤ 32767 * MOST
-  unfolding boundsOk inBounds countersOk
+  few-asleep : counterOf «midi_asleep» (h .stats) ≤ 32767 * MOST
+  unfolding boundsOk inBounds
   few-asleep =
       let e₁ = and-second (askedOk (stateOf h) (h .setups)) _ (and-first (bounded h) _ (accepted-tests h l e .bounds)) in
       let e₂ = and-first (countedOk (stateOf h)) _ (and-second (heldOk (stateOf h) (h .packer)) _ e₁) in
       let e₃ = and-first (countersOk (h .stats)) _ (and-second (countsOk (stateOf h)) _ e₂) in
-      let few : ℕ → Bool = λ n. leb n (times 32767 (h .stats .microframes)) in
-      let r = h .stats in
-      let e₄ = and-second (few (r .«in_transfers») && (few (r .«out_transfers») && (few (r .«in_frames») && (few (r .«out_frames») && few (r .«bad_blocks»))))) _ e₃ in
-      let e₅ = and-first (few (r .«midi_asleep»)) _ (and-second (few (r .«midi_dtds»)) _ e₄) in
-      omega (arith, leb-true (r .«midi_asleep») (times 32767 (r .microframes)) e₅, bound-le 32767 (r .microframes))
+      omega (arith, leb-true (counterOf «midi_asleep» (h .stats)) _ (counter-below (h .stats) e₃ 6 (omega arith)), bound-le 32767 (counterOf microframes (h .stats)))
 
-  pub call-asleep : NoMidi t (worldOf h l) → next .stats .«midi_asleep» ≡ h .stats .«midi_asleep» + 1
+  pub call-asleep : NoMidi t (worldOf h l) → counterOf «midi_asleep» (next .stats) ≡ counterOf «midi_asleep» (h .stats) + 1
   call-asleep n = omega (arith, few-asleep, asleep-is, asleep-counted t (worldOf h l) n)
 
-  pub call-awake : ¬ NoMidi t (worldOf h l) → next .stats .«midi_asleep» ≡ h .stats .«midi_asleep»
+  pub call-awake : ¬ NoMidi t (worldOf h l) → counterOf «midi_asleep» (next .stats) ≡ counterOf «midi_asleep» (h .stats)
   call-awake n = asleep-is ∙ asleep-kept t (worldOf h l) n
 
   -- and in those no read of MIDI is counted, no byte is answered and the receive area is as it was lent
-  pub call-unread : NoMidi t (worldOf h l) → midiCome (framed t h l) ≡ record { counted = h .stats .«midi_dtds»; bytes = 0; area = l .receive }
+  pub call-unread : NoMidi t (worldOf h l) → midiCome (framed t h l) ≡ record { counted = counterOf «midi_dtds» (h .stats); bytes = 0; area = l .receive }
   unfolding framed
   call-unread n =
       ap (λ (k : ℕ). midiCome (pick (eqb k 0) (left (M.microframe t) (worldOf h l)) (worldOf h l))) e ∙ midi-unread t (worldOf h l) n

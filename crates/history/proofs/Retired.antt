@@ -8,6 +8,7 @@ use lib.Dec.{eqb, leb}
 use lib.ListN.{length}
 use Rattle.bits.specs.Pick.{pick, pick-both}
 use Rattle.record.specs.declared.Settings.{Settings}
+use Rattle.record.specs.Record.{counterAt, counterOf, «out_frames»}
 use Rattle.model.specs.Marks.{audioMark, audioOutRetired}
 use Rattle.usbhost.specs.declared.Host.{Host}
 use Rattle.usbhost.specs.declared.Created.{Created}
@@ -26,7 +27,7 @@ wraps a = omega arith
 
 -- one descriptor more, and a block with it; or neither
 seven-more : (b : Bool) (n m : ℕ) (h h′ : Host) → m ≡ pick b 1 0
-    → h′ .stats .«out_frames» ≡ h .stats .«out_frames» + pick b 7 0 → h′ .audio .counter ≡ pick b ((h .audio .counter + 7) % 2 ^ 16) (h .audio .counter)
+    → counterOf «out_frames» (h′ .stats) ≡ counterOf «out_frames» (h .stats) + pick b 7 0 → h′ .audio .counter ≡ pick b ((h .audio .counter + 7) % 2 ^ 16) (h .audio .counter)
     → SevenEach h n → SevenEach h′ (n + m)
 seven-more true n m h h′ one f c e =
     let more : 7 * n + 7 ≡ 7 * (n + m) = omega (arith, one) in
@@ -39,7 +40,7 @@ seven-more false n m h h′ one f c e =
     record { frames = omega (arith, one, f, e .frames); counter = c ∙ e .counter ∙ ap (λ (k : ℕ). 7 * k % 2 ^ 16) same }
 
 -- a call that is no microframe: accepted or not, it leaves both
-stays : (b : Bool) (n : ℕ) (h h′ : Host) → h′ .stats .«out_frames» ≡ h .stats .«out_frames» → h′ .audio .counter ≡ h .audio .counter
+stays : (b : Bool) (n : ℕ) (h h′ : Host) → counterOf «out_frames» (h′ .stats) ≡ counterOf «out_frames» (h .stats) → h′ .audio .counter ≡ h .audio .counter
     → SevenEach h n → SevenEach (pick b h′ h) (n + 0)
 stays true n h h′ f c e = record { frames = omega (arith, f, e .frames); counter = omega (arith, c, e .counter) }
 stays false n h h′ f c e = record { frames = omega (arith, e .frames); counter = omega (arith, e .counter) }
@@ -67,7 +68,7 @@ all h n (c ∷ cs) e =
 
 -- from `new`, whatever its settings
 pub sent-retired : (s : Settings) (cs : List Call) → SevenEach (after (newHost s) cs) (callsMarked (audioMark false) (newHost s) cs)
-unfolding newHost
+unfolding newHost counterAt
 sent-retired s cs = subst (SevenEach (after (newHost s) cs)) (omega arith) (all (newHost s) 0 cs (record { frames = refl; counter = refl }))
 
 -- and from whatever `new` answers, refused or not

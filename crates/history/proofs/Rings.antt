@@ -14,7 +14,7 @@ use Rattle.bits.specs.Pick.{pick, pick-both}
 use Rattle.bits.proofs.Tests.{and-first, and-second}
 use Rattle.usbdev.specs.Access.{writeSized}
 use Rattle.record.specs.declared.Settings.{Settings}
-use Rattle.record.specs.World.{World}
+use Rattle.record.specs.World.{Lent, World}
 use Rattle.record.specs.Change.{FRAMES, WORDS, left, takenFrom}
 use Rattle.model.specs.Microframe as M
 use Rattle.model.specs.Audio.{BLOCK-FRAMES, capacity, blockOf}
@@ -35,7 +35,7 @@ use Rattle.usbhost.specs.declared.Created.{Created}
 use Rattle.usbhost.specs.Host.{stateOf, newHost, settled, noSettings, created}
 use Rattle.usbhost.specs.Calls as C
 use Rattle.usbhost.specs.Calls.{unless, fewSpans, bounded, midiNumber, midiQueued, midiSent, serialNumber, serialQueued, serialSent, sendingLength, giveNumber, framePut, frameGiven, given, givenRing, takeNumber, frameTaken, oldest, holdsFrame, takenFrame, accessNumber, registersOf, withFlag, deviceWritten}
-use Rattle.usbhost.specs.Frame.{Lent, worldOf, hostIn, lentIn, boundsOk, frameNumber, framed}
+use Rattle.usbhost.specs.Frame.{worldOf, hostIn, boundsOk, frameNumber, framed}
 use Rattle.usbhost.proofs.Laws.{met}
 use Rattle.usbhost.proofs.Kept.{give-room, give-refused, ring-refused, take-empty}
 use Rattle.usbhost.proofs.Frame.{accepted-tests}
@@ -108,11 +108,11 @@ streams h l e =
     }
 
 -- it writes no word of the sending ring, accepted or not
-pub microframe-words : (h : Host) (t : ℕ) (l : Lent) → lentIn (framed t h l) .sending ≡ l .sending
+pub microframe-words : (h : Host) (t : ℕ) (l : Lent) → framed t h l .lent .sending ≡ l .sending
 unfolding framed
 microframe-words h t l = by (eqb (frameNumber h l) 0)
   where
-    by : (b : Bool) → pick b (left (M.microframe t) (worldOf h l)) (worldOf h l) .sending ≡ l .sending
+    by : (b : Bool) → pick b (left (M.microframe t) (worldOf h l)) (worldOf h l) .lent .sending ≡ l .sending
     by true = words-microframe t (worldOf h l)
     by false = refl
 

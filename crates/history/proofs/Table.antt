@@ -9,8 +9,9 @@ use lib.ListN.{length}
 use borrow.Author.Tests.{eqb-true}
 use Rattle.bits.specs.Pick.{pick, pick-both, pick-map}
 use Rattle.record.specs.declared.Settings.{Settings}
-use Rattle.record.specs.World.{World}
+use Rattle.record.specs.World.{Lent, World}
 use Rattle.record.specs.Change.{left}
+use Rattle.record.specs.Record.{counterAt, counterOf, «out_frames»}
 use Rattle.model.specs.Audio.{BLOCK-FRAMES}
 use Rattle.model.specs.Microframe as M
 use Rattle.model.specs.Microframe.{rsSet, goneAt, asleepAt}
@@ -23,7 +24,7 @@ use Rattle.usbhost.specs.declared.Created.{Created}
 use Rattle.usbhost.specs.Host.{newHost, settled, noSettings, created}
 use Rattle.usbhost.specs.Calls as C
 use Rattle.usbhost.specs.Calls.{midiNumber, midiQueued, midiSent, serialNumber, serialQueued, serialSent, giveNumber, frameGiven, given, holdsFrame, frameTaken, takenFrame, accessNumber, withFlag, deviceWritten}
-use Rattle.usbhost.specs.Frame.{Lent, worldOf, hostIn, frameNumber, framed}
+use Rattle.usbhost.specs.Frame.{worldOf, hostIn, frameNumber, framed}
 use Rattle.history.specs.Calls.{Call, microframe, midiSend, serialSend, frameGive, frameTake, deviceRead, deviceWrite, step, after}
 use Rattle.history.specs.Sums as S
 use Rattle.history.specs.Sums.{Sums, none, receive, send, readAt, inputReached, outputReached, reset, heard, summed, Tally, answeredEver, tallied, tally, Balanced, Tabulated}
@@ -133,7 +134,7 @@ tabulated-frame h y t l r =
     (λ ok.
     let s = accepted-small h l (eqb-true (frameNumber h l) 0 ok) in
     let c = small-counts h l s in
-    let less : h .stats .«out_frames» ≤ SMALL = omega (arith, s .sent) in
+    let less : counterOf «out_frames» (h .stats) ≤ SMALL = omega (arith, s .sent) in
     let e : Even (countsOf (worldOf h l)) (y .since) = record { balance = r .even .balance; sevens = r .even .sevens } in
     record {
       received = frame-received t (worldOf h l) (y .since) (y .ever) (c .0) (c .1) less e (r .table .received) (r .table .sent);
@@ -168,7 +169,7 @@ all h y [] r = r
 all h y (c ∷ cs) r = all (step h c) (tallied h y c) cs (right-step h y c r)
 
 pub table-counters : (s : Settings) (cs : List Call) → Tabulated (after (newHost s) cs) (tally (newHost s) (record { since = none; ever = none }) cs .ever)
-unfolding newHost
+unfolding newHost counterAt
 table-counters s cs =
     all (newHost s) (record { since = none; ever = none }) cs
     (record { even = record { balance = refl; sevens = refl }; table = record { received = refl; sent = refl } })

@@ -18,7 +18,8 @@ use Rattle.bounds.specs.Bounds.{areasOk, receivedOk}
 use Rattle.usbhost.specs.declared.Host.{Host}
 use Rattle.usbhost.specs.Host.{stateOf}
 use Rattle.usbhost.specs.Calls.{unless, fewSpans, bounded, sendingLength, midiNumber, serialNumber, giveNumber, takeNumber, accessNumber}
-use Rattle.usbhost.specs.Frame.{Lent, areaLengths, frameNumber}
+use Rattle.usbhost.specs.Frame.{areaLengths, frameNumber}
+use Rattle.record.specs.World.{Lent}
 use Rattle.history.specs.Calls.{Call, microframe, midiSend, serialSend, frameGive, frameTake, deviceRead, deviceWrite, step}
 
 -- ---- the number that a call answers, and the one that is due

@@ -4,7 +4,8 @@ use mathlib.Core.List.{List, [], _∷_}
 use Rattle.usbhost.specs.declared.Host.{Host}
 use Rattle.usbhost.specs.Calls.{midiSent, serialSent, given, takenFrame, deviceWritten}
 use Rattle.usbhost.specs.Calls as C
-use Rattle.usbhost.specs.Frame.{Lent, hostIn, framed}
+use Rattle.usbhost.specs.Frame.{hostIn, framed}
+use Rattle.record.specs.World.{Lent}
 
 -- a call with all that it brings: time, memory, registers, areas and bytes are the caller's, and may be anything
 pub data Call : Type 0 where

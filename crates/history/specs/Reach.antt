@@ -6,13 +6,15 @@ use mathlib.Core.Path.{_≡_}
 use lib.Dec.{eqb, leb}
 use Rattle.bits.specs.Pick.{pick}
 use Rattle.record.specs.Change.{Change}
+use Rattle.record.specs.Record.{counterOf, «out_frames»}
 use Rattle.model.specs.Microframe as M
 use Rattle.model.specs.Reach as R
 use Rattle.model.specs.Reach.{atInput, atOutput, inputReady, outputReady}
 use Rattle.dtd.specs.Dtd.{Endpoint}
 use Rattle.model.specs.Marks.{marked, total}
 use Rattle.usbhost.specs.declared.Host.{Host}
-use Rattle.usbhost.specs.Frame.{Lent, worldOf, frameNumber}
+use Rattle.usbhost.specs.Frame.{worldOf, frameNumber}
+use Rattle.record.specs.World.{Lent}
 use Rattle.history.specs.Calls.{Call, microframe, midiSend, serialSend, frameGive, frameTake, deviceRead, deviceWrite, step}
 
 -- ---- reaching, of a call: "exactly when it is accepted, neither gone, suspend nor device-left ends it, .."
@@ -60,5 +62,5 @@ callsMarked f h (c ∷ cs) = callMarked f h c + callsMarked f (step h c) cs
 
 -- n descriptors retired on the audio output endpoint since `new`: seven frames sent for each, and the stream counter, which wraps
 pub record SevenEach (h : Host) (n : ℕ) : Type 0 where
-  pub frames : h .stats .«out_frames» ≡ 7 * n
+  pub frames : counterOf «out_frames» (h .stats) ≡ 7 * n
   pub counter : h .audio .counter ≡ 7 * n % 2 ^ 16

@@ -6,6 +6,7 @@ use mathlib.Core.Path.{_≡_}
 use lib.Dec.{eqb, leb}
 use Rattle.bits.specs.Pick.{pick}
 use Rattle.record.specs.World.{World}
+use Rattle.record.specs.Record.{counterOf, «in_frames», «out_frames»}
 use Rattle.model.specs.Audio.{BLOCK-FRAMES, blocksOf}
 use Rattle.model.specs.Reach.{reachesInput, reachesOutput, comesBack, deviceLeft, atInput, atOutput, inputReady, outputReady, bytesAt}
 use Rattle.model.specs.Earned.{goodBlocks}
@@ -111,5 +112,5 @@ pub record Balanced (h : Host) (g : Sums) : Type 0 where
 
 -- what the user tabulates is what happened
 pub record Tabulated (h : Host) (a : Sums) : Type 0 where
-  pub received : h .stats .«in_frames» ≡ a .received
-  pub sent : h .stats .«out_frames» ≡ a .sent
+  pub received : counterOf «in_frames» (h .stats) ≡ a .received
+  pub sent : counterOf «out_frames» (h .stats) ≡ a .sent

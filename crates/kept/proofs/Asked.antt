@@ -30,8 +30,8 @@ askedOf w =
       device = w .state .lengths .device;
       config = w .state .lengths .config;
       uf = w .state .port .uf;
-      queue = w .setups;
-      reply = w .reply;
+      queue = w .own .setups;
+      reply = w .lent .reply;
     }
 
 abbrev pub askedOn : Change → Asked → Asked

@@ -77,7 +77,7 @@ unfolding overBudget apply
 over-small n w e =
     let b = and-true (named (apply (budget n) w)) _ e in
     let l = ltb-true n _ (b .1) in
-    let s = total-lt (tokenOf (nextDtd audioIn (w .memory)) (w .memory)) in
+    let s = total-lt (tokenOf (nextDtd audioIn (w .lent .memory)) (w .lent .memory)) in
     omega (arith, l, s)
 
 waits : (w : World) → AudioOk w → overBudget (left addsBudget w) ≡ true → AudioOk (left addsBudget w)

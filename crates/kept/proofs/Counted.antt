@@ -7,16 +7,15 @@ use lib.Dec.{leb, eqb}
 use borrow.Author.Tests.{leb-true, le-leb, eqb-true, eq-eqb}
 use Rattle.bus.specs.Steps.{andThen}
 use Rattle.bus.proofs.Sizes.{and-true}
-use Rattle.record.specs.declared.Stats.{Stats}
 use Rattle.record.specs.declared.State.{State}
-use Rattle.record.specs.Record.{wrapped, counted, Counter, microframes, «in_transfers», «out_transfers», «in_frames», «out_frames», «bad_blocks», «midi_dtds», «midi_asleep», «out_underruns», «midi_packets_out», «vendor_in_bytes», restarts, enumerations}
+use Rattle.record.specs.Record.{wrapped, Counter, counterOf, counted, raised, microframes}
 use Rattle.record.specs.World.{World}
 use Rattle.record.specs.Change.{count, started, timers, popped, apply, left, one}
 use Rattle.model.specs.Phases.{now, counts, ticks}
 use Rattle.model.specs.Microframe.{microframe}
 use Rattle.bounds.specs.Bounds.{MOST, countsOk}
 use Rattle.kept.proofs.Holding.{Holds, holds-then, holds-one}
-use Rattle.kept.proofs.Every.{isOther, Each, on-page, on-here, adds-any, clears-any, every-microframe}
+use Rattle.kept.proofs.Every.{isOther, other-same, Each, on-page, on-here, adds-any, clears-any, every-microframe}
 
 -- both counts are n, and the phase began no later
 pub record Counted (n : ℕ) (made number start : ℕ) : Type 0 where
@@ -24,42 +23,25 @@ pub record Counted (n : ℕ) (made number start : ℕ) : Type 0 where
   pub numbered : number ≡ n
   pub started : start ≤ n
 
-pub counted-of : (s : State) → countsOk s ≡ true → Counted (s .port .uf) (s .stats .microframes) (s .port .uf) (s .port .t)
+pub counted-of : (s : State) → countsOk s ≡ true → Counted (s .port .uf) (counterOf microframes (s .stats)) (s .port .uf) (s .port .t)
 unfolding countsOk
 counted-of s e =
-    let p = and-true (eqb (s .stats .microframes) (s .port .uf)) _ e in
+    let p = and-true (eqb (counterOf microframes (s .stats)) (s .port .uf)) _ e in
     let q = and-true (leb (s .port .uf) MOST) _ (p .1) in
-    record { microframes = eqb-true (s .stats .microframes) (s .port .uf) (p .0); numbered = refl; started = leb-true (s .port .t) (s .port .uf) (q .1) }
+    record { microframes = eqb-true (counterOf microframes (s .stats)) (s .port .uf) (p .0); numbered = refl; started = leb-true (s .port .t) (s .port .uf) (q .1) }
 
-pub counted-ok : (n : ℕ) (s : State) → n ≤ MOST → Counted n (s .stats .microframes) (s .port .uf) (s .port .t) → countsOk s ≡ true
+pub counted-ok : (n : ℕ) (s : State) → n ≤ MOST → Counted n (counterOf microframes (s .stats)) (s .port .uf) (s .port .t) → countsOk s ≡ true
 unfolding countsOk
 counted-ok n s few c =
     let m = c .microframes in
     let u = c .numbered in
     let b = c .started in
-    let same : s .stats .microframes ≡ s .port .uf = m ∙ sym u in
-    simp (eq-eqb (s .stats .microframes) (s .port .uf) same, le-leb (s .port .uf) MOST (omega arith), le-leb (s .port .t) (s .port .uf) (omega arith))
-
--- no other counter is the microframes'
-other-same : (c : Counter) (n : ℕ) (r : Stats) → isOther c ≡ true → counted c n r .microframes ≡ r .microframes
-unfolding counted
-other-same microframes n r e = let z : _≡_ {A = ℕ} 0 1 = cc in absurd (omega arith)
-other-same «in_transfers» n r e = refl
-other-same «out_transfers» n r e = refl
-other-same «in_frames» n r e = refl
-other-same «out_frames» n r e = refl
-other-same «bad_blocks» n r e = refl
-other-same «midi_dtds» n r e = refl
-other-same «midi_asleep» n r e = refl
-other-same «out_underruns» n r e = refl
-other-same «midi_packets_out» n r e = refl
-other-same «vendor_in_bytes» n r e = refl
-other-same restarts n r e = refl
-other-same enumerations n r e = refl
+    let same : counterOf microframes (s .stats) ≡ s .port .uf = m ∙ sym u in
+    simp (eq-eqb (counterOf microframes (s .stats)) (s .port .uf) same, le-leb (s .port .uf) MOST (omega arith), le-leb (s .port .t) (s .port .uf) (omega arith))
 
 module _ (n : ℕ) where
   abbrev pub CountedOk : World → Type 0
-  CountedOk w = Counted n (w .state .stats .microframes) (w .state .port .uf) (w .state .port .t)
+  CountedOk w = Counted n (counterOf microframes (w .state .stats)) (w .state .port .uf) (w .state .port .t)
 
   counts-other : (c : Counter) (m : ℕ) → isOther c ≡ true → (w : World) → CountedOk w → CountedOk (apply (count c m) w)
   unfolding apply
@@ -123,7 +105,7 @@ one-more : (n x : ℕ) → n < MOST → x ≡ n → wrapped (x + 1) ≡ n + 1
 one-more n x few e = omega arith
 
 counts-more : (n : ℕ) → n < MOST → (w : World) → CountedOk n w → CountedOk (n + 1) (left counts w)
-unfolding counts andThen one apply counted
+unfolding counts andThen one apply raised
 counts-more n few w h =
     let s = h .started in
     record { microframes = one-more n _ few (h .microframes); numbered = one-more n _ few (h .numbered); started = omega arith }

@@ -1,12 +1,13 @@
 -- The counters: in a microframe each rises by at most 32,767 and does not wrap (document 01, number 5).
 use Prim.Native.Nat.{ℕ, zero, suc, _+_, _-_, _*_, _/_, _%_, _^_, _≤_, _<_, min}
 use mathlib.Core.Path.{_≡_, refl, sym, subst, _∙_}
-use mathlib.Core.Bool.{Bool, true, false, _&&_}
+use mathlib.Core.Bool.{Bool, true, false, not, _&&_}
 use mathlib.Core.List.{List, [], _∷_}
 use native.Mathlib.Omega.{arith}
 use lib.Dec.{leb, eqb}
 use lib.ListN.{length, drop, length-drop}
-use borrow.Author.Tests.{leb-true, le-leb}
+use borrow.Author.Tests.{leb-true, le-leb, eqb-true, eqb-false}
+use Rattle.bits.proofs.Tests.{false-true}
 use Rattle.bits.specs.Pick.{pick}
 use Rattle.bus.specs.Steps.{andThen, replay, exec-then}
 use Rattle.bus.proofs.Sizes.{and-true}
@@ -14,8 +15,8 @@ use Rattle.dtd.specs.Dtd.{Endpoint, endpoint, Run, runDtds}
 use Rattle.record.specs.declared.Phase.{Phase}
 use Rattle.record.specs.declared.Phase.the-variants.{Idle, Vbus, Reset, Enumerate, Stream}
 use Rattle.record.specs.declared.Settings.{Settings}
-use Rattle.record.specs.declared.Stats.{Stats}
-use Rattle.record.specs.Record.{wrapped, counted, Counter, microframes, «in_transfers», «out_transfers», «in_frames», «out_frames», «bad_blocks», «midi_dtds», «midi_asleep», «out_underruns», «midi_packets_out», «vendor_in_bytes», restarts, enumerations}
+use Rattle.record.specs.Record.{Stats, wrapped, Counter, place, counterAt, counterOf, counted, raised, microframes, «in_transfers», «out_transfers», «in_frames», «out_frames», «bad_blocks», «midi_dtds», «midi_asleep», «out_underruns», «midi_packets_out», «vendor_in_bytes», restarts, enumerations}
+use Rattle.record.proofs.Counters.{raised-same, raised-other}
 use Rattle.record.specs.World.{World, busOf}
 use Rattle.record.specs.Change.{Change, count, phase, apply, Step, left, _then_, nothing, if, when, one, here, ranStores, runs, midi}
 use Rattle.model.specs.Phases.{now, counts, ticks, cable, returns, sleeps, suspends, leaves, startsFrame}
@@ -23,9 +24,10 @@ use Rattle.model.specs.Control.{stalled, unstalls, stages, posts, configured, c
 use Rattle.model.specs.Streams.{naks, reads, readsAt, midiIn, fitting, serialStep, drainsMidi, midiOut, readsVendor}
 use Rattle.model.specs.Audio.{audioIn, addsBudget, overBudget, clearsBudget, blocks, blocksOf, good, keepsGood, keepsBlock, keepsBlocks, keepsRun, inputs, streamIn, sendsBlock, unprimes, streamOut, streams}
 use Rattle.model.specs.Microframe.{rsSet, goneAt, asleepAt, others, transfers, enumerates, talks, atPhase, byPhase, opens, frameOf, microframe}
-use Rattle.bounds.specs.Bounds.{MOST, times, countersOk}
+use Rattle.bounds.specs.Bounds.{MOST, times, noneAbove, countersOk}
+use Rattle.bounds.proofs.Laws.{all-below, counter-below}
 use Rattle.kept.proofs.Holding.{Holds, holds-then, holds-seq, holds-nothing, holds-one}
-use Rattle.kept.proofs.Every.{at-if, on-if, after-run}
+use Rattle.kept.proofs.Every.{isOther, other-same, at-if, on-if, after-run}
 use Rattle.kept.proofs.Bytes.{run-bytes}
 use Rattle.kept.proofs.Still.{StatsAre, still-page, still-ticks, still-forgets, still-suspends, still-leaves, still-idles, still-powers, still-resets, still-frame, still-posts, still-unstalls, still-stages, still-naks, still-serves, still-adds, still-clears, still-frames, still-unprimes}
 
@@ -53,68 +55,66 @@ rise-then n m x y z p q =
 rise-more : (n m x y : ℕ) → n ≤ m → Rise n x y → Rise m x y
 rise-more n m x y l p = let a = p .high in record { low = λ h. p .low (omega arith); high = omega arith }
 
--- vendor_in_bytes rises by at most m, every other by at most n, and the microframes stay
+-- the most that the counter at a place rises by: vendor_in_bytes by m, every other by n
+abbrev most : ℕ → ℕ → ℕ → ℕ
+most n m k = pick (eqb k (place «vendor_in_bytes»)) m n
+
+-- each by at most that, and the microframes stay
 pub record Raised (n m : ℕ) (r r′ : Stats) : Type 0 where
-  pub microframes : r′ .microframes ≡ r .microframes
-  pub «in_transfers» : Rise n (r .«in_transfers») (r′ .«in_transfers»)
-  pub «out_transfers» : Rise n (r .«out_transfers») (r′ .«out_transfers»)
-  pub «in_frames» : Rise n (r .«in_frames») (r′ .«in_frames»)
-  pub «out_frames» : Rise n (r .«out_frames») (r′ .«out_frames»)
-  pub «bad_blocks» : Rise n (r .«bad_blocks») (r′ .«bad_blocks»)
-  pub «midi_dtds» : Rise n (r .«midi_dtds») (r′ .«midi_dtds»)
-  pub «midi_asleep» : Rise n (r .«midi_asleep») (r′ .«midi_asleep»)
-  pub «out_underruns» : Rise n (r .«out_underruns») (r′ .«out_underruns»)
-  pub «midi_packets_out» : Rise n (r .«midi_packets_out») (r′ .«midi_packets_out»)
-  pub «vendor_in_bytes» : Rise m (r .«vendor_in_bytes») (r′ .«vendor_in_bytes»)
-  pub restarts : Rise n (r .restarts) (r′ .restarts)
-  pub enumerations : Rise n (r .enumerations) (r′ .enumerations)
+  pub microframes : counterOf microframes r′ ≡ counterOf microframes r
+  pub rises : (k : ℕ) → Rise (most n m k) (counterAt k r) (counterAt k r′)
 
 raised-none : (n m : ℕ) (r : Stats) → Raised n m r r
-raised-none n m r = record { microframes = refl; «in_transfers» = rise-none n _; «out_transfers» = rise-none n _; «in_frames» = rise-none n _; «out_frames» = rise-none n _; «bad_blocks» = rise-none n _; «midi_dtds» = rise-none n _; «midi_asleep» = rise-none n _; «out_underruns» = rise-none n _; «midi_packets_out» = rise-none n _; «vendor_in_bytes» = rise-none m _; restarts = rise-none n _; enumerations = rise-none n _ }
+raised-none n m r = record { microframes = refl; rises = λ k. rise-none _ _ }
 
 raised-then : (a b c d : ℕ) (r s t : Stats) → Raised a b r s → Raised c d s t → Raised (a + c) (b + d) r t
 raised-then a b c d r s t p q =
-    record { microframes = q .microframes ∙ p .microframes; «in_transfers» = rise-then a c _ _ _ (p .«in_transfers») (q .«in_transfers»); «out_transfers» = rise-then a c _ _ _ (p .«out_transfers») (q .«out_transfers»); «in_frames» = rise-then a c _ _ _ (p .«in_frames») (q .«in_frames»); «out_frames» = rise-then a c _ _ _ (p .«out_frames») (q .«out_frames»); «bad_blocks» = rise-then a c _ _ _ (p .«bad_blocks») (q .«bad_blocks»); «midi_dtds» = rise-then a c _ _ _ (p .«midi_dtds») (q .«midi_dtds»); «midi_asleep» = rise-then a c _ _ _ (p .«midi_asleep») (q .«midi_asleep»); «out_underruns» = rise-then a c _ _ _ (p .«out_underruns») (q .«out_underruns»); «midi_packets_out» = rise-then a c _ _ _ (p .«midi_packets_out») (q .«midi_packets_out»); «vendor_in_bytes» = rise-then b d _ _ _ (p .«vendor_in_bytes») (q .«vendor_in_bytes»); restarts = rise-then a c _ _ _ (p .restarts) (q .restarts); enumerations = rise-then a c _ _ _ (p .enumerations) (q .enumerations) }
+    record {
+      microframes = q .microframes ∙ p .microframes;
+      rises = λ k. subst (λ (n : ℕ). Rise n (counterAt k r) (counterAt k t)) (both (eqb k (place «vendor_in_bytes»))) (rise-then _ _ _ _ _ (p .rises k) (q .rises k));
+    }
+  where
+    both : (v : Bool) → pick v b a + pick v d c ≡ pick v (b + d) (a + c)
+    both true = refl
+    both false = refl
 
 raised-more : (a b n m : ℕ) (r s : Stats) → a ≤ n → b ≤ m → Raised a b r s → Raised n m r s
 raised-more a b n m r s k l p =
-    record { microframes = p .microframes; «in_transfers» = rise-more a n _ _ k (p .«in_transfers»); «out_transfers» = rise-more a n _ _ k (p .«out_transfers»); «in_frames» = rise-more a n _ _ k (p .«in_frames»); «out_frames» = rise-more a n _ _ k (p .«out_frames»); «bad_blocks» = rise-more a n _ _ k (p .«bad_blocks»); «midi_dtds» = rise-more a n _ _ k (p .«midi_dtds»); «midi_asleep» = rise-more a n _ _ k (p .«midi_asleep»); «out_underruns» = rise-more a n _ _ k (p .«out_underruns»); «midi_packets_out» = rise-more a n _ _ k (p .«midi_packets_out»); «vendor_in_bytes» = rise-more b m _ _ l (p .«vendor_in_bytes»); restarts = rise-more a n _ _ k (p .restarts); enumerations = rise-more a n _ _ k (p .enumerations) }
+    record { microframes = p .microframes; rises = λ j. rise-more _ _ _ _ (more (eqb j (place «vendor_in_bytes»))) (p .rises j) }
+  where
+    more : (v : Bool) → pick v b a ≤ pick v m n
+    more true = l
+    more false = k
 
--- one counter
-isFew : Counter → Bool
-isFew microframes = false
-isFew «in_transfers» = true
-isFew «out_transfers» = true
-isFew «in_frames» = true
-isFew «out_frames» = true
-isFew «bad_blocks» = true
-isFew «midi_dtds» = true
-isFew «midi_asleep» = true
-isFew «out_underruns» = true
-isFew «midi_packets_out» = true
-isFew «vendor_in_bytes» = false
-isFew restarts = true
-isFew enumerations = true
+-- the counter at a place, and no other
+raised-at : (j n : ℕ) (r : Stats) (k : ℕ) → Rise (pick (eqb k j) n 0) (counterAt k r) (counterAt k (raised j n r))
+raised-at j n r k = by-place (eqb k j) refl
+  where
+    by-place : (b : Bool) → eqb k j ≡ b → Rise (pick b n 0) (counterAt k r) (counterAt k (raised j n r))
+    by-place true e =
+        let same = eqb-true k j e in
+        rw same (subst (λ (x : ℕ). Rise n (counterAt j r) x) (sym (raised-same j n r)) (rise-count n (counterAt j r)))
+    by-place false e = subst (λ (x : ℕ). Rise 0 (counterAt k r) x) (sym (raised-other k j n r (eqb-false k j e))) (rise-none 0 (counterAt k r))
+
+-- a counter that is neither that of the microframes nor vendor_in_bytes, and that one
+abbrev isFew : Counter → Bool
+isFew c = isOther c && not (eqb (place c) (place «vendor_in_bytes»))
 
 raised-count : (c : Counter) (n : ℕ) (r : Stats) → isFew c ≡ true → Raised n 0 r (counted c n r)
-unfolding counted isFew
-raised-count microframes n r e = let z : _≡_ {A = ℕ} 0 1 = cc in absurd (omega arith)
-raised-count «vendor_in_bytes» n r e = let z : _≡_ {A = ℕ} 0 1 = cc in absurd (omega arith)
-raised-count «in_transfers» n r e = record { microframes = refl; «in_transfers» = rise-count n _; «out_transfers» = rise-none n _; «in_frames» = rise-none n _; «out_frames» = rise-none n _; «bad_blocks» = rise-none n _; «midi_dtds» = rise-none n _; «midi_asleep» = rise-none n _; «out_underruns» = rise-none n _; «midi_packets_out» = rise-none n _; «vendor_in_bytes» = rise-none 0 _; restarts = rise-none n _; enumerations = rise-none n _ }
-raised-count «out_transfers» n r e = record { microframes = refl; «in_transfers» = rise-none n _; «out_transfers» = rise-count n _; «in_frames» = rise-none n _; «out_frames» = rise-none n _; «bad_blocks» = rise-none n _; «midi_dtds» = rise-none n _; «midi_asleep» = rise-none n _; «out_underruns» = rise-none n _; «midi_packets_out» = rise-none n _; «vendor_in_bytes» = rise-none 0 _; restarts = rise-none n _; enumerations = rise-none n _ }
-raised-count «in_frames» n r e = record { microframes = refl; «in_transfers» = rise-none n _; «out_transfers» = rise-none n _; «in_frames» = rise-count n _; «out_frames» = rise-none n _; «bad_blocks» = rise-none n _; «midi_dtds» = rise-none n _; «midi_asleep» = rise-none n _; «out_underruns» = rise-none n _; «midi_packets_out» = rise-none n _; «vendor_in_bytes» = rise-none 0 _; restarts = rise-none n _; enumerations = rise-none n _ }
-raised-count «out_frames» n r e = record { microframes = refl; «in_transfers» = rise-none n _; «out_transfers» = rise-none n _; «in_frames» = rise-none n _; «out_frames» = rise-count n _; «bad_blocks» = rise-none n _; «midi_dtds» = rise-none n _; «midi_asleep» = rise-none n _; «out_underruns» = rise-none n _; «midi_packets_out» = rise-none n _; «vendor_in_bytes» = rise-none 0 _; restarts = rise-none n _; enumerations = rise-none n _ }
-raised-count «bad_blocks» n r e = record { microframes = refl; «in_transfers» = rise-none n _; «out_transfers» = rise-none n _; «in_frames» = rise-none n _; «out_frames» = rise-none n _; «bad_blocks» = rise-count n _; «midi_dtds» = rise-none n _; «midi_asleep» = rise-none n _; «out_underruns» = rise-none n _; «midi_packets_out» = rise-none n _; «vendor_in_bytes» = rise-none 0 _; restarts = rise-none n _; enumerations = rise-none n _ }
-raised-count «midi_dtds» n r e = record { microframes = refl; «in_transfers» = rise-none n _; «out_transfers» = rise-none n _; «in_frames» = rise-none n _; «out_frames» = rise-none n _; «bad_blocks» = rise-none n _; «midi_dtds» = rise-count n _; «midi_asleep» = rise-none n _; «out_underruns» = rise-none n _; «midi_packets_out» = rise-none n _; «vendor_in_bytes» = rise-none 0 _; restarts = rise-none n _; enumerations = rise-none n _ }
-raised-count «midi_asleep» n r e = record { microframes = refl; «in_transfers» = rise-none n _; «out_transfers» = rise-none n _; «in_frames» = rise-none n _; «out_frames» = rise-none n _; «bad_blocks» = rise-none n _; «midi_dtds» = rise-none n _; «midi_asleep» = rise-count n _; «out_underruns» = rise-none n _; «midi_packets_out» = rise-none n _; «vendor_in_bytes» = rise-none 0 _; restarts = rise-none n _; enumerations = rise-none n _ }
-raised-count «out_underruns» n r e = record { microframes = refl; «in_transfers» = rise-none n _; «out_transfers» = rise-none n _; «in_frames» = rise-none n _; «out_frames» = rise-none n _; «bad_blocks» = rise-none n _; «midi_dtds» = rise-none n _; «midi_asleep» = rise-none n _; «out_underruns» = rise-count n _; «midi_packets_out» = rise-none n _; «vendor_in_bytes» = rise-none 0 _; restarts = rise-none n _; enumerations = rise-none n _ }
-raised-count «midi_packets_out» n r e = record { microframes = refl; «in_transfers» = rise-none n _; «out_transfers» = rise-none n _; «in_frames» = rise-none n _; «out_frames» = rise-none n _; «bad_blocks» = rise-none n _; «midi_dtds» = rise-none n _; «midi_asleep» = rise-none n _; «out_underruns» = rise-none n _; «midi_packets_out» = rise-count n _; «vendor_in_bytes» = rise-none 0 _; restarts = rise-none n _; enumerations = rise-none n _ }
-raised-count restarts n r e = record { microframes = refl; «in_transfers» = rise-none n _; «out_transfers» = rise-none n _; «in_frames» = rise-none n _; «out_frames» = rise-none n _; «bad_blocks» = rise-none n _; «midi_dtds» = rise-none n _; «midi_asleep» = rise-none n _; «out_underruns» = rise-none n _; «midi_packets_out» = rise-none n _; «vendor_in_bytes» = rise-none 0 _; restarts = rise-count n _; enumerations = rise-none n _ }
-raised-count enumerations n r e = record { microframes = refl; «in_transfers» = rise-none n _; «out_transfers» = rise-none n _; «in_frames» = rise-none n _; «out_frames» = rise-none n _; «bad_blocks» = rise-none n _; «midi_dtds» = rise-none n _; «midi_asleep» = rise-none n _; «out_underruns» = rise-none n _; «midi_packets_out» = rise-none n _; «vendor_in_bytes» = rise-none 0 _; restarts = rise-none n _; enumerations = rise-count n _ }
+raised-count c n r e =
+    let few = and-true (isOther c) _ e in
+    record { microframes = other-same c n r (few .0); rises = λ k. rise-more _ _ _ _ (fits k (few .1) (eqb k (place c)) refl) (raised-at (place c) n r k) }
+  where
+    fits : (k : ℕ) → not (eqb (place c) (place «vendor_in_bytes»)) ≡ true → (b : Bool) → eqb k (place c) ≡ b → pick b n 0 ≤ most n 0 k
+    fits k f true i = subst (λ (j : ℕ). n ≤ most n 0 j) (sym (eqb-true k (place c) i)) (other (eqb (place c) (place «vendor_in_bytes»)) f)
+      where
+        other : (v : Bool) → not v ≡ true → n ≤ pick v 0 n
+        other true g = absurd (false-true g)
+        other false g = omega arith
+    fits k f false i = omega arith
 
 raised-vendor : (n : ℕ) (r : Stats) → Raised 0 n r (counted «vendor_in_bytes» n r)
-unfolding counted
-raised-vendor n r = record { microframes = refl; «in_transfers» = rise-none 0 _; «out_transfers» = rise-none 0 _; «in_frames» = rise-none 0 _; «out_frames» = rise-none 0 _; «bad_blocks» = rise-none 0 _; «midi_dtds» = rise-none 0 _; «midi_asleep» = rise-none 0 _; «out_underruns» = rise-none 0 _; «midi_packets_out» = rise-none 0 _; «vendor_in_bytes» = rise-count n _; restarts = rise-none 0 _; enumerations = rise-none 0 _ }
+raised-vendor n r = record { microframes = other-same «vendor_in_bytes» n r refl; rises = raised-at (place «vendor_in_bytes») n r }
 
 -- ---- what each form of a step raises
 
@@ -187,11 +187,11 @@ raises-one c e n = raises-count c e (λ w. n) n (λ w. omega arith)
 -- ---- on the way to control
 
 raises-sleeps : Raises 1 0 sleeps
-unfolding sleeps isFew
+unfolding sleeps
 raises-sleeps = raises-one «midi_asleep» refl 1
 
 raises-returns : Raises 1 0 returns
-unfolding returns isFew apply
+unfolding returns apply
 raises-returns =
     raises-then 0 0 1 0 _ _ (raises-other 0 0 _ (λ w. refl))
     (raises-then 0 0 1 0 _ _ (raises-still 0 0 _ still-forgets) (raises-one restarts refl 1))
@@ -204,7 +204,7 @@ raises-cable false = raises-when 1 0 _ _ (raises-then 0 0 1 0 _ _ (raises-other 
 -- ---- control
 
 raises-configured : Raises 1 0 configured
-unfolding configured isFew apply
+unfolding configured apply
 raises-configured = raises-when 1 0 _ _ (raises-then 0 0 1 0 _ _ (raises-other 0 0 _ (λ w. refl)) (raises-one enumerations refl 1))
 
 raises-controls : (stack : Bool) → Raises 1 0 (controls stack)
@@ -222,7 +222,7 @@ raises-enumerates c = raises-then 0 0 1 0 _ _ (raises-still 0 0 startsFrame stil
 
 -- as many descriptors as reads
 raises-reads : (n : ℕ) → Raises n 0 (reads n)
-unfolding reads isFew apply
+unfolding reads apply
 raises-reads zero = raises-nothing 0 0
 raises-reads (suc n) =
     let one-more : 1 + (0 + n) ≤ suc n = omega arith in
@@ -248,7 +248,7 @@ raises-midi false every =
     (raises-here 8 0 _ (λ v. raises-more _ 0 8 0 _ (reads-few every (now v)) (omega arith) (raises-reads (readsAt every (now v)))))
 
 raises-drains : (n : ℕ) → Raises (n / 4) 0 (drainsMidi n)
-unfolding drainsMidi isFew apply
+unfolding drainsMidi apply
 raises-drains n =
     raises-here (n / 4) 0 _
     (λ v. raises-more (0 + n / 4) 0 (n / 4) 0 _ (omega arith) (omega arith)
@@ -284,13 +284,13 @@ raises-others c t =
 -- ---- the audio stream
 
 raises-good : (b : List ℕ) → Raises 7 0 (keepsGood b)
-unfolding keepsGood isFew apply
+unfolding keepsGood apply
 raises-good b =
     raises-then 0 0 7 0 _ _ (raises-still 0 0 _ (λ s. still-frames s 7 _))
     (raises-then 7 0 0 0 _ _ (raises-one «in_frames» refl 7) (raises-other 0 0 _ (λ w. refl)))
 
 raises-block : (b : List ℕ) → Raises 7 0 (keepsBlock b)
-unfolding keepsBlock isFew
+unfolding keepsBlock
 raises-block b =
     raises-pick 7 0 (good b) _ _ (raises-good b) (raises-more 1 0 7 0 _ (omega arith) (omega arith) (raises-one «bad_blocks» refl 1))
 
@@ -312,7 +312,7 @@ blocks-le (suc n) (b ∷ bs) =
     omega arith
 
 raises-run : (r : Run) → length (r .bytes) ≤ 32767 → Raises 631 0 (keepsRun r)
-unfolding keepsRun isFew
+unfolding keepsRun
 raises-run r l =
     let k = blocks-le (length (r .bytes)) (r .bytes) in
     raises-when 631 0 _ _
@@ -330,7 +330,7 @@ raises-hears =
     (raises-if 631 0 overBudget nothing _ (raises-nothing 631 0) (raises-then 0 0 631 0 _ _ (raises-still 0 0 clearsBudget still-clears) raises-inputs))
 
 raises-sends : (bs : List ℕ) → Raises 15 0 (sendsBlock bs)
-unfolding sendsBlock isFew apply
+unfolding sendsBlock apply
 raises-sends bs =
     raises-then 0 0 15 0 _ _ (raises-other 0 0 _ (λ w. refl))
     (raises-then 7 0 8 0 _ _ (raises-count «out_underruns» refl (λ w. 7 - w .state .audio .sending .len) 7 (λ w. omega arith))
@@ -423,72 +423,44 @@ grown n x x′ few e l = let h = leb-true x (times 32767 n) e in le-leb x′ (ti
 at-most : (x x′ : ℕ) → x′ ≤ x + 784 → x′ ≤ x + 32767
 at-most x x′ l = omega arith
 
-pub record Below (n : ℕ) (r : Stats) : Type 0 where
-  pub «in_transfers» : leb (r .«in_transfers») (times 32767 n) ≡ true
-  pub «out_transfers» : leb (r .«out_transfers») (times 32767 n) ≡ true
-  pub «in_frames» : leb (r .«in_frames») (times 32767 n) ≡ true
-  pub «out_frames» : leb (r .«out_frames») (times 32767 n) ≡ true
-  pub «bad_blocks» : leb (r .«bad_blocks») (times 32767 n) ≡ true
-  pub «midi_dtds» : leb (r .«midi_dtds») (times 32767 n) ≡ true
-  pub «midi_asleep» : leb (r .«midi_asleep») (times 32767 n) ≡ true
-  pub «out_underruns» : leb (r .«out_underruns») (times 32767 n) ≡ true
-  pub «midi_packets_out» : leb (r .«midi_packets_out») (times 32767 n) ≡ true
-  pub «vendor_in_bytes» : leb (r .«vendor_in_bytes») (times 32767 n) ≡ true
-  pub restarts : leb (r .restarts) (times 32767 n) ≡ true
-  pub enumerations : leb (r .enumerations) (times 32767 n) ≡ true
+-- each counter behind that of the microframes, after n of them
+abbrev Below : ℕ → Stats → Type 0
+Below n r = (k : ℕ) → k < 12 → leb (counterAt (suc k) r) (times 32767 n) ≡ true
 
-pub below-of : (r : Stats) → countersOk r ≡ true → Below (r .microframes) r
-unfolding countersOk
-below-of r e =
-    let p = and-true (leb (r .«in_transfers») (times 32767 (r .microframes)) && (leb (r .«out_transfers») (times 32767 (r .microframes)) && (leb (r .«in_frames») (times 32767 (r .microframes)) && (leb (r .«out_frames») (times 32767 (r .microframes)) && leb (r .«bad_blocks») (times 32767 (r .microframes)))))) _ e in
-    let a0 = and-true (leb (r .«in_transfers») (times 32767 (r .microframes))) _ (p .0) in
-    let a1 = and-true (leb (r .«out_transfers») (times 32767 (r .microframes))) _ (a0 .1) in
-    let a2 = and-true (leb (r .«in_frames») (times 32767 (r .microframes))) _ (a1 .1) in
-    let a3 = and-true (leb (r .«out_frames») (times 32767 (r .microframes))) _ (a2 .1) in
-    let b0 = and-true (leb (r .«midi_dtds») (times 32767 (r .microframes))) _ (p .1) in
-    let b1 = and-true (leb (r .«midi_asleep») (times 32767 (r .microframes))) _ (b0 .1) in
-    let b2 = and-true (leb (r .«out_underruns») (times 32767 (r .microframes))) _ (b1 .1) in
-    let b3 = and-true (leb (r .«midi_packets_out») (times 32767 (r .microframes))) _ (b2 .1) in
-    let b4 = and-true (leb (r .«vendor_in_bytes») (times 32767 (r .microframes))) _ (b3 .1) in
-    let b5 = and-true (leb (r .restarts) (times 32767 (r .microframes))) _ (b4 .1) in
-    record { «in_transfers» = a0 .0; «out_transfers» = a1 .0; «in_frames» = a2 .0; «out_frames» = a3 .0; «bad_blocks» = a3 .1; «midi_dtds» = b0 .0; «midi_asleep» = b1 .0; «out_underruns» = b2 .0; «midi_packets_out» = b3 .0; «vendor_in_bytes» = b4 .0; restarts = b5 .0; enumerations = b5 .1 }
-
-pub below-ok : (r : Stats) → Below (r .microframes) r → countersOk r ≡ true
-unfolding countersOk
-below-ok r b = simp (b .«in_transfers», b .«out_transfers», b .«in_frames», b .«out_frames», b .«bad_blocks», b .«midi_dtds», b .«midi_asleep», b .«out_underruns», b .«midi_packets_out», b .«vendor_in_bytes», b .restarts, b .enumerations)
-
-module _ (n : ℕ) (few : n < MOST) (r r′ : Stats) (below : Below n r) (rises : Raised 784 32767 (counted microframes 1 r) r′) where
-  below-next : Below (n + 1) r′
-  unfolding counted
-  below-next =
-      record { «in_transfers» = grown n _ _ few (below .«in_transfers») (at-most _ _ (rises .«in_transfers» .high)); «out_transfers» = grown n _ _ few (below .«out_transfers») (at-most _ _ (rises .«out_transfers» .high)); «in_frames» = grown n _ _ few (below .«in_frames») (at-most _ _ (rises .«in_frames» .high)); «out_frames» = grown n _ _ few (below .«out_frames») (at-most _ _ (rises .«out_frames» .high)); «bad_blocks» = grown n _ _ few (below .«bad_blocks») (at-most _ _ (rises .«bad_blocks» .high)); «midi_dtds» = grown n _ _ few (below .«midi_dtds») (at-most _ _ (rises .«midi_dtds» .high)); «midi_asleep» = grown n _ _ few (below .«midi_asleep») (at-most _ _ (rises .«midi_asleep» .high)); «out_underruns» = grown n _ _ few (below .«out_underruns») (at-most _ _ (rises .«out_underruns» .high)); «midi_packets_out» = grown n _ _ few (below .«midi_packets_out») (at-most _ _ (rises .«midi_packets_out» .high)); «vendor_in_bytes» = grown n _ _ few (below .«vendor_in_bytes») (rises .«vendor_in_bytes» .high); restarts = grown n _ _ few (below .restarts) (at-most _ _ (rises .restarts .high)); enumerations = grown n _ _ few (below .enumerations) (at-most _ _ (rises .enumerations .high)) }
-
-pub counters-kept : (t : ℕ) (w : World) → countersOk (w .state .stats) ≡ true → w .state .stats .microframes < MOST → countersOk (left (microframe t) w .state .stats) ≡ true
-unfolding counted
-counters-kept t w e few =
-    let up = counters-raised t w in
-    let more : left (microframe t) w .state .stats .microframes ≡ w .state .stats .microframes + 1 = up .microframes ∙ one-more in
-    below-ok (left (microframe t) w .state .stats)
-    (rw more (below-next (w .state .stats .microframes) few (w .state .stats) (left (microframe t) w .state .stats) (below-of (w .state .stats) e) up))
+few-a-microframe : (k : ℕ) → most 784 32767 k ≤ 32767
+few-a-microframe k = by-place (eqb k (place «vendor_in_bytes»))
   where
-    one-more : wrapped (w .state .stats .microframes + 1) ≡ w .state .stats .microframes + 1
-    one-more = omega arith
+    by-place : (v : Bool) → pick v 32767 784 ≤ 32767
+    by-place true = omega arith
+    by-place false = omega arith
+
+-- the count of microframes is none of them
+counted-before : (k : ℕ) (r : Stats) → counterAt (suc k) (counted microframes 1 r) ≡ counterAt (suc k) r
+counted-before k r = raised-other (suc k) 0 1 r (λ e. absurd (omega (arith, e)))
+
+below-next : (n : ℕ) → n < MOST → (r r′ : Stats) → Below n r → Raised 784 32767 (counted microframes 1 r) r′ → Below (n + 1) r′
+below-next n few r r′ below rises k l =
+    let up = rises .rises (suc k) .high in
+    let most-is = few-a-microframe (suc k) in
+    grown n _ _ few (below k l) (omega (arith, up, most-is, counted-before k r))
+
+pub counters-kept : (t : ℕ) (w : World) → countersOk (w .state .stats) ≡ true → counterOf microframes (w .state .stats) < MOST → countersOk (left (microframe t) w .state .stats) ≡ true
+unfolding countersOk
+counters-kept t w e few =
+    let r = w .state .stats in
+    let n = counterOf microframes r in
+    let up = counters-raised t w in
+    let more : counterOf microframes (left (microframe t) w .state .stats) ≡ n + 1 = up .microframes ∙ raised-same 0 1 r ∙ one-more n few in
+    subst (λ (k : ℕ). noneAbove (times 32767 k) (left (microframe t) w .state .stats) 12 ≡ true) (sym more)
+    (all-below (times 32767 (n + 1)) (left (microframe t) w .state .stats) 12 (below-next n few r _ (counter-below r e) up))
+  where
+    one-more : (n : ℕ) → n < MOST → wrapped (n + 1) ≡ n + 1
+    one-more n few = omega arith
 
 -- ---- none wraps: each is no less than before, and at most 32,767 more
 
-pub record Risen (r r′ : Stats) : Type 0 where
-  pub «in_transfers» : (r .«in_transfers» ≤ r′ .«in_transfers») × (r′ .«in_transfers» ≤ r .«in_transfers» + 32767)
-  pub «out_transfers» : (r .«out_transfers» ≤ r′ .«out_transfers») × (r′ .«out_transfers» ≤ r .«out_transfers» + 32767)
-  pub «in_frames» : (r .«in_frames» ≤ r′ .«in_frames») × (r′ .«in_frames» ≤ r .«in_frames» + 32767)
-  pub «out_frames» : (r .«out_frames» ≤ r′ .«out_frames») × (r′ .«out_frames» ≤ r .«out_frames» + 32767)
-  pub «bad_blocks» : (r .«bad_blocks» ≤ r′ .«bad_blocks») × (r′ .«bad_blocks» ≤ r .«bad_blocks» + 32767)
-  pub «midi_dtds» : (r .«midi_dtds» ≤ r′ .«midi_dtds») × (r′ .«midi_dtds» ≤ r .«midi_dtds» + 32767)
-  pub «midi_asleep» : (r .«midi_asleep» ≤ r′ .«midi_asleep») × (r′ .«midi_asleep» ≤ r .«midi_asleep» + 32767)
-  pub «out_underruns» : (r .«out_underruns» ≤ r′ .«out_underruns») × (r′ .«out_underruns» ≤ r .«out_underruns» + 32767)
-  pub «midi_packets_out» : (r .«midi_packets_out» ≤ r′ .«midi_packets_out») × (r′ .«midi_packets_out» ≤ r .«midi_packets_out» + 32767)
-  pub «vendor_in_bytes» : (r .«vendor_in_bytes» ≤ r′ .«vendor_in_bytes») × (r′ .«vendor_in_bytes» ≤ r .«vendor_in_bytes» + 32767)
-  pub restarts : (r .restarts ≤ r′ .restarts) × (r′ .restarts ≤ r .restarts + 32767)
-  pub enumerations : (r .enumerations ≤ r′ .enumerations) × (r′ .enumerations ≤ r .enumerations + 32767)
+abbrev pub Risen : Stats → Stats → Type 0
+Risen r r′ = (k : ℕ) → k < 12 → (counterAt (suc k) r ≤ counterAt (suc k) r′) × (counterAt (suc k) r′ ≤ counterAt (suc k) r + 32767)
 
 risen-one : (k n x x′ : ℕ) → k ≤ 32767 → leb x (times 32767 n) ≡ true → Rise k x x′ → (x ≤ x′) × (x′ ≤ x + 32767)
 risen-one k n x x′ l e rise =
@@ -497,8 +469,7 @@ risen-one k n x x′ l e rise =
     (rise .low (omega arith), omega arith)
 
 pub counters-risen : (t : ℕ) (w : World) → countersOk (w .state .stats) ≡ true → Risen (w .state .stats) (left (microframe t) w .state .stats)
-unfolding counted
-counters-risen t w e =
-    let b = below-of (w .state .stats) e in
-    let up = counters-raised t w in
-    record { «in_transfers» = risen-one 784 _ _ _ (omega arith) (b .«in_transfers») (up .«in_transfers»); «out_transfers» = risen-one 784 _ _ _ (omega arith) (b .«out_transfers») (up .«out_transfers»); «in_frames» = risen-one 784 _ _ _ (omega arith) (b .«in_frames») (up .«in_frames»); «out_frames» = risen-one 784 _ _ _ (omega arith) (b .«out_frames») (up .«out_frames»); «bad_blocks» = risen-one 784 _ _ _ (omega arith) (b .«bad_blocks») (up .«bad_blocks»); «midi_dtds» = risen-one 784 _ _ _ (omega arith) (b .«midi_dtds») (up .«midi_dtds»); «midi_asleep» = risen-one 784 _ _ _ (omega arith) (b .«midi_asleep») (up .«midi_asleep»); «out_underruns» = risen-one 784 _ _ _ (omega arith) (b .«out_underruns») (up .«out_underruns»); «midi_packets_out» = risen-one 784 _ _ _ (omega arith) (b .«midi_packets_out») (up .«midi_packets_out»); «vendor_in_bytes» = risen-one 32767 _ _ _ (omega arith) (b .«vendor_in_bytes») (up .«vendor_in_bytes»); restarts = risen-one 784 _ _ _ (omega arith) (b .restarts) (up .restarts); enumerations = risen-one 784 _ _ _ (omega arith) (b .enumerations) (up .enumerations) }
+counters-risen t w e k l =
+    let r = w .state .stats in
+    risen-one _ _ _ _ (few-a-microframe (suc k)) (counter-below r e k l)
+    (subst (λ (x : ℕ). Rise (most 784 32767 (suc k)) x (counterAt (suc k) (left (microframe t) w .state .stats))) (counted-before k r) (counters-raised t w .rises (suc k)))

@@ -1,10 +1,10 @@
 -- What every change of a microframe keeps, the microframe keeps: one walk over its steps serves every property.
 use Prim.Native.Nat.{ℕ, zero, suc, _-_, _*_, _/_, _%_, _≤_, min}
 use mathlib.Core.Path.{_≡_, sym, subst}
-use mathlib.Core.Bool.{Bool, true, false}
+use mathlib.Core.Bool.{Bool, true, false, not}
 use mathlib.Core.List.{List, [], _∷_, map}
 use native.Mathlib.Omega.{arith}
-use lib.Dec.{ltb}
+use lib.Dec.{eqb, ltb}
 use Rattle.bus.specs.Steps.{replay, replay-append, exec-then, exec-choose}
 use Rattle.bus.specs.Stores.{Store, BusStep, droppedBy}
 use Rattle.usbdev.specs.Registers.{PageStep, lifted}
@@ -15,7 +15,9 @@ use Rattle.record.specs.declared.Phase.{Phase}
 use Rattle.record.specs.declared.Phase.the-variants.{Idle, Vbus, Reset, Enumerate, Stream}
 use Rattle.record.specs.declared.Control.{Control}
 use Rattle.record.specs.declared.Settings.{Settings}
-use Rattle.record.specs.Record.{Counter, microframes, «in_transfers», «out_transfers», «in_frames», «out_frames», «bad_blocks», «midi_dtds», «midi_asleep», «out_underruns», «midi_packets_out», «vendor_in_bytes», restarts, enumerations}
+use Rattle.record.specs.Record.{Stats, Counter, place, counterOf, counted, microframes, «in_transfers», «out_transfers», «in_frames», «out_frames», «bad_blocks», «midi_dtds», «midi_asleep», «out_underruns», «midi_packets_out», «vendor_in_bytes», restarts, enumerations}
+use Rattle.bits.proofs.Tests.{false-true}
+use Rattle.record.proofs.Counters.{raised-other}
 use Rattle.record.specs.World.{World, busOf}
 use Rattle.record.specs.Change.{Change, bus, ran, lost, count, uf, timers, phase, started, gone, suspended, wasRunning, credit, budget, counter, block, control, queued, popped, pushed, cleared, reply, device, config, forgot, midi, serial, received, frame, taken, apply, Step, left, _then_, nothing, if, when, one, here, onBus, onPage, ranStores, runs}
 use Rattle.model.specs.Phases.{now, counts, ticks, dropsRequest, forgets, returns, cable, sleeps, suspends, enters, departs, leaves, idles, powers, resets, startsFrame}
@@ -28,19 +30,11 @@ use Rattle.kept.proofs.Holding.{Holds, by-case, holds-then, holds-seq, 
 
 -- every counter but the microframes'
 abbrev pub isOther : Counter → Bool
-isOther microframes = false
-isOther «in_transfers» = true
-isOther «out_transfers» = true
-isOther «in_frames» = true
-isOther «out_frames» = true
-isOther «bad_blocks» = true
-isOther «midi_dtds» = true
-isOther «midi_asleep» = true
-isOther «out_underruns» = true
-isOther «midi_packets_out» = true
-isOther «vendor_in_bytes» = true
-isOther restarts = true
-isOther enumerations = true
+isOther c = not (eqb (place c) (place microframes))
+
+-- no other counter is the microframes'
+pub other-same : (c : Counter) (n : ℕ) (r : Stats) → isOther c ≡ true → counterOf microframes (counted c n r) ≡ counterOf microframes r
+other-same c n r e = raised-other 0 (place c) n r (λ z. false-true (subst (λ (x : ℕ). not (eqb x 0) ≡ true) (sym z) e))
 
 -- each change as a microframe makes it on its way to control, behind its counts and timers: a phase starts now
 pub record Early (P : World → Type 0) : Type 0 where

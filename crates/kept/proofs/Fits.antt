@@ -117,12 +117,12 @@ stored-bytes (irq l ∷ ss) b h k = stored-bytes ss (store (onBus (irq l)) b) h 
 -- ---- the steps before control
 
 abbrev pub InBytes : World → Type 0
-InBytes w = Bytes (w .memory)
+InBytes w = Bytes (w .lent .memory)
 
 holds-page : (f : PageStep) → FitsPage f → Holds InBytes (onPage f)
 unfolding onPage
 holds-page f p w h =
-    subst (λ (x : World). Bytes (x .memory)) (sym (replay-bus (lifted f (busOf w)) w))
+    subst (λ (x : World). Bytes (x .lent .memory)) (sym (replay-bus (lifted f (busOf w)) w))
     (stored-bytes (f _) (busOf w) h (p _ (h .page)))
 
 page-resetting : (k c : ℕ) → FitsPage (resetting k c)

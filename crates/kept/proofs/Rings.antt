@@ -47,7 +47,7 @@ abbrev ReceivedOk : World → Type 0
 ReceivedOk w = ringOk (w .state .audio .received) FRAMES ≡ true
 
 abbrev SendingOk : World → Type 0
-SendingOk w = ringOk (w .state .audio .sending) (length (w .sending) / WORDS) ≡ true
+SendingOk w = ringOk (w .state .audio .sending) (length (w .lent .sending) / WORDS) ≡ true
 
 -- what keeps the one, and what keeps the other
 abbrev Keeping : World → World → Type 0
@@ -83,7 +83,7 @@ change-rings (midi n) w = (λ h. h, λ h. h)
 change-rings (serial n) w = (λ h. h, λ h. h)
 change-rings (received bs) w = (λ h. h, λ h. h)
 change-rings (frame f) w = (framed (w .state .audio .received), λ h. h)
-change-rings (taken n) w = (λ h. h, fewer (length (w .sending) / WORDS) n (w .state .audio .sending))
+change-rings (taken n) w = (λ h. h, fewer (length (w .lent .sending) / WORDS) n (w .state .audio .sending))
 
 list-rings : (cs : List Change) (w : World) → Keeping w (replay apply cs w)
 list-rings [] w = (λ h. h, λ h. h)
@@ -98,7 +98,7 @@ pub received-kept : (t : ℕ) (w : World) → ringOk (w .state .audio .received)
 received-kept t w = list-rings (microframe t w) w .0
 
 -- the ring that is lent keeps its length
-pub sending-kept : (t : ℕ) (w : World) → ringOk (w .state .audio .sending) (length (w .sending) / WORDS) ≡ true → ringOk (left (microframe t) w .state .audio .sending) (length (w .sending) / WORDS) ≡ true
+pub sending-kept : (t : ℕ) (w : World) → ringOk (w .state .audio .sending) (length (w .lent .sending) / WORDS) ≡ true → ringOk (left (microframe t) w .state .audio .sending) (length (w .lent .sending) / WORDS) ≡ true
 sending-kept t w h =
-    let same : length (left (microframe t) w .sending) ≡ length (w .sending) = ap (λ (z : Shape). z .sending) (shape-kept t w) in
+    let same : length (left (microframe t) w .lent .sending) ≡ length (w .lent .sending) = ap (λ (z : Shape). z .sending) (shape-kept t w) in
     rw same at (list-rings (microframe t w) w .1 h)

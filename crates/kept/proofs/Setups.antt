@@ -43,22 +43,22 @@ use Rattle.kept.proofs.Queue.{made-every, made-all, other-every, other-
 -- ---- the bounds that a microframe keeps
 
 pub record Requests (w : World) : Type 0 where
-  pub setups : setupsOk (w .state .lengths .setups) (w .setups) ≡ true
+  pub setups : setupsOk (w .state .lengths .setups) (w .own .setups) ≡ true
   pub enumeration : enumeratingOk (w .state) ≡ true
   pub request : requestOk (w .state .control) (w .state .lengths .setups) (w .state .port .uf) ≡ true
   pub device : leb (w .state .lengths .device) 64 ≡ true
-  pub config : leb (w .state .lengths .config) (length (w .config)) ≡ true
+  pub config : leb (w .state .lengths .config) (length (w .lent .config)) ≡ true
   pub second : w .state .control .second < 2 ^ 32
 
 -- what else an entry has: a count that goes up, areas of their lengths, and bytes in them
 pub record Entry (w : World) : Type 0 where
   pub uf : w .state .port .uf < 2 ^ 40
-  pub setups-length : length (w .setups) ≡ 2056
-  pub reply-length : 65535 ≤ length (w .reply)
-  pub config-length : 65535 ≤ length (w .config)
-  pub memory-bytes : Bytes (w .memory)
-  pub setups-bytes : AllBytes (w .setups)
-  pub reply-bytes : AllBytes (w .reply)
+  pub setups-length : length (w .own .setups) ≡ 2056
+  pub reply-length : 65535 ≤ length (w .lent .reply)
+  pub config-length : 65535 ≤ length (w .lent .config)
+  pub memory-bytes : Bytes (w .lent .memory)
+  pub setups-bytes : AllBytes (w .own .setups)
+  pub reply-bytes : AllBytes (w .lent .reply)
 
 -- ---- what a request that the source makes asks for
 
@@ -125,7 +125,7 @@ module _ (most : ℕ) (long : 65535 ≤ most) where
     second : k .control .second < 2 ^ 32
     bytes : AllBytes (k .queue)
 
-  asks-from : (w : World) → Requests w → w .state .lengths .config ≤ most → AllBytes (w .setups) → Asks (askedOf w)
+  asks-from : (w : World) → Requests w → w .state .lengths .config ≤ most → AllBytes (w .own .setups) → Asks (askedOf w)
   unfolding setupsOk enumeratingOk requestOk
   asks-from w h few bytes =
       let n = w .state .lengths .setups in
@@ -133,8 +133,8 @@ module _ (most : ℕ) (long : 65535 ≤ most) where
       let lists = and-second (leb n 257) _ (h .setups) in
       record {
         few = leb-true n 257 (and-first (leb n 257) _ (h .setups));
-        all-made = λ i l. made-every (w .setups) n i (and-first (allMade (w .setups) n) _ lists) l;
-        last-asks = λ i l. other-every (w .setups) (n - 1) i (and-second (allMade (w .setups) n) _ lists) (omega arith);
+        all-made = λ i l. made-every (w .own .setups) n i (and-first (allMade (w .own .setups) n) _ lists) l;
+        last-asks = λ i l. other-every (w .own .setups) (n - 1) i (and-second (allMade (w .own .setups) n) _ lists) (omega arith);
         idle = λ e.
             let none = or-other (enumerating (w .state .phase)) _ (h .enumeration) e in
             (eqb-true n 0 (and-first (eqb n 0) _ none), not-true (c .on) (and-second (eqb n 0) _ none));
@@ -154,7 +154,7 @@ module _ (most : ℕ) (long : 65535 ≤ most) where
         bytes = bytes;
       }
 
-  asks-to : (w : World) → leb (w .state .lengths .config) (length (w .config)) ≡ true → Asks (askedOf w) → Requests w
+  asks-to : (w : World) → leb (w .state .lengths .config) (length (w .lent .config)) ≡ true → Asks (askedOf w) → Requests w
   unfolding setupsOk enumeratingOk requestOk
   asks-to w inside a =
       let n = w .state .lengths .setups in
@@ -162,7 +162,7 @@ module _ (most : ℕ) (long : 65535 ≤ most) where
       record {
         setups =
             and-both (leb n 257) _ (le-leb n 257 (a .few))
-            (and-both (allMade (w .setups) n) _ (made-all (w .setups) n (a .all-made)) (other-all (w .setups) (n - 1) (λ i l. a .last-asks i (omega arith))));
+            (and-both (allMade (w .own .setups) n) _ (made-all (w .own .setups) n (a .all-made)) (other-all (w .own .setups) (n - 1) (λ i l. a .last-asks i (omega arith))));
         enumeration =
             or-by (enumerating (w .state .phase)) _
             (λ e. and-both (eqb n 0) _ (eq-eqb n 0 (a .idle e .0)) (ap not (a .idle e .1)));
@@ -491,7 +491,7 @@ module _ (most : ℕ) (long : 65535 ≤ most) where
       (let h′ = asking-reply (askedOf w) (r .bytes) b h in
       cases AskingAt _ toStatus nothing _ (λ e. status-asking _ h′) (λ e. unchanged AskingAt _ h′)))
 
-  data-asking : (w : World) → Bytes (w .memory) → AskingAt w → AskingAt (left dataStage w)
+  data-asking : (w : World) → Bytes (w .lent .memory) → AskingAt w → AskingAt (left dataStage w)
   unfolding dataStage
   data-asking w b h =
       cases AskingAt _ _ _ w (λ e. status-asking w h)
@@ -525,7 +525,7 @@ module _ (most : ℕ) (long : 65535 ≤ most) where
   unfolding configures here one apply
   configures-asks true w e h =
       let h′ = finishing-config (askedOf w) h in
-      let bytes = bytes-take (w .state .control .got) (w .reply) (h .areas .reply-bytes) in
+      let bytes = bytes-take (w .state .control .got) (w .lent .reply) (h .areas .reply-bytes) in
       let c = parsed (replied w) in
       holds-seq AsksAt _ _ w
       (chooses-asks (left (one (λ x. config (replied x))) w) c (suc (length (c .pairs))) (good-chosen (c .pairs) (pairs-bytes (replied w) bytes)) (omega (arith, pairs-few (replied w) bytes)) e h′)
@@ -569,7 +569,7 @@ module _ (most : ℕ) (long : 65535 ≤ most) where
       (λ e. after-run AsksAt (endpoint 0 false) [] (statusEnds stack) w (λ v s. ends-asks stack _ v (subst Asking (sym s) h)))
       (λ e. after-run AsksAt (endpoint 0 true) [] (statusEnds stack) w (λ v s. ends-asks stack _ v (subst Asking (sym s) h)))
 
-  stages-asks : (stack : Bool) (w : World) → Bytes (w .memory) → AskingAt w → AsksAt (left (stages stack) w)
+  stages-asks : (stack : Bool) (w : World) → Bytes (w .lent .memory) → AskingAt w → AsksAt (left (stages stack) w)
   unfolding stages
   stages-asks stack w b h =
       let v = left dataStage w in
@@ -606,7 +606,7 @@ module _ (most : ℕ) (long : 65535 ≤ most) where
   posts-asks : (w : World) → Areas (askedOf w) → (w .state .lengths .setups ≡ 0 → ⊥) → AsksAt w → AsksAt (left posts w)
   unfolding posts here
   posts-asks w s some a =
-      subst Asks (sym (posted-asked (queueHead (endpoint 0 false) (w .memory .page)) (little (w .setups) 0) (little (w .setups) 4) w))
+      subst Asks (sym (posted-asked (queueHead (endpoint 0 false) (w .lent .memory .page)) (little (w .own .setups) 0) (little (w .own .setups) 4) w))
       (asks-posted (askedOf w) s some a)
 
   configured-asks : (w : World) → w .state .lengths .setups ≡ 0 → w .state .control .on ≡ false → AsksAt w → AsksAt (left configured w)
@@ -620,7 +620,7 @@ module _ (most : ℕ) (long : 65535 ≤ most) where
   record Ready (w : World) : Type 0 where
     asks : Asks (askedOf w)
     areas : Areas (askedOf w)
-    bytes : Bytes (w .memory)
+    bytes : Bytes (w .lent .memory)
 
   unstalls-asks : (w : World) → AsksAt w → AsksAt (left unstalls w)
   unfolding unstalls
@@ -655,7 +655,7 @@ module _ (most : ℕ) (long : 65535 ≤ most) where
       (record { asks = asks-later (askedOf w) (wrapped (now w + 1)) later (h .asks); areas = h .areas; bytes = h .bytes })
 
   -- a host that forgets
-  ready-forgets : (w : World) → w .state .control .second < 2 ^ 32 → AllBytes (w .setups) → Areas (askedOf w) → Bytes (w .memory) → Ready (left forgets w)
+  ready-forgets : (w : World) → w .state .control .second < 2 ^ 32 → AllBytes (w .own .setups) → Areas (askedOf w) → Bytes (w .lent .memory) → Ready (left forgets w)
   unfolding forgets dropsRequest one apply
   ready-forgets w l q s b =
       holds-seq Ready _ _ w (holds-seq Ready _ _ _ (holds-seq Ready _ _ _ (holds-seq Ready _ _ _
@@ -673,7 +673,7 @@ module _ (most : ℕ) (long : 65535 ≤ most) where
   ready-cable w h =
       cases Ready _ _ nothing w (λ e. holds-seq Ready _ _ w (ready-returns _ (record { asks = h .asks; areas = h .areas; bytes = h .bytes }))) (λ e. unchanged Ready w h)
 
-  vbus-forgets : (w : World) → w .state .control .second < 2 ^ 32 → AllBytes (w .setups) → Areas (askedOf w) → Bytes (w .memory) → Ready (left forgets (left (enters Vbus) w))
+  vbus-forgets : (w : World) → w .state .control .second < 2 ^ 32 → AllBytes (w .own .setups) → Areas (askedOf w) → Bytes (w .lent .memory) → Ready (left forgets (left (enters Vbus) w))
   unfolding enters one apply
   vbus-forgets w l q s b = subst (λ (v : World). Ready (left forgets v)) (sym (exec-then apply _ _ w)) (ready-forgets _ l q s b)
 
@@ -709,7 +709,7 @@ module _ (most : ℕ) (long : 65535 ≤ most) where
     powers-asks rs = cases AsksAt _ _ nothing w (λ e. phase-asks _ Reset) (λ e. unchanged AsksAt w a)
 
     -- and then the first setups
-    first-asks : (f : PageStep) → length (w .setups) ≡ 2056 → AsksAt (left (onPage f then enters Enumerate then one (λ x. queued firstSetups)) w)
+    first-asks : (f : PageStep) → length (w .own .setups) ≡ 2056 → AsksAt (left (onPage f then enters Enumerate then one (λ x. queued firstSetups)) w)
     first-asks f size =
         subst Asks
         (sym
@@ -720,7 +720,7 @@ module _ (most : ℕ) (long : 65535 ≤ most) where
         (asks-queued (askedOn (phase Enumerate) (askedOf w)) firstSetups 4 good-first (omega arith) size refl (a .idle none .0) (a .idle none .1)
         (asks-phase (askedOf w) Enumerate (a .idle none .0) (a .idle none .1) a))
 
-    resets-asks : length (w .setups) ≡ 2056 → AsksAt (left resets w)
+    resets-asks : length (w .own .setups) ≡ 2056 → AsksAt (left resets w)
     unfolding resets
     resets-asks size = cases AsksAt _ _ nothing w (λ e. first-asks _ size) (λ e. unchanged AsksAt w a)
 
@@ -789,15 +789,15 @@ module _ (most : ℕ) (long : 65535 ≤ most) where
 pub requests-kept : (t : ℕ) (w : World) → Requests w → Entry w → Requests (left (microframe t) w)
 requests-kept t w r e =
     let v = left (microframe t) w in
-    let most = length (w .config) in
-    let same : length (v .config) ≡ most = ap (λ (x : Shape). x .config) (shape-kept t w) in
+    let most = length (w .lent .config) in
+    let same : length (v .lent .config) ≡ most = ap (λ (x : Shape). x .config) (shape-kept t w) in
     let a = asks-microframe most (e .config-length) t w r e (leb-true (w .state .lengths .config) most (r .config)) in
-    asks-to most (e .config-length) v (le-leb (v .state .lengths .config) (length (v .config)) (omega (arith, a .config, same))) a
+    asks-to most (e .config-length) v (le-leb (v .state .lengths .config) (length (v .lent .config)) (omega (arith, a .config, same))) a
 
 -- the array of setups holds bytes again
-pub setups-kept : (t : ℕ) (w : World) → Requests w → Entry w → AllBytes (left (microframe t) w .setups)
+pub setups-kept : (t : ℕ) (w : World) → Requests w → Entry w → AllBytes (left (microframe t) w .own .setups)
 setups-kept t w r e =
-    asks-microframe (length (w .config)) (e .config-length) t w r e (leb-true (w .state .lengths .config) (length (w .config)) (r .config)) .bytes
+    asks-microframe (length (w .lent .config)) (e .config-length) t w r e (leb-true (w .state .lengths .config) (length (w .lent .config)) (r .config)) .bytes
 
 -- a configuration has at most 65,535 bytes, however long its area is
 pub config-kept : (t : ℕ) (w : World) → Requests w → Entry w → w .state .lengths .config ≤ 65535 → left (microframe t) w .state .lengths .config ≤ 65535

@@ -40,11 +40,11 @@ sizes m = record { dynamic = length (m .dynamic); sram = length (m .sram); page 
 
 abbrev shaped : World → Sizes → ℕ → ℕ → ℕ → ℕ → ℕ → Shape
 shaped w z d a b c e =
-    record { settings = w .settings; packer = w .packer; memory = z; device = d; reply = a; config = b; receive = c; received = e; sending = length (w .sending) }
+    record { settings = w .settings; packer = w .packer; memory = z; device = d; reply = a; config = b; receive = c; received = e; sending = length (w .lent .sending) }
 
 abbrev pub shape : World → Shape
 shape w =
-    shaped w (sizes (w .memory)) (length (w .device)) (length (w .reply)) (length (w .config)) (length (w .receive)) (length (w .received))
+    shaped w (sizes (w .lent .memory)) (length (w .own .device)) (length (w .lent .reply)) (length (w .lent .config)) (length (w .lent .receive)) (length (w .lent .received))
 
 -- ---- memory
 
@@ -74,7 +74,7 @@ store-kept (irq l) b = refl
 module _ (w : World) where
   change-kept : (c : Change) → shape (apply c w) ≡ shape w
   unfolding apply ringed
-  change-kept (bus s) = ap (λ (z : Sizes). shaped w z (length (w .device)) (length (w .reply)) (length (w .config)) (length (w .receive)) (length (w .received))) (store-kept s (busOf w))
+  change-kept (bus s) = ap (λ (z : Sizes). shaped w z (length (w .own .device)) (length (w .lent .reply)) (length (w .lent .config)) (length (w .lent .receive)) (length (w .lent .received))) (store-kept s (busOf w))
   change-kept (ran e k n) = refl
   change-kept (lost n) = refl
   change-kept (count c n) = refl
@@ -94,14 +94,14 @@ module _ (w : World) where
   change-kept popped = refl
   change-kept (pushed bs) = refl
   change-kept cleared = refl
-  change-kept (reply n bs) = ap (λ (x : ℕ). shaped w (sizes (w .memory)) (length (w .device)) x (length (w .config)) (length (w .receive)) (length (w .received))) (length-sets (w .reply) n bs)
-  change-kept (device bs) = ap (λ (x : ℕ). shaped w (sizes (w .memory)) x (length (w .reply)) (length (w .config)) (length (w .receive)) (length (w .received))) (length-sets (w .device) 0 bs)
-  change-kept (config bs) = ap (λ (x : ℕ). shaped w (sizes (w .memory)) (length (w .device)) (length (w .reply)) x (length (w .receive)) (length (w .received))) (length-sets (w .config) 0 bs)
+  change-kept (reply n bs) = ap (λ (x : ℕ). shaped w (sizes (w .lent .memory)) (length (w .own .device)) x (length (w .lent .config)) (length (w .lent .receive)) (length (w .lent .received))) (length-sets (w .lent .reply) n bs)
+  change-kept (device bs) = ap (λ (x : ℕ). shaped w (sizes (w .lent .memory)) x (length (w .lent .reply)) (length (w .lent .config)) (length (w .lent .receive)) (length (w .lent .received))) (length-sets (w .own .device) 0 bs)
+  change-kept (config bs) = ap (λ (x : ℕ). shaped w (sizes (w .lent .memory)) (length (w .own .device)) (length (w .lent .reply)) x (length (w .lent .receive)) (length (w .lent .received))) (length-sets (w .lent .config) 0 bs)
   change-kept forgot = refl
   change-kept (midi n) = refl
   change-kept (serial n) = refl
-  change-kept (received bs) = ap (λ (x : ℕ). shaped w (sizes (w .memory)) (length (w .device)) (length (w .reply)) (length (w .config)) x (length (w .received))) (length-sets (w .receive) (w .state .answer .received) bs)
-  change-kept (frame f) = ap (λ (x : ℕ). shaped w (sizes (w .memory)) (length (w .device)) (length (w .reply)) (length (w .config)) (length (w .receive)) x) (length-sets (w .received) _ f)
+  change-kept (received bs) = ap (λ (x : ℕ). shaped w (sizes (w .lent .memory)) (length (w .own .device)) (length (w .lent .reply)) (length (w .lent .config)) x (length (w .lent .received))) (length-sets (w .lent .receive) (w .state .answer .received) bs)
+  change-kept (frame f) = ap (λ (x : ℕ). shaped w (sizes (w .lent .memory)) (length (w .own .device)) (length (w .lent .reply)) (length (w .lent .config)) (length (w .lent .receive)) x) (length-sets (w .lent .received) _ f)
   change-kept (taken n) = refl
 
 pub list-kept : (cs : List Change) (w : World) → shape (replay apply cs w) ≡ shape w
@@ -132,26 +132,26 @@ record Arrays (a b c : ℕ) (setups midi serial : List ℕ) (m s : ℕ) : Type 0
 
 module _ (a b c : ℕ) where
   abbrev ArraysOk : World → Type 0
-  ArraysOk w = Arrays a b c (w .setups) (w .midi) (w .serial) (w .state .lengths .midi) (w .state .lengths .serial)
+  ArraysOk w = Arrays a b c (w .own .setups) (w .own .midi) (w .own .serial) (w .state .lengths .midi) (w .state .lengths .serial)
 
   -- and up to control the setups lie in theirs
   abbrev FitsOk : World → Type 0
   FitsOk w = ArraysOk w × (8 * w .state .lengths .setups ≤ a)
 
-  requeued : (w : World) (q : List ℕ) → length q ≡ length (w .setups) → ArraysOk w → Arrays a b c q (w .midi) (w .serial) (w .state .lengths .midi) (w .state .lengths .serial)
+  requeued : (w : World) (q : List ℕ) → length q ≡ length (w .own .setups) → ArraysOk w → Arrays a b c q (w .own .midi) (w .own .serial) (w .state .lengths .midi) (w .state .lengths .serial)
   requeued w q e h = record { setups-length = e ∙ h .setups-length; midi-length = h .midi-length; serial-length = h .serial-length; midi-fits = h .midi-fits; serial-fits = h .serial-fits }
 
-  drained-midi : (n : ℕ) (w : World) → ArraysOk w → Arrays a b c (w .setups) (drained (w .midi) (w .state .lengths .midi) n) (w .serial) (w .state .lengths .midi - n) (w .state .lengths .serial)
+  drained-midi : (n : ℕ) (w : World) → ArraysOk w → Arrays a b c (w .own .setups) (drained (w .own .midi) (w .state .lengths .midi) n) (w .own .serial) (w .state .lengths .midi - n) (w .state .lengths .serial)
   drained-midi n w h =
       let l = h .midi-length in
       let f = h .midi-fits in
-      record { setups-length = h .setups-length; midi-length = drained-length (w .midi) (w .state .lengths .midi) n (omega arith) ∙ l; serial-length = h .serial-length; midi-fits = omega arith; serial-fits = h .serial-fits }
+      record { setups-length = h .setups-length; midi-length = drained-length (w .own .midi) (w .state .lengths .midi) n (omega arith) ∙ l; serial-length = h .serial-length; midi-fits = omega arith; serial-fits = h .serial-fits }
 
-  drained-serial : (n : ℕ) (w : World) → ArraysOk w → Arrays a b c (w .setups) (w .midi) (drained (w .serial) (w .state .lengths .serial) n) (w .state .lengths .midi) (w .state .lengths .serial - n)
+  drained-serial : (n : ℕ) (w : World) → ArraysOk w → Arrays a b c (w .own .setups) (w .own .midi) (drained (w .own .serial) (w .state .lengths .serial) n) (w .state .lengths .midi) (w .state .lengths .serial - n)
   drained-serial n w h =
       let l = h .serial-length in
       let f = h .serial-fits in
-      record { setups-length = h .setups-length; midi-length = h .midi-length; serial-length = drained-length (w .serial) (w .state .lengths .serial) n (omega arith) ∙ l; midi-fits = h .midi-fits; serial-fits = omega arith }
+      record { setups-length = h .setups-length; midi-length = h .midi-length; serial-length = drained-length (w .own .serial) (w .state .lengths .serial) n (omega arith) ∙ l; midi-fits = h .midi-fits; serial-fits = omega arith }
 
   none-waits : (w : World) → FitsOk w → FitsOk (apply cleared w)
   unfolding apply
@@ -199,8 +199,8 @@ module _ (a b c : ℕ) where
         passes = λ w h e. clears-any ArraysOk (λ m v p. p) _ (adds-any ArraysOk (λ m v p. p) w h);
         numbers = λ m w h. h;
         chooses = λ bs w e h. h;
-        queues = λ bs w h. requeued w _ (length-sets (w .setups) _ bs) h;
-        pushes = λ bs w h. requeued w _ (length-sets (w .setups) 0 (bs ++ waiting w)) h;
+        queues = λ bs w h. requeued w _ (length-sets (w .own .setups) _ bs) h;
+        pushes = λ bs w h. requeued w _ (length-sets (w .own .setups) 0 (bs ++ waiting w)) h;
         replies = λ m bs w h. h;
         devices = λ bs w h. h;
         configs = λ bs w h. h;
@@ -216,7 +216,7 @@ module _ (a b c : ℕ) where
   pop-fits w h =
       let l = h .0 .setups-length in
       let f = h .1 in
-      requeued w _ (drained-length (w .setups) (8 * w .state .lengths .setups) 8 (omega arith)) (h .0)
+      requeued w _ (drained-length (w .own .setups) (8 * w .state .lengths .setups) 8 (omega arith)) (h .0)
 
   fits-opening : Opening FitsOk FitsOk FitsOk
   unfolding apply
@@ -227,13 +227,13 @@ module _ (a b c : ℕ) where
 
 -- the lengths of the three arrays
 pub record SameArrays (w v : World) : Type 0 where
-  pub setups : length (v .setups) ≡ length (w .setups)
-  pub midi : length (v .midi) ≡ length (w .midi)
-  pub serial : length (v .serial) ≡ length (w .serial)
+  pub setups : length (v .own .setups) ≡ length (w .own .setups)
+  pub midi : length (v .own .midi) ≡ length (w .own .midi)
+  pub serial : length (v .own .serial) ≡ length (w .own .serial)
 
-pub arrays-kept : (t : ℕ) (w : World) → 8 * w .state .lengths .setups ≤ length (w .setups) → w .state .lengths .midi ≤ length (w .midi) → w .state .lengths .serial ≤ length (w .serial)
+pub arrays-kept : (t : ℕ) (w : World) → 8 * w .state .lengths .setups ≤ length (w .own .setups) → w .state .lengths .midi ≤ length (w .own .midi) → w .state .lengths .serial ≤ length (w .own .serial)
     → SameArrays w (left (microframe t) w)
 arrays-kept t w p q r =
-    let h : ArraysOk (length (w .setups)) (length (w .midi)) (length (w .serial)) w = record { setups-length = refl; midi-length = refl; serial-length = refl; midi-fits = q; serial-fits = r } in
+    let h : ArraysOk (length (w .own .setups)) (length (w .own .midi)) (length (w .own .serial)) w = record { setups-length = refl; midi-length = refl; serial-length = refl; midi-fits = q; serial-fits = r } in
     let a = arrays-microframe _ _ _ t w (h, p) in
     record { setups = a .setups-length; midi = a .midi-length; serial = a .serial-length }

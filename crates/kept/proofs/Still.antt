@@ -8,7 +8,7 @@ use Rattle.usbdev.specs.Registers.{PageStep}
 use Rattle.dtd.specs.Dtd.{Endpoint, Run}
 use Rattle.config.specs.Config.{Choice}
 use Rattle.record.specs.declared.Phase.{Phase}
-use Rattle.record.specs.declared.Stats.{Stats}
+use Rattle.record.specs.Record.{Stats}
 use Rattle.record.specs.World.{World}
 use Rattle.record.specs.Change.{apply, Step, onBus, onPage, runs}
 use Rattle.model.specs.Phases.{ticks, dropsRequest, forgets, suspends, enters, departs, leaves, idles, powers, resets, startsFrame}

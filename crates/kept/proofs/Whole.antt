@@ -12,12 +12,14 @@ use Rattle.config.specs.Config.{Bytes as AllBytes}
 use Rattle.record.specs.declared.State.{State}
 use Rattle.record.specs.World.{World}
 use Rattle.record.specs.Change.{left, FRAMES, WORDS}
+use Rattle.record.specs.Record.{counterOf, microframes, «in_frames»}
 use Rattle.model.specs.Control.{wLength}
 use Rattle.model.specs.Microframe.{rsSet, goneAt, asleepAt, microframe}
 use Rattle.model.specs.Earned.{Counts, countsOf, sentCounts}
 use Rattle.bits.proofs.Tests.{and-first, and-second, and-both}
 use Rattle.model.proofs.History.{counts-microframe}
 use Rattle.bounds.specs.Bounds.{MOST, times, setupsOk, enumeratingOk, requestOk, made, asksConfiguration, queuesOk, packerOk, countsOk, countersOk, creditOk, timersOk, audioOk, askedOk, heldOk, countedOk, inBounds, ringOk, areasOk}
+use Rattle.bounds.proofs.Laws.{counter-below}
 use Rattle.kept.proofs.Credit.{SMALL, sent-le, sent-seven}
 use Rattle.kept.proofs.Timers.{timers-kept}
 use Rattle.kept.proofs.Queues.{Queues, queues-kept}
@@ -30,10 +32,10 @@ use Rattle.kept.proofs.Setups.{Requests, Entry, requests-kept, setups-k
 
 -- every bound, of a record in its World
 pub record Bounded (w : World) : Type 0 where
-  pub record-bounds : inBounds (w .state) (w .packer) (w .setups) ≡ true
-  pub areas : areasOk (w .state) (length (w .reply)) (length (w .config)) ≡ true
+  pub record-bounds : inBounds (w .state) (w .packer) (w .own .setups) ≡ true
+  pub areas : areasOk (w .state) (length (w .lent .reply)) (length (w .lent .config)) ≡ true
   pub received : ringOk (w .state .audio .received) FRAMES ≡ true
-  pub sending : ringOk (w .state .audio .sending) (length (w .sending) / WORDS) ≡ true
+  pub sending : ringOk (w .state .audio .sending) (length (w .lent .sending) / WORDS) ≡ true
   pub second : w .state .control .second < 2 ^ 32
 
 -- the named parts
@@ -43,22 +45,22 @@ record Parts (w : World) : Type 0 where
   packer : packerOk (w .packer) ≡ true
   counts : countsOk (w .state) ≡ true
   counters : countersOk (w .state .stats) ≡ true
-  credit : creditOk (w .state .audio .credit) (w .state .stats .microframes) ≡ true
-  timers : timersOk (w .state .timers) (w .state .stats .microframes) ≡ true
+  credit : creditOk (w .state .audio .credit) (counterOf microframes (w .state .stats)) ≡ true
+  timers : timersOk (w .state .timers) (counterOf microframes (w .state .stats)) ≡ true
   audio : audioOk (w .state .audio) ≡ true
   received : ringOk (w .state .audio .received) FRAMES ≡ true
-  sending : ringOk (w .state .audio .sending) (length (w .sending) / WORDS) ≡ true
+  sending : ringOk (w .state .audio .sending) (length (w .lent .sending) / WORDS) ≡ true
 
 apart : (w : World) → Bounded w → Parts w
 unfolding inBounds queuesOk areasOk
 apart w b =
     let s = w .state in
-    let asked = and-first (askedOk s (w .setups)) _ (b .record-bounds) in
-    let r₁ = and-second (askedOk s (w .setups)) _ (b .record-bounds) in
+    let asked = and-first (askedOk s (w .own .setups)) _ (b .record-bounds) in
+    let r₁ = and-second (askedOk s (w .own .setups)) _ (b .record-bounds) in
     let held = and-first (heldOk s (w .packer)) _ r₁ in
     let r₂ = and-second (heldOk s (w .packer)) _ r₁ in
     let counted = and-first (countedOk s) _ r₂ in
-    let a₁ = and-second (setupsOk (s .lengths .setups) (w .setups)) _ asked in
+    let a₁ = and-second (setupsOk (s .lengths .setups) (w .own .setups)) _ asked in
     let queues = and-first (queuesOk (s .lengths)) _ held in
     let q₁ = and-second (leb (s .lengths .midi) 4096) _ queues in
     let q₂ = and-second (eqb (s .lengths .midi % 4) 0) _ q₁ in
@@ -66,11 +68,11 @@ apart w b =
     let c₂ = and-second (countersOk (s .stats)) _ c₁ in
     record {
       requests = record {
-        setups = and-first (setupsOk (s .lengths .setups) (w .setups)) _ asked;
+        setups = and-first (setupsOk (s .lengths .setups) (w .own .setups)) _ asked;
         enumeration = and-first (enumeratingOk s) _ a₁;
         request = and-second (enumeratingOk s) _ a₁;
         device = and-second (leb (s .lengths .serial) 4096) _ q₂;
-        config = and-first (leb (s .lengths .config) (length (w .config))) _ (b .areas);
+        config = and-first (leb (s .lengths .config) (length (w .lent .config))) _ (b .areas);
         second = b .second;
       };
       queues = record {
@@ -81,8 +83,8 @@ apart w b =
       packer = and-second (queuesOk (s .lengths)) _ held;
       counts = and-first (countsOk s) _ counted;
       counters = and-first (countersOk (s .stats)) _ c₁;
-      credit = and-first (creditOk (s .audio .credit) (s .stats .microframes)) _ c₂;
-      timers = and-second (creditOk (s .audio .credit) (s .stats .microframes)) _ c₂;
+      credit = and-first (creditOk (s .audio .credit) (counterOf microframes (s .stats))) _ c₂;
+      timers = and-second (creditOk (s .audio .credit) (counterOf microframes (s .stats))) _ c₂;
       audio = and-second (countedOk s) _ r₂;
       received = b .received;
       sending = b .sending;
@@ -110,7 +112,7 @@ reply-inside s reply r short h = by-on (s .control .on) refl r
         let le = leb-true (s .control .got) (wLength (s .control)) q₃ in
         le-leb (s .control .got) reply (omega (arith, le, h, short))
 
-together : (w : World) → 65535 ≤ length (w .reply) → Parts w → Bounded w
+together : (w : World) → 65535 ≤ length (w .lent .reply) → Parts w → Bounded w
 unfolding inBounds queuesOk areasOk
 together w h p =
     let r = p .requests in
@@ -119,7 +121,7 @@ together w h p =
           and-both _ _ (and-both _ _ (r .setups) (and-both _ _ (r .enumeration) (r .request)))
           (and-both _ _ (and-both _ _ (and-both _ _ (p .queues .midi) (and-both _ _ (p .queues .packets) (and-both _ _ (p .queues .serial) (r .device)))) (p .packer))
           (and-both _ _ (and-both _ _ (p .counts) (and-both _ _ (p .counters) (and-both _ _ (p .credit) (p .timers)))) (p .audio)));
-      areas = and-both _ _ (r .config) (reply-inside (w .state) (length (w .reply)) (r .request) (r .second) h);
+      areas = and-both _ _ (r .config) (reply-inside (w .state) (length (w .lent .reply)) (r .request) (r .second) h);
       received = p .received;
       sending = p .sending;
       second = r .second;
@@ -130,18 +132,18 @@ together w h p =
 times-less : (k n : ℕ) → n ≤ MOST → k * min n MOST ≡ k * n
 times-less k n h = ap (λ (x : ℕ). k * x) (omega (arith, h))
 
-module _ (t : ℕ) (w : World) (credit : creditOk (w .state .audio .credit) (w .state .stats .microframes) ≡ true)
-    (few : countsOf w .received ≤ SMALL) (n : ℕ) (is : w .state .stats .microframes ≡ n) (before : n < MOST)
-    (next : left (microframe t) w .state .stats .microframes ≡ n + 1) where
+module _ (t : ℕ) (w : World) (credit : creditOk (w .state .audio .credit) (counterOf microframes (w .state .stats)) ≡ true)
+    (few : countsOf w .received ≤ SMALL) (n : ℕ) (is : counterOf microframes (w .state .stats) ≡ n) (before : n < MOST)
+    (next : counterOf microframes (left (microframe t) w .state .stats) ≡ n + 1) where
   abbrev sevens : Bool
   sevens = eqb (w .state .audio .credit % 7) 0
 
   old-le : w .state .audio .credit ≤ 623 * n
   unfolding creditOk
   old-le =
-      let e = leb-true (w .state .audio .credit) (times 623 (w .state .stats .microframes)) (and-second sevens _ credit) in
-      let m : w .state .stats .microframes ≤ MOST = omega (arith, is, before) in
-      omega (arith, e, times-less 623 (w .state .stats .microframes) m, is)
+      let e = leb-true (w .state .audio .credit) (times 623 (counterOf microframes (w .state .stats))) (and-second sevens _ credit) in
+      let m : counterOf microframes (w .state .stats) ≤ MOST = omega (arith, is, before) in
+      omega (arith, e, times-less 623 (counterOf microframes (w .state .stats)) m, is)
 
   old-seven : w .state .audio .credit % 7 ≡ 0
   unfolding creditOk
@@ -153,27 +155,23 @@ module _ (t : ℕ) (w : World) (credit : creditOk (w .state .audio .credit) (w .
   same : left (microframe t) w .state .audio .credit ≡ sentCounts (rsSet w) (goneAt t w) (asleepAt t w) w .credit
   same = ap (λ (m : Counts). m .credit) (counts-microframe t w)
 
-  credit-kept : creditOk (left (microframe t) w .state .audio .credit) (left (microframe t) w .state .stats .microframes) ≡ true
+  credit-kept : creditOk (left (microframe t) w .state .audio .credit) (counterOf microframes (left (microframe t) w .state .stats)) ≡ true
   unfolding creditOk
   credit-kept =
       let le = sent-le (rsSet w) (goneAt t w) (asleepAt t w) w small few in
       let seven = sent-seven (rsSet w) (goneAt t w) (asleepAt t w) w small few old-seven in
-      let m : left (microframe t) w .state .stats .microframes ≤ MOST = omega (arith, next, before) in
+      let m : counterOf microframes (left (microframe t) w .state .stats) ≤ MOST = omega (arith, next, before) in
       and-both _ _ (eq-eqb (left (microframe t) w .state .audio .credit % 7) 0 (ap (λ (x : ℕ). x % 7) same ∙ seven))
-      (le-leb (left (microframe t) w .state .audio .credit) (times 623 (left (microframe t) w .state .stats .microframes))
-      (omega (arith, same, le, old-le, times-less 623 (left (microframe t) w .state .stats .microframes) m, next)))
+      (le-leb (left (microframe t) w .state .audio .credit) (times 623 (counterOf microframes (left (microframe t) w .state .stats)))
+      (omega (arith, same, le, old-le, times-less 623 (counterOf microframes (left (microframe t) w .state .stats)) m, next)))
 
 -- ---- all of it
 
-small-counter : (w : World) (n : ℕ) → w .state .stats .microframes ≡ n → n < MOST → countersOk (w .state .stats) ≡ true → countsOf w .received ≤ SMALL
-unfolding countersOk
+small-counter : (w : World) (n : ℕ) → counterOf microframes (w .state .stats) ≡ n → n < MOST → countersOk (w .state .stats) ≡ true → countsOf w .received ≤ SMALL
 small-counter w n is before e =
     let r = w .state .stats in
-    let most = times 32767 (r .microframes) in
-    let a₁ = and-second (leb (r .«in_transfers») most) _ (and-first _ _ e) in
-    let a₂ = and-second (leb (r .«out_transfers») most) _ a₁ in
-    let le = leb-true (r .«in_frames») most (and-first _ _ a₂) in
-    omega (arith, le, times-less 32767 (r .microframes) (omega (arith, is, before)), is, before)
+    let le : counterOf «in_frames» r ≤ times 32767 (counterOf microframes r) = leb-true _ _ (counter-below r e 2 (omega arith)) in
+    omega (arith, le, times-less 32767 (counterOf microframes r) (omega (arith, is, before)), is, before)
 
 of-parts : (t : ℕ) (w : World) → Entry w → Parts w → Parts (left (microframe t) w)
 of-parts t w e p =
@@ -183,8 +181,8 @@ of-parts t w e p =
     let new = counted-kept n (e .uf) t w old in
     let lens = shape-kept t w in
     let few : countsOf w .received ≤ SMALL = small-counter w n (old .microframes) (e .uf) (p .counters) in
-    let more : left (microframe t) w .state .stats .microframes ≡ n + 1 = new .microframes in
-    let before : w .state .stats .microframes < MOST = omega (arith, old .microframes, e .uf) in
+    let more : counterOf microframes (left (microframe t) w .state .stats) ≡ n + 1 = new .microframes in
+    let before : counterOf microframes (w .state .stats) < MOST = omega (arith, old .microframes, e .uf) in
     record {
       requests = requests-kept t w (p .requests) e;
       queues = queues-kept t w (p .queues);
@@ -211,11 +209,11 @@ bounds-kept t w e b =
 -- one microframe more, bytes in the array of setups, a configuration of at most 65,535 bytes, and arrays of the same lengths
 pub record Lasts (w v : World) : Type 0 where
   pub number : v .state .port .uf ≡ w .state .port .uf + 1
-  pub setups-bytes : AllBytes (v .setups)
+  pub setups-bytes : AllBytes (v .own .setups)
   pub config : w .state .lengths .config ≤ 65535 → v .state .lengths .config ≤ 65535
   pub arrays : SameArrays w v
 
-pub lasts : (t : ℕ) (w : World) → Entry w → Bounded w → 4096 ≤ length (w .midi) → 4096 ≤ length (w .serial) → Lasts w (left (microframe t) w)
+pub lasts : (t : ℕ) (w : World) → Entry w → Bounded w → 4096 ≤ length (w .own .midi) → 4096 ≤ length (w .own .serial) → Lasts w (left (microframe t) w)
 unfolding setupsOk
 lasts t w e b midi serial =
     let p = apart w b in

@@ -6,7 +6,8 @@ use mathlib.Core.Path.{_≡_, refl}
 use Rattle.midi.specs.Packer.{feedOf, messageLength, messageCode, runningOf, eventsOf, packetCount}
 use Rattle.usbdev.specs.Access.{fits}
 use Rattle.bus.specs.Sized.{isPower}
-use Rattle.bounds.specs.Bounds.{made, madeAt, allMade, other, noneAsks, setupsOk, enumeratingOk, requestOk, queuesOk, packerOk, countsOk, countersOk, creditOk, timerOk, timersOk, audioOk, inBounds, ringOk, areasOk}
+use Rattle.record.specs.Record.{counterAt}
+use Rattle.bounds.specs.Bounds.{noneAbove, made, madeAt, allMade, other, noneAsks, setupsOk, enumeratingOk, requestOk, queuesOk, packerOk, countsOk, countersOk, creditOk, timerOk, timersOk, audioOk, inBounds, ringOk, areasOk}
 use Rattle.usbhost.specs.Host.{created}
 use Rattle.usbhost.specs.Calls.{sendingLength, midiNumber, accessNumber}
 use Rattle.usbhost.specs.Frame.{lengthsOk, boundsOk}
@@ -37,12 +38,12 @@ unfolding allMade noneAsks madeAt made
 full-but-one behind = setups-many 255 0 (address ++ zeros) behind
 
 fullQueues-hold : Table fullQueues
-unfolding feedOf messageLength messageCode runningOf eventsOf packetCount fits isPower made enumeratingOk requestOk queuesOk packerOk countsOk countersOk creditOk timerOk timersOk audioOk inBounds ringOk areasOk sendingLength midiNumber accessNumber lengthsOk boundsOk usual valueIn fullQueues
+unfolding feedOf messageLength messageCode runningOf eventsOf packetCount fits isPower made enumeratingOk requestOk queuesOk packerOk countsOk countersOk noneAbove counterAt creditOk timerOk timersOk audioOk inBounds ringOk areasOk sendingLength midiNumber accessNumber lengthsOk boundsOk usual valueIn fullQueues
 fullQueues-hold =
     table fullQueues (λ o behind. rw (full behind, full-asking behind, full-early behind, full-zeros behind, full-but-one behind))
 
 pub limits : Limits
-unfolding feedOf messageLength messageCode runningOf eventsOf packetCount fits isPower made madeAt allMade other noneAsks setupsOk enumeratingOk requestOk queuesOk packerOk countsOk countersOk creditOk timerOk timersOk audioOk inBounds ringOk areasOk created sendingLength midiNumber accessNumber lengthsOk boundsOk usual valueIn flatMap madeBelow windows areas spanCounts accesses queues rings stream counts timers counters phases forms setupQueues requests packers space order
+unfolding feedOf messageLength messageCode runningOf eventsOf packetCount fits isPower made madeAt allMade other noneAsks setupsOk enumeratingOk requestOk queuesOk packerOk countsOk countersOk noneAbove counterAt creditOk timerOk timersOk audioOk inBounds ringOk areasOk created sendingLength midiNumber accessNumber lengthsOk boundsOk usual valueIn flatMap madeBelow windows areas spanCounts accesses queues rings stream counts timers counters phases forms setupQueues requests packers space order
 limits =
     record {
       number-1 = table windows (λ o behind. refl);

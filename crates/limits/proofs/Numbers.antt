@@ -10,7 +10,8 @@ use Rattle.bounds.specs.Bounds.{MOST, receivedOk, sendingOk}
 use Rattle.usbhost.specs.declared.Host.{Host}
 use Rattle.usbhost.specs.Host.{stateOf, newHost, noSettings}
 use Rattle.usbhost.specs.Calls.{fewSpans, bounded, unless, sendingLength, midiNumber, serialNumber, giveNumber, takeNumber, accessNumber}
-use Rattle.usbhost.specs.Frame.{Lent, lengthsOk, boundsOk, frameNumber}
+use Rattle.usbhost.specs.Frame.{lengthsOk, boundsOk, frameNumber}
+use Rattle.record.specs.World.{Lent}
 use Rattle.limits.specs.Cases.{Field, offset, size, valueIn, hostBy, Long, longOf, longIn, calls, numbersOf, Row, Meets, Table}
 
 -- the numbers by lengths

@@ -11,9 +11,11 @@ use Rattle.record.specs.declared.Phase.{Phase}
 use Rattle.record.specs.declared.Phase.the-variants.{Idle, Vbus, Reset, Enumerate, Stream}
 use Rattle.record.specs.declared.State.{State}
 use Rattle.usbhost.specs.declared.Host.{Host}
-use Rattle.usbhost.specs.Host.{hostOf}
+use Rattle.record.specs.World.{ownSetups}
+use Rattle.usbhost.specs.Host.{hostOf, ownOf}
 use Rattle.usbhost.specs.Calls.{midiNumber, serialNumber, giveNumber, takeNumber, accessNumber}
-use Rattle.usbhost.specs.Frame.{Lent, frameNumber}
+use Rattle.usbhost.specs.Frame.{frameNumber}
+use Rattle.record.specs.World.{Lent}
 use Rattle.usbhost.specs.Promises.{withSpans}
 
 pub data Field : Type 0 where
@@ -135,21 +137,20 @@ stateBy v o =
             one = record { set = flag (v one-set); count = v one-count };
           };
       stats =
-          record {
-            microframes = v microframes;
-            «in_transfers» = v in-transfers;
-            «out_transfers» = v out-transfers;
-            «in_frames» = v in-frames;
-            «out_frames» = v out-frames;
-            «bad_blocks» = v bad-blocks;
-            «midi_dtds» = v midi-dtds;
-            «midi_asleep» = v midi-asleep;
-            «out_underruns» = v out-underruns;
-            «midi_packets_out» = v midi-packets-out;
-            «vendor_in_bytes» = v vendor-in-bytes;
-            restarts = v restarts;
-            enumerations = v enumerations;
-          };
+          v microframes
+          ∷ v in-transfers
+          ∷ v out-transfers
+          ∷ v in-frames
+          ∷ v out-frames
+          ∷ v bad-blocks
+          ∷ v midi-dtds
+          ∷ v midi-asleep
+          ∷ v out-underruns
+          ∷ v midi-packets-out
+          ∷ v vendor-in-bytes
+          ∷ v restarts
+          ∷ v enumerations
+          ∷ [];
       lengths = record { setups = v waiting; midi = v midi; serial = v serial; device = v device; config = v config };
       answer = record { received = 0; dropped = 0; retired = 0 };
     }
@@ -160,7 +161,7 @@ packerBy v o =
 
 abbrev pub hostBy : (Field → ℕ) → List ℕ → Host → Host
 hostBy v setups o =
-    hostOf (stateBy v o) (withSpans (o .settings) (v spans)) (packerBy v o) setups (o .midi) (o .serial) (o .device)
+    hostOf (stateBy v o) (withSpans (o .settings) (v spans)) (packerBy v o) (ownSetups (ownOf o) setups)
 
 -- ---- the numbers of all calls
 

@@ -119,7 +119,7 @@ fn phased(waits: bool) -> State {
 pub fn state(v: [u64; 25]) -> State {
     let mut next = phased(v[WAITING] != 0);
     next.port.uf = v[COUNTS];
-    next.stats.microframes = v[COUNTS];
+    next.stats[record::MICROFRAMES] = v[COUNTS];
     next.lengths.setups = v[WAITING] as usize;
     next.lengths.midi = v[MIDI] as usize;
     next.lengths.serial = v[SERIAL] as usize;

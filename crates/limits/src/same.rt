@@ -7,7 +7,6 @@ use record::Lengths;
 use record::Phase;
 use record::Stage;
 use record::State;
-use record::Stats;
 use std::num::wrapping_add_usize;
 
 // What every byte of an area holds before a call.
@@ -72,20 +71,14 @@ fn same_audio(a: Audio, b: Audio) -> bool {
         & (a.sending.len == b.sending.len)
 }
 
-fn same_stats(a: Stats, b: Stats) -> bool {
-    (a.microframes == b.microframes)
-        & (a.in_transfers == b.in_transfers)
-        & (a.out_transfers == b.out_transfers)
-        & (a.in_frames == b.in_frames)
-        & (a.out_frames == b.out_frames)
-        & (a.bad_blocks == b.bad_blocks)
-        & (a.midi_dtds == b.midi_dtds)
-        & (a.midi_asleep == b.midi_asleep)
-        & (a.midi_packets_out == b.midi_packets_out)
-        & (a.out_underruns == b.out_underruns)
-        & (a.vendor_in_bytes == b.vendor_in_bytes)
-        & (a.restarts == b.restarts)
-        & (a.enumerations == b.enumerations)
+fn same_stats(a: State, b: State) -> bool {
+    let mut same = true;
+    let mut k = 0;
+    while k < record::COUNTERS {
+        same = same & (a.stats[k] == b.stats[k]);
+        k += 1;
+    }
+    same
 }
 
 fn same_lengths(a: Lengths, b: Lengths) -> bool {
@@ -124,7 +117,7 @@ pub fn same_state(a: State, b: State) -> bool {
     same_port(a, b)
         & same_run(a, b)
         & same_audio(a.audio, b.audio)
-        & same_stats(a.stats, b.stats)
+        & same_stats(a, b)
         & same_lengths(a.lengths, b.lengths)
         & same_timers(a.timers, b.timers)
 }

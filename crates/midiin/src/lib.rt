@@ -159,9 +159,7 @@ pub struct Read {
 fn count_read(s: State, at: usize) -> State
     ensures { λ r. ⌜ r ≡ P.countRead s at ⌝ }
 {
-    let mut next = s;
-    let counted = wrapping_add_u64(s.stats.midi_dtds, 1);
-    next.stats.midi_dtds = counted;
+    let mut next = record::count(s, record::MIDI_DTDS, 1);
     next.answer.received = at;
     next
 }
@@ -306,14 +304,4 @@ pub fn midi_step(
     nak(page);
     let count = reads(every, s.port.uf);
     read_all(s, dynamic, sram, page, receive, count)
-}
-
-// The state with a microframe of MIDI sleep counted.
-pub fn midi_asleep(s: State) -> State
-    ensures { λ r. ⌜ ((every : ℕ) → R.Alone (M.midiIn true every) s r) × (r .lengths ≡ s .lengths) ⌝ }
-{
-    let mut next = s;
-    let counted = wrapping_add_u64(s.stats.midi_asleep, 1);
-    next.stats.midi_asleep = counted;
-    next
 }

@@ -1,8 +1,11 @@
 -- What the history reads: the credit, the two counters of frames, gone, and RS seen set.
-use Prim.Native.Nat.{ℕ, _+_}
-use mathlib.Core.Path.{_≡_, refl}
-use mathlib.Core.Bool.{Bool, true}
-use Rattle.record.specs.Record.{wrapped, counted, Counter, microframes, «in_transfers», «out_transfers», «in_frames», «out_frames», «bad_blocks», «midi_dtds», «midi_asleep», «out_underruns», «midi_packets_out», «vendor_in_bytes», restarts, enumerations}
+use Prim.Native.Nat.{ℕ}
+use mathlib.Core.Path.{_≡_, refl, ap₂}
+use mathlib.Core.Bool.{Bool, true, not}
+use lib.Dec.{eqb}
+use Rattle.bus.proofs.Sizes.{and-true}
+use Rattle.record.specs.Record.{Counter, place, «in_frames», «out_frames»}
+use Rattle.record.proofs.Counters.{rose, raised-by, rose-other}
 use Rattle.record.specs.World.{World}
 use Rattle.record.specs.Change.{Change, bus, ran, lost, count, uf, phase, started, gone, suspended, wasRunning, credit, budget, counter, block, timers, control, queued, popped, pushed, cleared, reply, device, config, forgot, midi, serial, received, frame, taken, apply}
 use Rattle.model.specs.Earned.{Counts, countsOf}
@@ -22,19 +25,12 @@ abbrev pub withCounts : Frames → Counts → Frames
 withCounts k m = record { counts = m; gone = k .gone; wasRunning = k .wasRunning }
 
 abbrev pub onCounts : Counter → ℕ → Counts → Counts
-onCounts microframes n m = m
-onCounts «in_transfers» n m = m
-onCounts «out_transfers» n m = m
-onCounts «in_frames» n m = record { credit = m .credit; received = wrapped (m .received + n); sent = m .sent }
-onCounts «out_frames» n m = record { credit = m .credit; received = m .received; sent = wrapped (m .sent + n) }
-onCounts «bad_blocks» n m = m
-onCounts «midi_dtds» n m = m
-onCounts «midi_asleep» n m = m
-onCounts «out_underruns» n m = m
-onCounts «midi_packets_out» n m = m
-onCounts «vendor_in_bytes» n m = m
-onCounts restarts n m = m
-onCounts enumerations n m = m
+onCounts c n m =
+    record {
+      credit = m .credit;
+      received = rose (place «in_frames») (place c) n (m .received);
+      sent = rose (place «out_frames») (place c) n (m .sent);
+    }
 
 abbrev pub onFrames : Change → Frames → Frames
 onFrames (bus s) k = k
@@ -67,21 +63,13 @@ onFrames (received bs) k = k
 onFrames (frame f) k = k
 onFrames (taken n) k = k
 
+-- by what the two counters are
+abbrev framesBy : Frames → ℕ → ℕ → Frames
+framesBy k x y = withCounts k (record { credit = k .counts .credit; received = x; sent = y })
+
 frames-count : (c : Counter) (n : ℕ) (w : World) → framesOf (apply (count c n) w) ≡ onFrames (count c n) (framesOf w)
-unfolding apply counted
-frames-count microframes n w = refl
-frames-count «in_transfers» n w = refl
-frames-count «out_transfers» n w = refl
-frames-count «in_frames» n w = refl
-frames-count «out_frames» n w = refl
-frames-count «bad_blocks» n w = refl
-frames-count «midi_dtds» n w = refl
-frames-count «midi_asleep» n w = refl
-frames-count «out_underruns» n w = refl
-frames-count «midi_packets_out» n w = refl
-frames-count «vendor_in_bytes» n w = refl
-frames-count restarts n w = refl
-frames-count enumerations n w = refl
+unfolding apply
+frames-count c n w = ap₂ (framesBy (framesOf w)) (raised-by (place «in_frames») (place c) n (w .state .stats)) (raised-by (place «out_frames») (place c) n (w .state .stats))
 
 pub frames-apply : (c : Change) (w : World) → framesOf (apply c w) ≡ onFrames c (framesOf w)
 unfolding apply
@@ -127,19 +115,9 @@ frames =
     }
 
 frames-counter : (c : Counter) → quietCounter c ≡ true → (n : ℕ) (k : Frames) → onFrames (count c n) k ≡ k
-frames-counter microframes e n k = refl
-frames-counter «in_transfers» e n k = refl
-frames-counter «out_transfers» e n k = refl
-frames-counter «in_frames» e n k = absurd (false-true e)
-frames-counter «out_frames» e n k = absurd (false-true e)
-frames-counter «bad_blocks» e n k = refl
-frames-counter «midi_dtds» e n k = refl
-frames-counter «midi_asleep» e n k = refl
-frames-counter «out_underruns» e n k = refl
-frames-counter «midi_packets_out» e n k = refl
-frames-counter «vendor_in_bytes» e n k = refl
-frames-counter restarts e n k = refl
-frames-counter enumerations e n k = refl
+frames-counter c e n k =
+    let other = and-true (not (eqb (place «in_frames») (place c))) _ e in
+    ap₂ (framesBy k) (rose-other (place «in_frames») (place c) n (k .counts .received) (other .0)) (rose-other (place «out_frames») (place c) n (k .counts .sent) (other .1))
 
 pub frames-leaves : (c : Change) → quiet c ≡ true → (k : Frames) → onFrames c k ≡ k
 frames-leaves (bus s) h k = refl

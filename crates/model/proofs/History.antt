@@ -11,7 +11,7 @@ use Rattle.bus.specs.Steps.{andThen, exec-then, exec-choose}
 use Rattle.dtd.specs.Dtd.{Run, runDtds}
 use Rattle.dtd.proofs.Runs.{idle-run}
 use Rattle.record.specs.declared.Settings.{Settings}
-use Rattle.record.specs.Record.{counted, wrapped, «in_frames»}
+use Rattle.record.specs.Record.{raised, wrapped, «in_frames»}
 use Rattle.record.specs.World.{World, busOf}
 use Rattle.record.specs.Change.{count, credit, gone, wasRunning, budget, apply, Step, left, _then_, nothing, one, here}
 use Rattle.model.specs.Phases.{counts, ticks, cable, unplugging, returns, forgets, dropsRequest, enters, sleeps, suspends, leaves, departs}
@@ -39,7 +39,7 @@ keeps-frames zero bs = keeps-nothing frames
 keeps-frames (suc n) bs = keeps-then frames _ _ (keeps-one frames _ (λ w. refl)) (keeps-frames n _)
 
 counts-up : (v : World) → framesOf (left (one (λ w. credit (wrapped (w .state .audio .credit + BLOCK-FRAMES)))) (left (one (λ w. count «in_frames» BLOCK-FRAMES)) v)) ≡ earns 1 (framesOf v)
-unfolding one apply counted earned
+unfolding one apply raised earned
 counts-up v = refl
 
 -- a good block earns seven
@@ -175,7 +175,7 @@ cabled true k = goneTo true k
 cabled false k = goneTo false (withCounts k (pick (k .gone) (zeroed (k .counts)) (k .counts)))
 
 frames-returns : (v : World) → framesOf (left returns v) ≡ withCounts (framesOf v) (zeroed (countsOf v))
-unfolding returns forgets dropsRequest andThen one apply counted
+unfolding returns forgets dropsRequest andThen one apply raised
 frames-returns v = refl
 
 goes : (b : Bool) (k : Frames) → k .gone ≡ b → pick (not b) (goneTo true k) k ≡ goneTo true k

@@ -108,10 +108,10 @@ run-list r w =
 
 -- ---- the descriptor that is retired
 
-in-active : (x : World) → inputReady x ≡ true → IsActive audioIn (x .memory) (queueHead audioIn (x .memory .page)) (inPointer x) (inToken x)
+in-active : (x : World) → inputReady x ≡ true → IsActive audioIn (x .lent .memory) (queueHead audioIn (x .lent .memory .page)) (inPointer x) (inToken x)
 unfolding inputReady
 in-active x e =
-    record { prime = and-first _ _ e; active = and-second (primed audioIn (x .memory .page)) _ e; head = refl; next = refl; token = refl }
+    record { prime = and-first _ _ e; active = and-second (primed audioIn (x .lent .memory .page)) _ e; head = refl; next = refl; token = refl }
 
 in-stores : (x : World) → inputReady x ≡ true → runDtds audioIn [] (busOf x) .stores ≡ inStores x
 unfolding dataOut when moves andThen

@@ -1,16 +1,19 @@
 -- What each change does to the port's marks and to MIDI that comes, side by side: the fields that claims of either are about.
 use Prim.Native.Nat.{ℕ, _+_}
-use mathlib.Core.Path.{_≡_, refl}
-use mathlib.Core.Bool.{Bool, true}
+use mathlib.Core.Path.{_≡_, refl, sym, ap, _∙_}
+use mathlib.Core.Bool.{Bool, true, false, not, _||_}
+use lib.Dec.{eqb}
+use Rattle.bus.proofs.Sizes.{and-true}
 use lib.ListN.{length}
 use lib.Seq.{sets}
-use Rattle.bits.proofs.Tests.{false-true}
-use Rattle.record.specs.Record.{wrapped, counted, Counter, microframes, «in_transfers», «out_transfers», «in_frames», «out_frames», «bad_blocks», «midi_dtds», «midi_asleep», «out_underruns», «midi_packets_out», «vendor_in_bytes», restarts, enumerations}
+use Rattle.bits.proofs.Tests.{false-true, or-false}
+use Rattle.record.specs.Record.{Counter, place, counterOf, «midi_dtds», «midi_asleep»}
+use Rattle.record.proofs.Counters.{rose, raised-by, rose-other}
 use Rattle.record.specs.World.{World}
 use Rattle.record.specs.Change.{Change, bus, ran, lost, count, uf, phase, started, gone, suspended, wasRunning, credit, budget, counter, block, timers, control, queued, popped, pushed, cleared, reply, device, config, forgot, midi, serial, received, frame, taken, apply}
 use Rattle.model.specs.PortMarks.{MidiCome, midiCome}
 use Rattle.model.proofs.Fields.{Fields}
-use Rattle.model.proofs.Plain.{Effect, none, tallied, other, unread, read, enumerated, cableIs, suspendIs, runIs, blockIs, came, effectOf, plainEffect, blockAndEnumerations, plain}
+use Rattle.model.proofs.Plain.{Effect, none, tallied, cableIs, suspendIs, runIs, blockIs, came, effectOf, plainCounterBy, plainEffect, blockAndEnumerations, plain}
 
 -- gone, suspended and RS seen set, and beside them the count of microframes without MIDI
 pub record PortMarks : Type 0 where
@@ -23,26 +26,24 @@ abbrev pub marksBy : Bool → Bool → Bool → ℕ → PortMarks
 marksBy g s r n = record { gone = g; suspended = s; running = r; asleep = n }
 
 abbrev pub marksOf : World → PortMarks
-marksOf w = marksBy (w .state .port .gone) (w .state .port .suspended) (w .state .port .«was_running») (w .state .stats .«midi_asleep»)
+marksOf w = marksBy (w .state .port .gone) (w .state .port .suspended) (w .state .port .«was_running») (counterOf «midi_asleep» (w .state .stats))
 
 abbrev pub marksDo : Effect → PortMarks → PortMarks
 marksDo none k = k
-marksDo (tallied other n) k = k
-marksDo (tallied unread n) k = marksBy (k .gone) (k .suspended) (k .running) (wrapped (k .asleep + n))
-marksDo (tallied read n) k = k
-marksDo (tallied enumerated n) k = k
+marksDo (tallied c n) k = marksBy (k .gone) (k .suspended) (k .running) (rose (place «midi_asleep») (place c) n (k .asleep))
 marksDo (cableIs b) k = marksBy b (k .suspended) (k .running) (k .asleep)
 marksDo (suspendIs b) k = marksBy (k .gone) b (k .running) (k .asleep)
 marksDo (runIs b) k = marksBy (k .gone) (k .suspended) b (k .asleep)
 marksDo (blockIs n m) k = k
 marksDo (came bs) k = k
 
+-- with another count of reads
+abbrev readIs : MidiCome → ℕ → MidiCome
+readIs k n = record { counted = n; bytes = k .bytes; area = k .area }
+
 abbrev pub comeDo : Effect → MidiCome → MidiCome
 comeDo none k = k
-comeDo (tallied other n) k = k
-comeDo (tallied unread n) k = k
-comeDo (tallied read n) k = record { counted = wrapped (k .counted + n); bytes = k .bytes; area = k .area }
-comeDo (tallied enumerated n) k = k
+comeDo (tallied c n) k = readIs k (rose (place «midi_dtds») (place c) n (k .counted))
 comeDo (cableIs b) k = k
 comeDo (suspendIs b) k = k
 comeDo (runIs b) k = k
@@ -54,20 +55,11 @@ abbrev pub Done : Change → World → Type 0
 Done c w = (marksOf (apply c w) ≡ marksDo (effectOf c) (marksOf w)) × (midiCome (apply c w) ≡ comeDo (effectOf c) (midiCome w))
 
 count-done : (c : Counter) (n : ℕ) (w : World) → Done (count c n) w
-unfolding apply counted
-count-done microframes n w = (refl, refl)
-count-done «in_transfers» n w = (refl, refl)
-count-done «out_transfers» n w = (refl, refl)
-count-done «in_frames» n w = (refl, refl)
-count-done «out_frames» n w = (refl, refl)
-count-done «bad_blocks» n w = (refl, refl)
-count-done «midi_dtds» n w = (refl, refl)
-count-done «midi_asleep» n w = (refl, refl)
-count-done «out_underruns» n w = (refl, refl)
-count-done «midi_packets_out» n w = (refl, refl)
-count-done «vendor_in_bytes» n w = (refl, refl)
-count-done restarts n w = (refl, refl)
-count-done enumerations n w = (refl, refl)
+unfolding apply
+count-done c n w = (
+  ap (marksBy (w .state .port .gone) (w .state .port .suspended) (w .state .port .«was_running»)) (raised-by (place «midi_asleep») (place c) n (w .state .stats)),
+  ap (readIs (midiCome w)) (raised-by (place «midi_dtds») (place c) n (w .state .stats)),
+)
 
 pub done : (c : Change) (w : World) → Done c w
 unfolding apply
@@ -102,7 +94,7 @@ done (frame f) w = (refl, refl)
 done (taken n) w = (refl, refl)
 
 -- fields that change by the marks' effects and by those of MIDI that comes
-module _ {K : Type 0} (does : Effect → K → K) (rests : (k : K) → does none k ≡ k) (others : (n : ℕ) (k : K) → does (tallied other n) k ≡ k) (enumerates : (n : ℕ) (k : K) → does (tallied enumerated n) k ≡ k) (blocks : (n m : ℕ) (k : K) → does (blockIs n m) k ≡ k) where
+module _ {K : Type 0} (does : Effect → K → K) (rests : (k : K) → does none k ≡ k) (others : (c : Counter) → plainCounterBy blockAndEnumerations c ≡ true → (n : ℕ) (k : K) → does (tallied c n) k ≡ k) (blocks : (n m : ℕ) (k : K) → does (blockIs n m) k ≡ k) where
   abbrev pub fieldsBy : (of : World → K) → ((c : Change) (w : World) → of (apply c w) ≡ does (effectOf c) (of w)) → Fields K
   fieldsBy of applies =
       record {
@@ -116,10 +108,7 @@ module _ {K : Type 0} (does : Effect → K → K) (rests : (k : K) → does none
 
   leaves : (e : Effect) → plainEffect blockAndEnumerations e ≡ true → (k : K) → does e k ≡ k
   leaves none h k = rests k
-  leaves (tallied other n) h k = others n k
-  leaves (tallied unread n) h k = absurd (false-true h)
-  leaves (tallied read n) h k = absurd (false-true h)
-  leaves (tallied enumerated n) h k = enumerates n k
+  leaves (tallied c n) h k = others c h n k
   leaves (cableIs b) h k = absurd (false-true h)
   leaves (suspendIs b) h k = absurd (false-true h)
   leaves (runIs b) h k = absurd (false-true h)
@@ -129,14 +118,25 @@ module _ {K : Type 0} (does : Effect → K → K) (rests : (k : K) → does none
   plain-by : (c : Change) → plain c ≡ true → (k : K) → does (effectOf c) k ≡ k
   plain-by c = leaves (effectOf c)
 
+-- a counter that is neither that of microframes without MIDI nor that of reads
+pub marks-other : (c : Counter) → plainCounterBy blockAndEnumerations c ≡ true → (n : ℕ) (k : PortMarks) → marksDo (tallied c n) k ≡ k
+marks-other c h n k =
+    ap (marksBy (k .gone) (k .suspended) (k .running)) (rose-other (place «midi_asleep») (place c) n (k .asleep) (and-true (not (eqb (place «midi_asleep») (place c))) _ h .0))
+
+pub come-other : (c : Counter) → plainCounterBy blockAndEnumerations c ≡ true → (n : ℕ) (k : MidiCome) → comeDo (tallied c n) k ≡ k
+come-other c h n k =
+    let rest = and-true (not (eqb (place «midi_asleep») (place c))) _ h .1 in
+    let read = and-true (not (eqb (place «midi_dtds») (place c)) || false) _ rest .0 in
+    ap (readIs k) (rose-other (place «midi_dtds») (place c) n (k .counted) (sym (or-false (not (eqb (place «midi_dtds») (place c)))) ∙ read))
+
 abbrev pub marks : Fields PortMarks
-marks = fieldsBy marksDo (λ k. refl) (λ n k. refl) (λ n k. refl) (λ n m k. refl) marksOf (λ c w. done c w .0)
+marks = fieldsBy marksDo (λ k. refl) marks-other (λ n m k. refl) marksOf (λ c w. done c w .0)
 
 pub marks-plain : (c : Change) → plain c ≡ true → (k : PortMarks) → marks .on c k ≡ k
-marks-plain = plain-by marksDo (λ k. refl) (λ n k. refl) (λ n k. refl) (λ n m k. refl)
+marks-plain = plain-by marksDo (λ k. refl) marks-other (λ n m k. refl)
 
 abbrev pub come : Fields MidiCome
-come = fieldsBy comeDo (λ k. refl) (λ n k. refl) (λ n k. refl) (λ n m k. refl) midiCome (λ c w. done c w .1)
+come = fieldsBy comeDo (λ k. refl) come-other (λ n m k. refl) midiCome (λ c w. done c w .1)
 
 pub come-plain : (c : Change) → plain c ≡ true → (k : MidiCome) → come .on c k ≡ k
-come-plain = plain-by comeDo (λ k. refl) (λ n k. refl) (λ n k. refl) (λ n m k. refl)
+come-plain = plain-by comeDo (λ k. refl) come-other (λ n m k. refl)

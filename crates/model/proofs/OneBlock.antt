@@ -17,7 +17,7 @@ use Rattle.dtd.proofs.Runs.{IsActive, active-stores, active-moved, active-retir
 use Rattle.record.specs.declared.Phase.{Phase}
 use Rattle.record.specs.declared.Phase.the-variants.{Idle, Vbus, Reset, Enumerate, Stream}
 use Rattle.record.specs.declared.Settings.{Settings}
-use Rattle.record.specs.Record.{counted, enumerations, «out_transfers», «out_frames», «out_underruns»}
+use Rattle.record.specs.Record.{counted, enumerations, «out_transfers», «out_frames», «out_underruns», raised}
 use Rattle.record.specs.World.{World, busOf}
 use Rattle.record.specs.Change.{Change, bus, ran, lost, count, phase, gone, credit, counter, taken, apply, Step, left, _then_, nothing, when, one, here, onPage, runs, ranStores}
 use Rattle.model.specs.Phases.{counts, ticks, dropsRequest, forgets, returns, cable, suspends, leaves, startsFrame, changing}
@@ -211,7 +211,7 @@ gets-open c rs v =
 
 -- a host that is back is Idle
 idle-returns : (v : World) → left (one (λ w. gone false) then returns) v .state .phase ≡ Idle
-unfolding andThen one apply returns forgets dropsRequest counted
+unfolding andThen one apply returns forgets dropsRequest raised
 idle-returns v = refl
 
 idle-opens : (c : Settings) (w : World) → w .state .port .gone ≡ true → left (opens c false) w .state .phase ≡ Idle
@@ -417,10 +417,10 @@ placed-output t w e =
 -- ---- what the output step changes
 
 -- the run of a ready output endpoint: its stores, one descriptor, the bytes moved
-ready-active : (x : World) → outputReady x ≡ true → IsActive audioOut (x .memory) (queueHead audioOut (x .memory .page)) (outPointer x) (outToken x)
+ready-active : (x : World) → outputReady x ≡ true → IsActive audioOut (x .lent .memory) (queueHead audioOut (x .lent .memory .page)) (outPointer x) (outToken x)
 unfolding outputReady
 ready-active x e =
-    record { prime = and-first _ _ e; active = and-second (primed audioOut (x .memory .page)) _ e; head = refl; next = refl; token = refl }
+    record { prime = and-first _ _ e; active = and-second (primed audioOut (x .lent .memory .page)) _ e; head = refl; next = refl; token = refl }
 
 ready-stores : (x : World) → outputReady x ≡ true → runDtds audioOut (blockOf x) (busOf x) .stores ≡ blockStores x (busOf x)
 unfolding dataOut S.when moves andThen
@@ -458,7 +458,7 @@ block-list x e =
 
 -- ---- the output step by its tests
 
-outputs-open : (x : World) → streamOut x ≡ pick (primed audioOut (x .memory .page) && leb BLOCK-FRAMES (x .state .audio .credit)) (pick (nextActive audioOut (x .memory)) (sendsBlock (blockOf x) x) (unprimes x)) []
+outputs-open : (x : World) → streamOut x ≡ pick (primed audioOut (x .lent .memory .page) && leb BLOCK-FRAMES (x .state .audio .credit)) (pick (nextActive audioOut (x .lent .memory)) (sendsBlock (blockOf x) x) (unprimes x)) []
 unfolding streamOut choose here nothing
 outputs-open x = refl
 
@@ -468,14 +468,14 @@ unprimes-list x = refl
 
 -- primed, with a credit of at least seven, before it is looked whether the next descriptor is active
 abbrev asked : World → Bool
-asked x = primed audioOut (x .memory .page) && leb BLOCK-FRAMES (x .state .audio .credit)
+asked x = primed audioOut (x .lent .memory .page) && leb BLOCK-FRAMES (x .state .audio .credit)
 
 -- by its tests: a block, or the one store of an ended or inactive list, or nothing
 outputs-list : (x : World) → streamOut x ≡ pick (outputReady x && leb BLOCK-FRAMES (x .state .audio .credit)) (oneBlock x) (pick (asked x) (unprimed x) [])
 unfolding outputReady
-outputs-list x = outputs-open x ∙ by (primed audioOut (x .memory .page)) (leb BLOCK-FRAMES (x .state .audio .credit)) (nextActive audioOut (x .memory)) refl refl
+outputs-list x = outputs-open x ∙ by (primed audioOut (x .lent .memory .page)) (leb BLOCK-FRAMES (x .state .audio .credit)) (nextActive audioOut (x .lent .memory)) refl refl
   where
-    by : (p c a : Bool) → primed audioOut (x .memory .page) ≡ p → nextActive audioOut (x .memory) ≡ a
+    by : (p c a : Bool) → primed audioOut (x .lent .memory .page) ≡ p → nextActive audioOut (x .lent .memory) ≡ a
         → pick (p && c) (pick a (sendsBlock (blockOf x) x) (unprimes x)) [] ≡ pick ((p && a) && c) (oneBlock x) (pick (p && c) (unprimed x) [])
     by true true true ep ea = block-list x (ap₂ _&&_ ep ea)
     by true true false ep ea = unprimes-list x

@@ -1,29 +1,24 @@
 -- What the output step changes of the record, read: the stream counter, the sending ring's place, and the frames counted as sent.
-use Prim.Native.Nat.{ℕ, _+_}
-use mathlib.Core.Path.{_≡_, refl}
-use mathlib.Core.Bool.{true}
+use Prim.Native.Nat.{ℕ}
+use mathlib.Core.Path.{_≡_, refl, ap}
+use mathlib.Core.Bool.{true, not}
+use lib.Dec.{eqb}
+use Rattle.bus.proofs.Sizes.{and-true}
 use Rattle.bits.proofs.Tests.{false-true}
-use Rattle.record.specs.Record.{wrapped, counted, Counter, microframes, «in_transfers», «out_transfers», «in_frames», «out_frames», «bad_blocks», «midi_dtds», «midi_asleep», «out_underruns», «midi_packets_out», «vendor_in_bytes», restarts, enumerations}
+use Rattle.record.specs.Record.{Counter, place, «in_frames», «out_frames»}
+use Rattle.record.proofs.Counters.{rose, raised-by, rose-other}
 use Rattle.record.specs.World.{World}
 use Rattle.record.specs.Change.{Change, bus, ran, lost, count, uf, phase, started, gone, suspended, wasRunning, credit, budget, counter, block, timers, control, queued, popped, pushed, cleared, reply, device, config, forgot, midi, serial, received, frame, taken, takenFrom, apply}
 use Rattle.model.specs.Earned.{Out, outOf}
 use Rattle.model.proofs.Fields.{Fields}
 use Rattle.model.proofs.Reading.{Reading, readingOf, Lasting, Unheard, quiet, quietCounter}
 
+-- with another count of frames sent
+abbrev sentIs : Out → ℕ → Out
+sentIs o n = record { counter = o .counter; sending = o .sending; capacity = o .capacity; sent = n }
+
 abbrev pub outCounts : Counter → ℕ → Out → Out
-outCounts microframes n o = o
-outCounts «in_transfers» n o = o
-outCounts «out_transfers» n o = o
-outCounts «in_frames» n o = o
-outCounts «out_frames» n o = record { counter = o .counter; sending = o .sending; capacity = o .capacity; sent = wrapped (o .sent + n) }
-outCounts «bad_blocks» n o = o
-outCounts «midi_dtds» n o = o
-outCounts «midi_asleep» n o = o
-outCounts «out_underruns» n o = o
-outCounts «midi_packets_out» n o = o
-outCounts «vendor_in_bytes» n o = o
-outCounts restarts n o = o
-outCounts enumerations n o = o
+outCounts c n o = sentIs o (rose (place «out_frames») (place c) n (o .sent))
 
 abbrev pub outOn : Change → Out → Out
 outOn (bus s) o = o
@@ -57,20 +52,8 @@ outOn (frame f) o = o
 outOn (taken n) o = record { counter = o .counter; sending = takenFrom (o .capacity) n (o .sending); capacity = o .capacity; sent = o .sent }
 
 out-count : (c : Counter) (n : ℕ) (w : World) → outOf (apply (count c n) w) ≡ outOn (count c n) (outOf w)
-unfolding apply counted
-out-count microframes n w = refl
-out-count «in_transfers» n w = refl
-out-count «out_transfers» n w = refl
-out-count «in_frames» n w = refl
-out-count «out_frames» n w = refl
-out-count «bad_blocks» n w = refl
-out-count «midi_dtds» n w = refl
-out-count «midi_asleep» n w = refl
-out-count «out_underruns» n w = refl
-out-count «midi_packets_out» n w = refl
-out-count «vendor_in_bytes» n w = refl
-out-count restarts n w = refl
-out-count enumerations n w = refl
+unfolding apply
+out-count c n w = ap (sentIs (outOf w)) (raised-by (place «out_frames») (place c) n (w .state .stats))
 
 pub out-apply : (c : Change) (w : World) → outOf (apply c w) ≡ outOn c (outOf w)
 unfolding apply
@@ -116,19 +99,7 @@ outs =
     }
 
 out-counter : (c : Counter) → quietCounter c ≡ true → (n : ℕ) (k : Out) → outOn (count c n) k ≡ k
-out-counter microframes e n k = refl
-out-counter «in_transfers» e n k = refl
-out-counter «out_transfers» e n k = refl
-out-counter «in_frames» e n k = refl
-out-counter «out_frames» e n k = absurd (false-true e)
-out-counter «bad_blocks» e n k = refl
-out-counter «midi_dtds» e n k = refl
-out-counter «midi_asleep» e n k = refl
-out-counter «out_underruns» e n k = refl
-out-counter «midi_packets_out» e n k = refl
-out-counter «vendor_in_bytes» e n k = refl
-out-counter restarts e n k = refl
-out-counter enumerations e n k = refl
+out-counter c e n k = ap (sentIs k) (rose-other (place «out_frames») (place c) n (k .sent) (and-true (not (eqb (place «in_frames») (place c))) _ e .1))
 
 pub out-leaves : (c : Change) → quiet c ≡ true → (k : Out) → outOn c k ≡ k
 out-leaves (bus s) h k = refl

@@ -1,14 +1,15 @@
 -- Fields that few changes touch: which steps of a microframe leave them. One law for each step serves every choice of such fields.
 use Prim.Native.Nat.{ℕ}
-use mathlib.Core.Path.{_≡_, refl, sym}
-use mathlib.Core.Bool.{Bool, true, false, not, _&&_}
+use mathlib.Core.Path.{_≡_, refl, sym, ap}
+use mathlib.Core.Bool.{Bool, true, false, not, _&&_, _||_}
+use lib.Dec.{eqb}
 use mathlib.Core.List.{List}
 use Rattle.bits.proofs.Tests.{false-true}
 use Rattle.dtd.specs.Dtd.{Run}
 use Rattle.config.specs.Config.{Choice}
 use Rattle.record.specs.declared.Phase.{Phase}
 use Rattle.record.specs.declared.Settings.{Settings}
-use Rattle.record.specs.Record.{Counter, microframes, «in_transfers», «out_transfers», «in_frames», «out_frames», «bad_blocks», «midi_dtds», «midi_asleep», «out_underruns», «midi_packets_out», «vendor_in_bytes», restarts, enumerations}
+use Rattle.record.specs.Record.{Counter, place, «midi_dtds», «midi_asleep», enumerations}
 use Rattle.record.specs.World.{World}
 use Rattle.record.specs.Change.{Change, bus, ran, lost, count, uf, phase, started, gone, suspended, wasRunning, credit, budget, counter, block, timers, control, queued, popped, pushed, cleared, reply, device, config, forgot, midi, serial, received, frame, taken, one}
 use Rattle.model.specs.Phases.{within, counts, ticks, dropsRequest, forgets, returns, cable, suspends, enters, idles, powers, resets, startsFrame}
@@ -20,32 +21,10 @@ use Rattle.model.proofs.Single.{keeps-suspends}
 use Rattle.model.proofs.Streaming.{Streamed, blockIn, framesIn, badBlock, blockOut, framesOut, underruns, packetsOut, vendorIn, credits, budgets, counters, midiSent, frameKept, framesTaken, keeps-naks, keeps-reads, keeps-serves, keeps-writes, keeps-vendor, keeps-in, keeps-streams}
 use Rattle.model.proofs.Fields.{Fields, Keeps, keeps-then, keeps-if, keeps-pick, keeps-nothing, keeps-one, keeps-bus, keeps-page, keeps-runs, keeps-here}
 
--- the counters that some fields hold: microframes without MIDI, reads of MIDI, enumerations
-pub data Tally : Type 0 where
-  other : Tally
-  unread : Tally
-  read : Tally
-  enumerated : Tally
-
-abbrev pub tallyOf : Counter → Tally
-tallyOf microframes = other
-tallyOf «in_transfers» = other
-tallyOf «out_transfers» = other
-tallyOf «in_frames» = other
-tallyOf «out_frames» = other
-tallyOf «bad_blocks» = other
-tallyOf «midi_dtds» = read
-tallyOf «midi_asleep» = unread
-tallyOf «out_underruns» = other
-tallyOf «midi_packets_out» = other
-tallyOf «vendor_in_bytes» = other
-tallyOf restarts = other
-tallyOf enumerations = enumerated
-
 -- what a change does to the fields that few changes touch: counters, the port's marks, the block, the bytes that came
 pub data Effect : Type 0 where
   none : Effect
-  tallied : Tally → ℕ → Effect
+  tallied : Counter → ℕ → Effect
   cableIs : Bool → Effect
   suspendIs : Bool → Effect
   runIs : Bool → Effect
@@ -56,7 +35,7 @@ abbrev pub effectOf : Change → Effect
 effectOf (bus s) = none
 effectOf (ran e r n) = none
 effectOf (lost n) = none
-effectOf (count c n) = tallied (tallyOf c) n
+effectOf (count c n) = tallied c n
 effectOf (uf n) = none
 effectOf (phase p) = none
 effectOf (started n) = none
@@ -91,18 +70,14 @@ pub record Ignored : Type 0 where
   pub marks : Bool
 
 -- the plain counters and changes, with those ignored; the count of microframes without MIDI is never one
-abbrev pub plainTally : Ignored → Tally → Bool
-plainTally i other = true
-plainTally i unread = false
-plainTally i read = i .midi
-plainTally i enumerated = i .enumerations
-
 abbrev pub plainCounterBy : Ignored → Counter → Bool
-plainCounterBy i c = plainTally i (tallyOf c)
+plainCounterBy i c =
+    not (eqb (place «midi_asleep») (place c))
+    && ((not (eqb (place «midi_dtds») (place c)) || i .midi) && (not (eqb (place enumerations) (place c)) || i .enumerations))
 
 abbrev pub plainEffect : Ignored → Effect → Bool
 plainEffect i none = true
-plainEffect i (tallied a n) = plainTally i a
+plainEffect i (tallied c n) = plainCounterBy i c
 plainEffect i (cableIs b) = i .marks
 plainEffect i (suspendIs b) = i .marks
 plainEffect i (runIs b) = i .marks
@@ -281,7 +256,7 @@ module _ {K : Type 0} {i : Ignored} (F : Fields K) (P : (c : Change) → plainBy
   module _ (M : i .midi ≡ true) where
     pub still-awake : (every : ℕ) → Keeps F (midiIn false every)
     unfolding midiIn
-    still-awake every = keeps-then F _ _ (keeps-naks F) (keeps-here F _ (λ v. keeps-reads F (λ bs. P (received bs) M) (λ n. P (count «midi_dtds» n) M) _))
+    still-awake every = keeps-then F _ _ (keeps-naks F) (keeps-here F _ (λ v. keeps-reads F (λ bs. P (received bs) M) (λ n. P (count «midi_dtds» n) (ap (λ (b : Bool). b && true) M)) _))
 
     still-serves : Keeps F serialStep
     still-serves = keeps-serves F (λ bs. P (received bs) M) (λ n. P (serial n) refl)

@@ -9,7 +9,7 @@ use Rattle.bits.proofs.Tests.{false-true, not-true, not-holds, and-first, and-s
 use Rattle.record.specs.declared.Phase.{Phase}
 use Rattle.record.specs.declared.Phase.the-variants.{Idle, Vbus, Reset, Enumerate, Stream}
 use Rattle.record.specs.declared.Settings.{Settings}
-use Rattle.record.specs.Record.{wrapped, counted, «midi_asleep»}
+use Rattle.record.specs.Record.{wrapped, counted, «midi_asleep», counterOf, raised}
 use Rattle.record.specs.World.{World}
 use Rattle.record.specs.Change.{phase, gone, suspended, wasRunning, apply, left, _then_, nothing, when, one, here}
 use Rattle.model.specs.Phases.{within, ticks, forgets, unplugging, cable, sleeps, suspends, enters, departs, leaves}
@@ -33,7 +33,7 @@ abbrev counting : Bool → PortMarks → PortMarks
 counting b k = marksBy (k .gone) (k .suspended) (k .running) (pick b (wrapped (k .asleep + 1)) (k .asleep))
 
 marks-sleeps : (v : World) → marksOf (left sleeps v) ≡ counting true (marksOf v)
-unfolding sleeps one apply counted
+unfolding sleeps one apply raised
 marks-sleeps v = refl
 
 marks-midi : (asleep : Bool) (every : ℕ) (v : World) → marksOf (left (midiIn asleep every) v) ≡ counting asleep (marksOf v)
@@ -184,7 +184,7 @@ marks-leaves true false v =
     ∙ set-off setRunning (v .state .port .«was_running») (marksOf v) refl
 
 -- at the choice by phase
-marks-phase : (rs : Bool) (w : World) → marksOf (phaseBy rs w) ≡ marksBy false false (pick (w .settings .«device_stack») rs (w .state .port .«was_running»)) (w .state .stats .«midi_asleep»)
+marks-phase : (rs : Bool) (w : World) → marksOf (phaseBy rs w) ≡ marksBy false false (pick (w .settings .«device_stack») rs (w .state .port .«was_running»)) (counterOf «midi_asleep» (w .state .stats))
 unfolding phaseBy toPhase
 marks-phase rs w =
     let stack = w .settings .«device_stack» in
@@ -198,7 +198,7 @@ abbrev pub markedBy : ℕ → Bool → Bool → Bool → World → PortMarks
 markedBy t rs g s w =
     marksBy g (pick g (w .state .port .suspended) s)
     (pick (g || s) (w .state .port .«was_running») (pick (w .settings .«device_stack») rs (w .state .port .«was_running»)))
-    (pick (g || (s || (outputBy rs g s w && midiAsleep (w .settings) t))) (wrapped (w .state .stats .«midi_asleep» + 1)) (w .state .stats .«midi_asleep»))
+    (pick (g || (s || (outputBy rs g s w && midiAsleep (w .settings) t))) (wrapped (counterOf «midi_asleep» (w .state .stats) + 1)) (counterOf «midi_asleep» (w .state .stats)))
 
 marks-frame : (t : ℕ) (rs g s : Bool) (w : World) → marksOf (left (frameOf (w .settings) t rs g s) w) ≡ markedBy t rs g s w
 unfolding frameOf outputBy phaseBy toPhase
@@ -248,7 +248,7 @@ module _ (t : ℕ) (w : World) where
   running-is : next .state .port .«was_running» ≡ pick (goneAt t w || asleepAt t w) (w .state .port .«was_running») (pick (w .settings .«device_stack») (rsSet w) (w .state .port .«was_running»))
   running-is = ap (λ (k : PortMarks). k .running) (marks-microframe t w)
 
-  pub run-mark : RunTested (w .settings) t → (next .state .port .«was_running» ≡ true) ↔ RunBit (w .memory .page)
+  pub run-mark : RunTested (w .settings) t → (next .state .port .«was_running» ≡ true) ↔ RunBit (w .lent .memory .page)
   run-mark r =
       is-test (running-is ∙ simp (r .stack, not-holds (goneAt t w) (λ e. r .present (gone-spans t w .0 e)), not-holds (asleepAt t w) (λ e. r .awake (suspend-span t w .0 e))))
       (run-bit w)
@@ -300,11 +300,11 @@ module _ (t : ℕ) (w : World) where
           or-second (goneAt t w) _
           (or-second (asleepAt t w) _ (and-both (reachesOutput t w) _ r (and-both (w .settings .«midi_in») _ m (within-between (w .settings .sleep) t .1 s))))
 
-  asleep-is : next .state .stats .«midi_asleep» ≡ pick unread (wrapped (w .state .stats .«midi_asleep» + 1)) (w .state .stats .«midi_asleep»)
+  asleep-is : counterOf «midi_asleep» (next .state .stats) ≡ pick unread (wrapped (counterOf «midi_asleep» (w .state .stats) + 1)) (counterOf «midi_asleep» (w .state .stats))
   asleep-is = ap (λ (k : PortMarks). k .asleep) (marks-microframe t w)
 
-  pub asleep-counted : NoMidi t w → next .state .stats .«midi_asleep» ≡ (w .state .stats .«midi_asleep» + 1) % 2 ^ 64
-  asleep-counted n = asleep-is ∙ ap (λ (b : Bool). pick b (wrapped (w .state .stats .«midi_asleep» + 1)) (w .state .stats .«midi_asleep»)) (read-or-not .1 n)
+  pub asleep-counted : NoMidi t w → counterOf «midi_asleep» (next .state .stats) ≡ (counterOf «midi_asleep» (w .state .stats) + 1) % 2 ^ 64
+  asleep-counted n = asleep-is ∙ ap (λ (b : Bool). pick b (wrapped (counterOf «midi_asleep» (w .state .stats) + 1)) (counterOf «midi_asleep» (w .state .stats))) (read-or-not .1 n)
 
-  pub asleep-kept : ¬ NoMidi t w → next .state .stats .«midi_asleep» ≡ w .state .stats .«midi_asleep»
-  asleep-kept n = asleep-is ∙ ap (λ (b : Bool). pick b (wrapped (w .state .stats .«midi_asleep» + 1)) (w .state .stats .«midi_asleep»)) (not-holds unread (λ e. n (read-or-not .0 e)))
+  pub asleep-kept : ¬ NoMidi t w → counterOf «midi_asleep» (next .state .stats) ≡ counterOf «midi_asleep» (w .state .stats)
+  asleep-kept n = asleep-is ∙ ap (λ (b : Bool). pick b (wrapped (counterOf «midi_asleep» (w .state .stats) + 1)) (counterOf «midi_asleep» (w .state .stats))) (not-holds unread (λ e. n (read-or-not .0 e)))

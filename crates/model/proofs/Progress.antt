@@ -12,7 +12,7 @@ use Rattle.bus.specs.Steps.{andThen, exec-choose}
 use Rattle.record.specs.declared.Phase.{Phase}
 use Rattle.record.specs.declared.Control.{Control}
 use Rattle.record.specs.declared.Settings.{Settings}
-use Rattle.record.specs.Record.{counted, wrapped}
+use Rattle.record.specs.Record.{raised, wrapped}
 use Rattle.record.specs.World.{World}
 use Rattle.record.specs.Change.{Change, bus, ran, lost, count, uf, phase, started, gone, suspended, wasRunning, credit, budget, counter, block, timers, control, queued, popped, pushed, cleared, reply, device, config, forgot, midi, serial, received, frame, taken, apply, drained, Step, left, nothing, if, when, one, here}
 use Rattle.model.specs.Phases.{counts, ticks, cable, suspends, leaves}
@@ -39,7 +39,7 @@ standBy p c n q u t g r = record { phase = p; control = c; waiting = n; queue = 
 
 abbrev pub standOf : World → Stand
 standOf w =
-    standBy (w .state .phase) (w .state .control) (w .state .lengths .setups) (w .setups) (w .state .port .uf) (w .state .port .t) (w .state .port .gone) (w .state .port .«was_running»)
+    standBy (w .state .phase) (w .state .control) (w .state .lengths .setups) (w .own .setups) (w .state .port .uf) (w .state .port .t) (w .state .port .gone) (w .state .port .«was_running»)
 
 abbrev pub standOn : Change → Stand → Stand
 standOn (bus s) k = k
@@ -140,7 +140,7 @@ abbrev pub seen : Bool → Stand → Stand
 seen b k = standBy (k .phase) (k .control) (k .waiting) (k .queue) (k .uf) (k .t) (k .gone) b
 
 stand-counts : (w : World) → standOf (left counts w) ≡ next (standOf w)
-unfolding counts andThen one apply counted
+unfolding counts andThen one apply raised
 stand-counts w = refl
 
 pub keeps-resumes : Keeps stands (suspends false)

@@ -2,7 +2,7 @@
 -- step serves every reading.
 use Prim.Native.Nat.{ℕ, zero, suc}
 use mathlib.Core.Path.{_≡_, refl, ap, _∙_}
-use mathlib.Core.Bool.{Bool, true, false, not}
+use mathlib.Core.Bool.{Bool, true, false, not, _&&_}
 use mathlib.Core.List.{List, [], _∷_, map}
 use lib.Dec.{eqb}
 use Rattle.bits.specs.Pick.{pick, pick-map, pick-eq, pick-same}
@@ -13,7 +13,7 @@ use Rattle.dtd.specs.Dtd.{Endpoint, Run, runDtds}
 use Rattle.config.specs.Config.{Choice}
 use Rattle.record.specs.declared.Phase.{Phase}
 use Rattle.record.specs.declared.Settings.{Settings}
-use Rattle.record.specs.Record.{Counter, microframes, «in_transfers», «out_transfers», «in_frames», «out_frames», «bad_blocks», «midi_dtds», «midi_asleep», «out_underruns», «midi_packets_out», «vendor_in_bytes», restarts, enumerations}
+use Rattle.record.specs.Record.{Counter, place, «in_frames», «out_frames»}
 use Rattle.record.specs.World.{World, busOf}
 use Rattle.record.specs.Change.{Change, bus, ran, lost, count, uf, phase, started, gone, suspended, wasRunning, credit, budget, counter, block, timers, control, queued, popped, pushed, cleared, reply, device, config, forgot, midi, serial, received, frame, taken, Step, left, _then_, nothing, if, one, here, onBus, onPage, runs, ranStores}
 use Rattle.model.specs.Phases.{counts, ticks, cable, returns, forgets, dropsRequest, sleeps, suspends, leaves, departs, enters, idles, powers, resets, startsFrame}
@@ -27,19 +27,7 @@ use Rattle.model.proofs.Fields.{Fields, Keeps, fields-replay}
 -- a run or the bytes that it lost
 
 abbrev pub quietCounter : Counter → Bool
-quietCounter microframes = true
-quietCounter «in_transfers» = true
-quietCounter «out_transfers» = true
-quietCounter «in_frames» = false
-quietCounter «out_frames» = false
-quietCounter «bad_blocks» = true
-quietCounter «midi_dtds» = true
-quietCounter «midi_asleep» = true
-quietCounter «out_underruns» = true
-quietCounter «midi_packets_out» = true
-quietCounter «vendor_in_bytes» = true
-quietCounter restarts = true
-quietCounter enumerations = true
+quietCounter c = not (eqb (place «in_frames») (place c)) && not (eqb (place «out_frames») (place c))
 
 abbrev pub quiet : Change → Bool
 quiet (bus s) = true

@@ -128,17 +128,17 @@ interrupt-bit tok = any-is 15 tok
 -- ---- the audio steps: endpoint 3
 
 -- 870: from the device; 904-917: towards it
-ready-is : (e : Endpoint) (w : World) → (ready e w ≡ true) ↔ (Primed e (w .memory .page) × Active e (w .memory))
+ready-is : (e : Endpoint) (w : World) → (ready e w ≡ true) ↔ (Primed e (w .lent .memory .page) × Active e (w .lent .memory))
 ready-is e w = (
-  λ h. (primed-bit e (w .memory .page) .0 (and-first (primed e (w .memory .page)) _ h), next-active e (w .memory) .0 (and-second (primed e (w .memory .page)) _ h)),
-  λ a. and-both _ _ (primed-bit e (w .memory .page) .1 (a .0)) (next-active e (w .memory) .1 (a .1)),
+  λ h. (primed-bit e (w .lent .memory .page) .0 (and-first (primed e (w .lent .memory .page)) _ h), next-active e (w .lent .memory) .0 (and-second (primed e (w .lent .memory .page)) _ h)),
+  λ a. and-both _ _ (primed-bit e (w .lent .memory .page) .1 (a .0)) (next-active e (w .lent .memory) .1 (a .1)),
 )
 
-pub input-ready : (w : World) → (inputReady w ≡ true) ↔ (Primed (endpoint 3 true) (w .memory .page) × Active (endpoint 3 true) (w .memory))
+pub input-ready : (w : World) → (inputReady w ≡ true) ↔ (Primed (endpoint 3 true) (w .lent .memory .page) × Active (endpoint 3 true) (w .lent .memory))
 unfolding inputReady
 input-ready w = ready-is (endpoint 3 true) w
 
-pub output-ready : (w : World) → (outputReady w ≡ true) ↔ (Primed (endpoint 3 false) (w .memory .page) × Active (endpoint 3 false) (w .memory))
+pub output-ready : (w : World) → (outputReady w ≡ true) ↔ (Primed (endpoint 3 false) (w .lent .memory .page) × Active (endpoint 3 false) (w .lent .memory))
 unfolding outputReady
 output-ready w = ready-is (endpoint 3 false) w
 
@@ -150,7 +150,7 @@ total-read n m = total-is (tokenOf n m) ∙ ap (λ (v : ℕ). v / 2 ^ 16 % 2 ^ 1
 
 module _ (n : ℕ) (u : World) where
   abbrev m : Memory
-  m = u .memory
+  m = u .lent .memory
 
   fits : withinBudget n u ≡ true → Within n m
   unfolding withinBudget named

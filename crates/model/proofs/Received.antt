@@ -18,7 +18,7 @@ abbrev pub keptBy : List ℕ → Ring → Kept
 keptBy l r = record { ring = l; place = r }
 
 abbrev pub keptOf : World → Kept
-keptOf w = keptBy (w .received) (w .state .audio .received)
+keptOf w = keptBy (w .lent .received) (w .state .audio .received)
 
 abbrev pub keptOn : Change → Kept → Kept
 keptOn (bus s) k = k

@@ -81,7 +81,7 @@ stand-posted qh a b v =
     ∙ stand-begun a b _
     ∙ ap (withRequest a b) (keeps-page stands _ _ ∙ keeps-one stands _ (λ w. refl) _ ∙ keeps-bus stands _ _ ∙ stand-popped v)
 
-stand-posts : (v : World) → standOf (left posts v) ≡ postedStand (little (v .setups) 0) (little (v .setups) 4) (standOf v)
+stand-posts : (v : World) → standOf (left posts v) ≡ postedStand (little (v .own .setups) 0) (little (v .own .setups) 4) (standOf v)
 unfolding posts here
 stand-posts v = stand-posted _ _ _ v
 
@@ -98,13 +98,13 @@ moved-up q n i h l =
 abbrev flags : PageStep
 flags = R._then_ (changing EPSETUPSR (λ v. W.set v 1)) (raising 1)
 
-flags-page : (v : World) → left (onPage flags) v .memory .page ≡ R.done flags (registers (v .memory .page) (v .state .port .line)) .page
+flags-page : (v : World) → left (onPage flags) v .lent .memory .page ≡ R.done flags (registers (v .lent .memory .page) (v .state .port .line)) .page
 unfolding onPage changing andThen setting following
 flags-page v =
     let l = v .state .port .line in
-    ap (λ (w : World). w .memory .page) (replay-bus (lifted flags (busOf v)) v)
+    ap (λ (w : World). w .lent .memory .page) (replay-bus (lifted flags (busOf v)) v)
     ∙ ap (λ (b : S.Bus). b .memory .page)
-    (on-bus (flags (registers (v .memory .page) l)) (v .memory .dynamic) (v .memory .sram) (v .memory .page) l (omega arith, (omega arith, tt)))
+    (on-bus (flags (registers (v .lent .memory .page) l)) (v .lent .memory .dynamic) (v .lent .memory .sram) (v .lent .memory .page) l (omega arith, (omega arith, tt)))
 
 flags-set : (p : List ℕ) (l : Bool) → length p ≡ 4096 → any (wordAt (R.done flags (registers p l) .page) EPSETUPSR) 1 ≡ true
 unfolding changing andThen setting following store
@@ -114,29 +114,29 @@ flags-set p l h =
     ∙ word-back p EPSETUPSR (W.set (wordAt p EPSETUPSR) 1) (omega (arith, h)))
     ∙ any-set 0 (wordAt p EPSETUPSR)
 
-page-one : (c : World → Change) → ((w : World) → apply (c w) w .memory .page ≡ w .memory .page) → (v : World) → left (one c) v .memory .page ≡ v .memory .page
+page-one : (c : World → Change) → ((w : World) → apply (c w) w .lent .memory .page ≡ w .lent .memory .page) → (v : World) → left (one c) v .lent .memory .page ≡ v .lent .memory .page
 unfolding one
 page-one c e v = e v
 
-length-bus : (f : S.BusStep) (v : World) → length (left (onBus f) v .memory .page) ≡ length (v .memory .page)
+length-bus : (f : S.BusStep) (v : World) → length (left (onBus f) v .lent .memory .page) ≡ length (v .lent .memory .page)
 unfolding onBus
-length-bus f v = ap (λ (w : World). length (w .memory .page)) (replay-bus (f (busOf v)) v) ∙ kept-stored (f (busOf v)) (busOf v) .page
+length-bus f v = ap (λ (w : World). length (w .lent .memory .page)) (replay-bus (f (busOf v)) v) ∙ kept-stored (f (busOf v)) (busOf v) .page
 
-posted-flag : (qh a b : ℕ) (v : World) → length (v .memory .page) ≡ 4096 → any (wordAt (left (posted qh a b) v .memory .page) EPSETUPSR) 1 ≡ true
+posted-flag : (qh a b : ℕ) (v : World) → length (v .lent .memory .page) ≡ 4096 → any (wordAt (left (posted qh a b) v .lent .memory .page) EPSETUPSR) 1 ≡ true
 unfolding posted apply
 posted-flag qh a b v h =
     let v₁ = left (one (λ w. popped)) v in
     let v₂ = left (onBus (S._then_ (putting (after qh 0x28) a) (putting (after qh 0x2C) b))) v₁ in
     let v₃ = left (one (λ w. lost (dropped32 (after qh 0x28) + dropped32 (after qh 0x2C)))) v₂ in
     let v₄ = left (onPage flags) v₃ in
-    let long : length (v₃ .memory .page) ≡ 4096 =
+    let long : length (v₃ .lent .memory .page) ≡ 4096 =
     ap length (page-one (λ w. lost (dropped32 (after qh 0x28) + dropped32 (after qh 0x2C))) (λ w. refl) v₂) ∙ length-bus _ v₁ ∙ ap length (page-one (λ w. popped) (λ w. refl) v) ∙ h in
-    ap (λ (w : World). any (wordAt (w .memory .page) EPSETUPSR) 1)
+    ap (λ (w : World). any (wordAt (w .lent .memory .page) EPSETUPSR) 1)
     (exec-then apply _ _ v ∙ exec-then apply _ _ v₁ ∙ exec-then apply _ _ v₂ ∙ exec-then apply _ _ v₃)
     ∙ ap (λ (q : List ℕ). any (wordAt q EPSETUPSR) 1) (page-one (λ w. control (begun a b (now w))) (λ w. refl) v₄ ∙ flags-page v₃)
-    ∙ flags-set (v₃ .memory .page) (v₃ .state .port .line) long
+    ∙ flags-set (v₃ .lent .memory .page) (v₃ .state .port .line) long
 
-posts-flag : (v : World) → length (v .memory .page) ≡ 4096 → any (wordAt (left posts v .memory .page) EPSETUPSR) 1 ≡ true
+posts-flag : (v : World) → length (v .lent .memory .page) ≡ 4096 → any (wordAt (left posts v .lent .memory .page) EPSETUPSR) 1 ≡ true
 unfolding posts here
 posts-flag v h = posted-flag _ _ _ v h
 
@@ -437,7 +437,7 @@ pub record Completed (t : ℕ) (w : World) : Type 0 where
   pub at : World
   pub stage : at .state .control .stage ≡ Status
   pub placed : Placed (microframe t) w (runOf (statusOf (w .state .control))) at
-  pub interrupted : Interrupted (statusOf (w .state .control)) (queueHead (statusOf (w .state .control)) (at .memory .page)) (busOf at) (runDtds (statusOf (w .state .control)) [] (busOf at) .stores)
+  pub interrupted : Interrupted (statusOf (w .state .control)) (queueHead (statusOf (w .state .control)) (at .lent .memory .page)) (busOf at) (runDtds (statusOf (w .state .control)) [] (busOf at) .stores)
 
 is-status : (s : Stage) → inStatus s ≡ true → s ≡ Status
 is-status Data e = absurd (false-true e)
@@ -502,7 +502,7 @@ module _ (t : ℕ) (w : World) (p : Present t w) (e : w .state .phase ≡ Enumer
   asked-stand : standOf asked ≡ opened t w p
   asked-stand = keeps-frame stands (there t w p) ∙ stand-there t w p (stays-running t w rs)
 
-  asked-page : length (w .memory .page) ≡ 4096 → Alike (w .memory .page) (asked .memory .page)
+  asked-page : length (w .lent .memory .page) ≡ 4096 → Alike (w .lent .memory .page) (asked .lent .memory .page)
   asked-page h =
       let x = alike-phase (rsSet w) w h in
       alike-then x (alike-frame (there t w p) (x .long))
@@ -552,7 +552,7 @@ module _ (t : ℕ) (w : World) (p : Present t w) (e : w .state .phase ≡ Enumer
         if-false (λ v. v .state .control .on) _ _ asked (asked-on false idle)
         ∙ if-false _ configured posts asked (ne-eqb (asked .state .lengths .setups) 0 (λ z. omega (arith, z, waiting-asked, some)))
 
-    posts-stand : standOf (left posts asked) ≡ postedStand (little (w .setups) 0) (little (w .setups) 4) (opened t w p)
+    posts-stand : standOf (left posts asked) ≡ postedStand (little (w .own .setups) 0) (little (w .own .setups) 4) (opened t w p)
     posts-stand = stand-posts asked ∙ ap (λ (k : Stand). postedStand (little (k .queue) 0) (little (k .queue) 4) k) asked-stand
 
     microframe-posts : left (microframe t) w ≡ left posts asked
@@ -570,7 +570,7 @@ module _ (t : ℕ) (w : World) (p : Present t w) (e : w .state .phase ≡ Enumer
           waits = omega (arith, some, ap (λ (k : Stand). k .waiting) posts-stand);
           moves =
               λ h i l. ap (λ (k : Stand). getD (k .queue) i 0) posts-stand
-              ∙ moved-up (w .setups) (w .state .lengths .setups) i h (subst (λ (n : ℕ). i < 8 * n) (ap (λ (k : Stand). k .waiting) posts-stand) l);
+              ∙ moved-up (w .own .setups) (w .state .lengths .setups) i h (subst (λ (n : ℕ). i < 8 * n) (ap (λ (k : Stand). k .waiting) posts-stand) l);
           goes-on = goes-on Enumerate (left posts asked) _ posts-stand e refl refl;
           flagged = λ h. posts-flag asked (asked-page h .long);
         }
@@ -599,15 +599,15 @@ module _ (t : ℕ) (w : World) (p : Present t w) (e : w .state .phase ≡ Enumer
     unfolding controls
     controls-requests = if-true (λ v. v .state .control .on) _ _ asked (asked-on true on)
 
-    module _ (h : length (w .memory .page) ≡ 4096) where
+    module _ (h : length (w .lent .memory .page) ≡ 4096) where
       -- endpoint 0 is stalled at control where it is at entry
-      stalled-asked : stalled asked ≡ any (wordAt (w .memory .page) EPCR0) 0x10001
+      stalled-asked : stalled asked ≡ any (wordAt (w .lent .memory .page) EPCR0) 0x10001
       stalled-asked = ap (λ (x : ℕ). any x 0x10001) (asked-page h .stall)
 
-      stalls : any (wordAt (w .memory .page) EPCR0) 0x10001 ≡ true → GoesOn Enumerate w (left (microframe t) w) × (left (microframe t) w .state .control .on ≡ false)
+      stalls : any (wordAt (w .lent .memory .page) EPCR0) 0x10001 ≡ true → GoesOn Enumerate w (left (microframe t) w) × (left (microframe t) w .state .control .on ≡ false)
       stalls s = ended (left unstalls asked) (controls-requests ∙ if-true stalled unstalls (stages stack) asked (stalled-asked ∙ s)) (unstalls-off asked)
 
-      module _ (free : any (wordAt (w .memory .page) EPCR0) 0x10001 ≡ false) where
+      module _ (free : any (wordAt (w .lent .memory .page) EPCR0) 0x10001 ≡ false) where
         controls-stages : left (controls stack) asked ≡ left (stages stack) asked
         controls-stages = controls-requests ∙ if-false stalled unstalls (stages stack) asked (stalled-asked ∙ free)
 
@@ -649,11 +649,11 @@ module _ (t : ℕ) (w : World) (p : Present t w) (e : w .state .phase ≡ Enumer
                   subst (λ (x : Endpoint). Placed (microframe t) w (runOf x) at) way
                   (placed-asked _ at (placed-running stack asked _ at (asked-on true on) (stalled-asked ∙ free) (placed-stages stack asked _ at s (placed-run stack at))));
               interrupted =
-                  subst (λ (x : Endpoint). Interrupted x (queueHead x (at .memory .page)) (busOf at) (runDtds x [] (busOf at) .stores)) way
+                  subst (λ (x : Endpoint). Interrupted x (queueHead x (at .lent .memory .page)) (busOf at) (runDtds x [] (busOf at) .stores)) way
                   (run-flags (statusEndpoint (at .state .control)) [] (busOf at) d);
             }
 
-        ends-at-once : (w .state .control .stage ≡ Status) ⊎ (w .state .control .second / 65536 ≡ 0) → Answers (statusOf (w .state .control)) (asked .memory)
+        ends-at-once : (w .state .control .stage ≡ Status) ⊎ (w .state .control .second / 65536 ≡ 0) → Answers (statusOf (w .state .control)) (asked .lent .memory)
             → GoesOn Enumerate w (left (microframe t) w) × (left (microframe t) w .state .control .on ≡ false)
         ends-at-once c a =
             let now-at = at-once asked (at-asked c) in
@@ -719,21 +719,21 @@ setup-posted t w p e rs idle some = subst (Posts w) (sym (microframe-posts t w p
 -- one runs, on an endpoint that is not stalled, and began at most 16,000 microframes ago: it runs on, or its status run retired a descriptor
 -- that asked for an interrupt, and it is over
 pub request-runs : (t : ℕ) (w : World) → Present t w → w .state .phase ≡ Enumerate → rsSet w ≡ true → w .state .control .on ≡ true
-    → length (w .memory .page) ≡ 4096 → any (wordAt (w .memory .page) EPCR0) 0x10001 ≡ false
+    → length (w .lent .memory .page) ≡ 4096 → any (wordAt (w .lent .memory .page) EPCR0) 0x10001 ≡ false
     → w .state .control .t0 ≤ w .state .port .uf → w .state .port .uf + 1 ≤ w .state .control .t0 + 16000
     → GoesOn Enumerate w (left (microframe t) w) × (RunsOn w (left (microframe t) w) ⊎ (Completed t w × (left (microframe t) w .state .control .on ≡ false)))
 request-runs t w p e rs on h free begun due = in-time t w p e rs on h free begun due
 
 -- one in its status stage, or without data, whose status endpoint answers at control with a completion, is over
 pub request-ends : (t : ℕ) (w : World) → Present t w → w .state .phase ≡ Enumerate → rsSet w ≡ true → w .state .control .on ≡ true
-    → length (w .memory .page) ≡ 4096 → any (wordAt (w .memory .page) EPCR0) 0x10001 ≡ false
-    → (w .state .control .stage ≡ Status) ⊎ (w .state .control .second / 65536 ≡ 0) → Answers (statusOf (w .state .control)) (atControl w .memory)
+    → length (w .lent .memory .page) ≡ 4096 → any (wordAt (w .lent .memory .page) EPCR0) 0x10001 ≡ false
+    → (w .state .control .stage ≡ Status) ⊎ (w .state .control .second / 65536 ≡ 0) → Answers (statusOf (w .state .control)) (atControl w .lent .memory)
     → GoesOn Enumerate w (left (microframe t) w) × (left (microframe t) w .state .control .on ≡ false)
 request-ends t w p e rs on h free c a = ends-at-once t w p e rs on h free c a
 
 -- one whose endpoint is stalled is over
 pub request-stalls : (t : ℕ) (w : World) → Present t w → w .state .phase ≡ Enumerate → rsSet w ≡ true → w .state .control .on ≡ true
-    → length (w .memory .page) ≡ 4096 → any (wordAt (w .memory .page) EPCR0) 0x10001 ≡ true
+    → length (w .lent .memory .page) ≡ 4096 → any (wordAt (w .lent .memory .page) EPCR0) 0x10001 ≡ true
     → GoesOn Enumerate w (left (microframe t) w) × (left (microframe t) w .state .control .on ≡ false)
 request-stalls t w p e rs on h s = stalls t w p e rs on h s
 

@@ -68,7 +68,7 @@ early-powers rs v l = when-false _ _ v (ap (λ (b : Bool). rs && b) l ∙ and-fa
 
 -- bit 6 of USBSTS
 abbrev uri : World → Bool
-uri v = any (wordAt (v .memory .page) USBSTS) 0x40
+uri v = any (wordAt (v .lent .memory .page) USBSTS) 0x40
 
 -- four setups behind those that wait
 abbrev asking : Stand → Stand
@@ -153,11 +153,11 @@ vbus-waits t w p stayed e h c = goes-on t w p stayed Vbus e (frame-in t w p stay
 
 -- more than 80 microframes after the bus reset, URI clear at entry: the port is enabled, and four setups wait; RS is not asked for
 pub reset-enumerates : (t : ℕ) (w : World) → Present t w → deviceLeft t w ≡ false → w .state .phase ≡ Reset → w .state .port .t + 80 < w .state .port .uf + 1
-    → length (w .memory .page) ≡ 4096 → any (wordAt (w .memory .page) USBSTS) 0x40 ≡ false
+    → length (w .lent .memory .page) ≡ 4096 → any (wordAt (w .lent .memory .page) USBSTS) 0x40 ≡ false
     → Begins Enumerate w (left (microframe t) w) × Asks w (left (microframe t) w)
 reset-enumerates t w p stayed e due h clear = (
   begins t w p stayed Enumerate (left (microframe t) w) (asking (entered Enumerate (opened t w p))) stand refl refl refl,
-  record { waits = ap (λ (s : Stand). s .waiting) stand; bytes = λ room. ap (λ (s : Stand). take (8 * s .waiting) (s .queue)) stand ∙ taken (w .setups) (w .state .lengths .setups) room },
+  record { waits = ap (λ (s : Stand). s .waiting) stand; bytes = λ room. ap (λ (s : Stand). take (8 * s .waiting) (s .queue)) stand ∙ taken (w .own .setups) (w .state .lengths .setups) room },
 )
   where
     stand : standOf (left (microframe t) w) ≡ asking (entered Enumerate (opened t w p))
@@ -169,11 +169,11 @@ reset-enumerates t w p stayed e due h clear = (
 
 -- URI still set, or before that, it waits on
 pub reset-waits : (t : ℕ) (w : World) → Present t w → deviceLeft t w ≡ false → w .state .phase ≡ Reset → w .state .port .t ≤ w .state .port .uf
-    → length (w .memory .page) ≡ 4096 → (any (wordAt (w .memory .page) USBSTS) 0x40 ≡ true) ⊎ (w .state .port .uf + 1 ≤ w .state .port .t + 80)
+    → length (w .lent .memory .page) ≡ 4096 → (any (wordAt (w .lent .memory .page) USBSTS) 0x40 ≡ true) ⊎ (w .state .port .uf + 1 ≤ w .state .port .t + 80)
     → GoesOn Reset w (left (microframe t) w)
 reset-waits t w p stayed e h page c = goes-on t w p stayed Reset e (frame-in t w p stayed Reset e ∙ waits c)
   where
-    waits : (any (wordAt (w .memory .page) USBSTS) 0x40 ≡ true) ⊎ (w .state .port .uf + 1 ≤ w .state .port .t + 80) → left resets (there t w p) ≡ there t w p
+    waits : (any (wordAt (w .lent .memory .page) USBSTS) 0x40 ≡ true) ⊎ (w .state .port .uf + 1 ≤ w .state .port .t + 80) → left resets (there t w p) ≡ there t w p
     waits (inl x) = held-resets (there t w p) (alike-phase (rsSet w) w page .uri ∙ x)
     waits (inr x) =
         early-resets (there t w p)

@@ -115,14 +115,14 @@ output-retires x = retires-by (outPointer x) (outToken x) (outMoved x) (blockDat
 
 -- what an input descriptor brings is as many bytes as its total says
 pub input-moved : (x : World) → length (inBytes x) ≡ inToken x / 2 ^ 16 % 2 ^ 15
-input-moved x = length-bytesIn (x .memory) (pointers (x .memory) (descriptor (inPointer x))) (inMoved x) ∙ total-is (inToken x)
+input-moved x = length-bytesIn (x .lent .memory) (pointers (x .lent .memory) (descriptor (inPointer x))) (inMoved x) ∙ total-is (inToken x)
 
 -- byte k of them is the one at the address of byte k of the descriptor's data
 pub input-byte : (x : World) (k : ℕ) → k < length (inBytes x)
-    → getD (inBytes x) k 0 ≡ peek8 (x .memory) (dataAddr (pointers (x .memory) (descriptor (inPointer x))) k)
+    → getD (inBytes x) k 0 ≡ peek8 (x .lent .memory) (dataAddr (pointers (x .lent .memory) (descriptor (inPointer x))) k)
 input-byte x k h =
-    let ps = pointers (x .memory) (descriptor (inPointer x)) in
-    getD-bytesIn (x .memory) ps (inMoved x) k (omega (arith, length-bytesIn (x .memory) ps (inMoved x)))
+    let ps = pointers (x .lent .memory) (descriptor (inPointer x)) in
+    getD-bytesIn (x .lent .memory) ps (inMoved x) k (omega (arith, length-bytesIn (x .lent .memory) ps (inMoved x)))
 
 stores-count : (ps s : List ℕ) (k n : ℕ) → length (stores ps s k n) ≡ n
 unfolding stores
@@ -141,15 +141,15 @@ stores-at ps s k (suc n) (suc i) h =
 pub output-moved : (x : World) → length (blockData x) ≡ min (outToken x / 2 ^ 16 % 2 ^ 15) (length (blockOf x))
 unfolding sending
 output-moved x =
-    stores-count (pointers (x .memory) (descriptor (outPointer x))) (blockOf x) 0 (outMoved x)
+    stores-count (pointers (x .lent .memory) (descriptor (outPointer x))) (blockOf x) 0 (outMoved x)
     ∙ ap (λ (k : ℕ). min k (length (blockOf x))) (total-is (outToken x))
 
 -- byte k of the block goes to the address of byte k of the descriptor's data
 pub output-byte : (x : World) (k : ℕ) → k < length (blockData x)
-    → getD (blockData x) k (irq false) ≡ byte (dataAddr (pointers (x .memory) (descriptor (outPointer x))) k) (getD (blockOf x) k 0)
+    → getD (blockData x) k (irq false) ≡ byte (dataAddr (pointers (x .lent .memory) (descriptor (outPointer x))) k) (getD (blockOf x) k 0)
 unfolding sending
 output-byte x k h =
-    let ps = pointers (x .memory) (descriptor (outPointer x)) in
+    let ps = pointers (x .lent .memory) (descriptor (outPointer x)) in
     let e : 0 + k ≡ k = omega arith in
     stores-at ps (blockOf x) 0 (outMoved x) k (omega (arith, stores-count ps (blockOf x) 0 (outMoved x)))
     ∙ ap (λ (j : ℕ). byte (dataAddr ps j) (getD (blockOf x) j 0)) e
@@ -165,23 +165,23 @@ active-bit e m h = any-is 7 (tokenOf (nextDtd e m) m) .0 (and-second (not (termi
 -- that retires the endpoint's next descriptor, which was active, with the bytes moved off its total
 pub record Retired (t : ℕ) (w : World) (g : Step) (x : World) (e : Endpoint) (first : List Change) (sent : List Store) (moved : ℕ) : Type 0 where
   pub placed : Placed (microframe t) w g x
-  pub was : tokenOf (nextDtd e (x .memory)) (x .memory) / 2 ^ 7 % 2 ≡ 1
+  pub was : tokenOf (nextDtd e (x .lent .memory)) (x .lent .memory) / 2 ^ 7 % 2 ≡ 1
   pub value : ℕ
   pub behind : List Change
-  pub changes : g x ≡ first ++ (map bus sent ++ (bus (word (tokenAddress (nextDtd e (x .memory))) value) ∷ behind))
-  pub token : TokenRetired (tokenOf (nextDtd e (x .memory)) (x .memory)) moved value
+  pub changes : g x ≡ first ++ (map bus sent ++ (bus (word (tokenAddress (nextDtd e (x .lent .memory))) value) ∷ behind))
+  pub token : TokenRetired (tokenOf (nextDtd e (x .lent .memory)) (x .lent .memory)) moved value
 
 module _ (t : ℕ) (w : World) (g : Step) (x : World) (e : Endpoint) (first : List Change) (sent ss : List Store) (moved : ℕ) (tail : List Change)
     (placed : Placed (microframe t) w g x)
-    (ready : (primed e (x .memory .page) && nextActive e (x .memory)) ≡ true)
+    (ready : (primed e (x .lent .memory .page) && nextActive e (x .lent .memory)) ≡ true)
     (is : g x ≡ first ++ (map bus ss ++ tail))
-    (r : StoresToken (nextDtd e (x .memory)) (tokenOf (nextDtd e (x .memory)) (x .memory)) moved sent ss) where
+    (r : StoresToken (nextDtd e (x .lent .memory)) (tokenOf (nextDtd e (x .lent .memory)) (x .lent .memory)) moved sent ss) where
   retired-by : Retired t w g x e first sent moved
   retired-by =
-      let s = word (tokenAddress (nextDtd e (x .memory))) (r .value) in
+      let s = word (tokenAddress (nextDtd e (x .lent .memory))) (r .value) in
       record {
         placed = placed;
-        was = active-bit e (x .memory) (and-second (primed e (x .memory .page)) _ ready);
+        was = active-bit e (x .lent .memory) (and-second (primed e (x .lent .memory .page)) _ ready);
         value = r .value;
         behind = map bus (r .rest) ++ tail;
         changes =
@@ -199,7 +199,7 @@ pub input-retired : (t : ℕ) (w : World) → reachesInput t w ≡ true → inpu
 unfolding inputReady
 input-retired t w e r =
     let x = atInput w in
-    let same : inMoved x ≡ length (inBytes x) = sym (length-bytesIn (x .memory) (pointers (x .memory) (descriptor (inPointer x))) (inMoved x)) in
+    let same : inMoved x ≡ length (inBytes x) = sym (length-bytesIn (x .lent .memory) (pointers (x .lent .memory) (descriptor (inPointer x))) (inMoved x)) in
     retired-by t w inputs x audioIn [] [] (inStores x) (length (inBytes x)) _ (placed-input t w e) r (inputs-changes x r)
     (subst (λ (n : ℕ). StoresToken (inPointer x) (inToken x) n [] (inStores x)) same (input-retires x))
 
@@ -214,6 +214,6 @@ unfolding sending outputReady
 output-retired t w e =
     let x = atOutput w in
     let b = one-block t w e in
-    let same : outMoved x ≡ length (blockData x) = sym (stores-count (pointers (x .memory) (descriptor (outPointer x))) (blockOf x) 0 (outMoved x)) in
+    let same : outMoved x ≡ length (blockData x) = sym (stores-count (pointers (x .lent .memory) (descriptor (outPointer x))) (blockOf x) 0 (outMoved x)) in
     retired-by t w streamOut x audioOut (blockFirst x) (blockData x) (blockStores x (busOf x)) (length (blockData x)) _ (b .placed) (and-first (outputReady x) _ (and-second (reachesOutput t w) _ e)) (b .changes)
     (subst (λ (n : ℕ). StoresToken (outPointer x) (outToken x) n (blockData x) (blockStores x (busOf x))) same (output-retires x))

@@ -19,7 +19,7 @@ use Rattle.model.proofs.OldestFirst.{ring-taken}
 
 -- ---- no change writes the ring's words
 
-words-change : (c : Change) (w : World) → apply c w .sending ≡ w .sending
+words-change : (c : Change) (w : World) → apply c w .lent .sending ≡ w .lent .sending
 unfolding apply
 words-change (bus s) w = refl
 words-change (ran e k n) w = refl
@@ -51,14 +51,14 @@ words-change (received bs) w = refl
 words-change (frame f) w = refl
 words-change (taken n) w = refl
 
-words-kept : (cs : List Change) (w : World) → replay apply cs w .sending ≡ w .sending
+words-kept : (cs : List Change) (w : World) → replay apply cs w .lent .sending ≡ w .lent .sending
 words-kept [] w = refl
 words-kept (c ∷ cs) w = words-kept cs (apply c w) ∙ words-change c w
 
-pub words-microframe : (t : ℕ) (w : World) → left (microframe t) w .sending ≡ w .sending
+pub words-microframe : (t : ℕ) (w : World) → left (microframe t) w .lent .sending ≡ w .lent .sending
 words-microframe t w = words-kept (microframe t w) w
 
-pub words-output : (w : World) → atOutput w .sending ≡ w .sending
+pub words-output : (w : World) → atOutput w .lent .sending ≡ w .lent .sending
 unfolding streamBy phaseBy
 words-output w =
     let v = left (toPhase (w .settings) (rsSet w)) w in
@@ -68,7 +68,7 @@ words-output w =
 -- ---- the list
 
 -- by the words and the place
-same-frames : (v w : World) → v .sending ≡ w .sending → outOf v .sending ≡ outOf w .sending → waitingFrames v ≡ waitingFrames w
+same-frames : (v w : World) → v .lent .sending ≡ w .lent .sending → outOf v .sending ≡ outOf w .sending → waitingFrames v ≡ waitingFrames w
 same-frames v w p q = ap₂ sendingFrames p q
 
 -- at the output step it is as at entry
@@ -81,6 +81,6 @@ unfolding sentOut
 waiting-microframe t w inside =
     ap₂ sendingFrames (words-microframe t w) (ap (λ (o : Out). o .sending) (out-microframe t w)) ∙ by (sendsAt t w)
   where
-    by : (b : Bool) → sendingFrames (w .sending) (pick b (sentOut (outOf w)) (outOf w) .sending) ≡ pick b (drop BLOCK-FRAMES (waitingFrames w)) (waitingFrames w)
-    by true = ring-taken (capacity w) (w .sending) (w .state .audio .sending) BLOCK-FRAMES inside
+    by : (b : Bool) → sendingFrames (w .lent .sending) (pick b (sentOut (outOf w)) (outOf w) .sending) ≡ pick b (drop BLOCK-FRAMES (waitingFrames w)) (waitingFrames w)
+    by true = ring-taken (capacity w) (w .lent .sending) (w .state .audio .sending) BLOCK-FRAMES inside
     by false = refl

@@ -137,7 +137,7 @@ module _ (w : World) where
       ∙ ap (λ (j : ℕ). getD (channelBytes channels (frameAt w j)) k 0) next
 
   -- the f-th frame that waits, and silence where none does
-  frame-there : (f : ℕ) → f < w .state .audio .sending .len → frameAt w f ≡ frameIn (w .sending) ((w .state .audio .sending .start + f) % capacity w)
+  frame-there : (f : ℕ) → f < w .state .audio .sending .len → frameAt w f ≡ frameIn (w .lent .sending) ((w .state .audio .sending .start + f) % capacity w)
   unfolding frameAt frameIn
   frame-there f h = simp (lt-ltb f (w .state .audio .sending .len) h)
 
@@ -147,14 +147,14 @@ module _ (w : World) where
 
   -- as many wait as the ring's place says
   waiting-length : length (waitingFrames w) ≡ w .state .audio .sending .len
-  waiting-length = ring-length (capacity w) (w .sending) (w .state .audio .sending .start) (w .state .audio .sending .len)
+  waiting-length = ring-length (capacity w) (w .lent .sending) (w .state .audio .sending .start) (w .state .audio .sending .len)
 
   none-waits : (f : ℕ) → length (waitingFrames w) ≤ f → getD (waitingFrames w) f [] ≡ []
   none-waits f h = List·getD-eq-default (waitingFrames w) [] h
 
   module _ (inside : w .state .audio .sending .start < capacity w) where
-    one-waits : (f : ℕ) → f < w .state .audio .sending .len → getD (waitingFrames w) f [] ≡ frameIn (w .sending) ((w .state .audio .sending .start + f) % capacity w)
-    one-waits f h = ring-nth (capacity w) (w .sending) (w .state .audio .sending .start) (w .state .audio .sending .len) f inside h
+    one-waits : (f : ℕ) → f < w .state .audio .sending .len → getD (waitingFrames w) f [] ≡ frameIn (w .lent .sending) ((w .state .audio .sending .start + f) % capacity w)
+    one-waits f h = ring-nth (capacity w) (w .lent .sending) (w .state .audio .sending .start) (w .state .audio .sending .len) f inside h
 
     -- a word of the f-th frame that waits, or 0
     frame-word : (f c : ℕ) → getD (frameAt w f) c 0 ≡ getD (getD (waitingFrames w) f []) c 0
@@ -178,7 +178,7 @@ module _ (w : World) where
         by : (t : Bool) → ltb f (w .state .audio .sending .len) ≡ t → length (getD (waitingFrames w) f []) ≤ 12
         by true e =
             let long = ap length (one-waits f (ltb-true f (w .state .audio .sending .len) e)) in
-            omega (arith, long, length-take WORDS (drop ((w .state .audio .sending .start + f) % capacity w * WORDS) (w .sending)))
+            omega (arith, long, length-take WORDS (drop ((w .state .audio .sending .start + f) % capacity w * WORDS) (w .lent .sending)))
         by false e =
             let none = ap length (none-waits f (omega (arith, waiting-length, ltb-false f (w .state .audio .sending .len) e))) in
             omega (arith, none)

@@ -83,8 +83,8 @@ suspend-span t w = within-between (w .settings .suspend) t
 
 -- ---- the run bit
 
-pub run-bit : (w : World) → (rsSet w ≡ true) ↔ RunBit (w .memory .page)
+pub run-bit : (w : World) → (rsSet w ≡ true) ↔ RunBit (w .lent .memory .page)
 unfolding bit
 run-bit w =
-    let v = wordAt (w .memory .page) 0x140 in
+    let v = wordAt (w .lent .memory .page) 0x140 in
     (λ e. eqb-true (v % 2) 1 (sym (any-bit 0 v) ∙ e), λ e. any-bit 0 v ∙ eq-eqb (v % 2) 1 e)

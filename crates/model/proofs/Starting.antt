@@ -14,7 +14,7 @@ use Rattle.usbdev.specs.Registers.{PageStep, following}
 use Rattle.record.specs.declared.Phase.{Phase}
 use Rattle.record.specs.declared.Phase.the-variants.{Idle, Vbus}
 use Rattle.record.specs.declared.Settings.{Settings}
-use Rattle.record.specs.Record.{counted, wrapped}
+use Rattle.record.specs.Record.{raised, wrapped}
 use Rattle.record.specs.World.{World}
 use Rattle.record.specs.Change.{gone, wasRunning, apply, left, _then_, nothing, when, one, here, onPage}
 use Rattle.model.specs.Phases.{changing, counts, ticks, dropsRequest, forgets, returns, cable, suspends, enters, departs, leaves, idles, powers}
@@ -42,7 +42,7 @@ abbrev counting : World → Early
 counting w = record { phase = w .state .phase; uf = wrapped (w .state .port .uf + 1); wasRunning = w .state .port .«was_running» }
 
 early-returns : (u : World) → early (standOf (left (one (λ v. gone false) then returns) u)) ≡ returned (early (standOf u))
-unfolding andThen one apply returns forgets dropsRequest counted
+unfolding andThen one apply returns forgets dropsRequest raised
 early-returns u = refl
 
 -- a host that is just back is Idle

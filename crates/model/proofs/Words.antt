@@ -209,40 +209,40 @@ calm-both ts = calm-then (ticking STEP 0 (ts .zero)) (ticking STEP 1 (ts .one)) 
 -- ---- steps of the microframe
 
 abbrev pub Leaves : Step → Type 0
-Leaves f = (w : World) → length (w .memory .page) ≡ 4096 → Alike (w .memory .page) (left f w .memory .page)
+Leaves f = (w : World) → length (w .lent .memory .page) ≡ 4096 → Alike (w .lent .memory .page) (left f w .lent .memory .page)
 
 leaves-then : (f g : Step) → Leaves f → Leaves g → Leaves (f then g)
 leaves-then f g p q w h =
-    subst (λ (x : World). Alike (w .memory .page) (x .memory .page)) (sym (exec-then apply f g w))
+    subst (λ (x : World). Alike (w .lent .memory .page) (x .lent .memory .page)) (sym (exec-then apply f g w))
     (alike-then (p w h) (q (left f w) (p w h .long)))
 
 leaves-if : (t : World → Bool) (f g : Step) → Leaves f → Leaves g → Leaves (if t f g)
 leaves-if t f g p q w h =
-    subst (λ (x : World). Alike (w .memory .page) (x .memory .page)) (sym (exec-choose apply t f g w))
-    (pick-both (λ (x : World). Alike (w .memory .page) (x .memory .page)) (t w) (p w h) (q w h))
+    subst (λ (x : World). Alike (w .lent .memory .page) (x .lent .memory .page)) (sym (exec-choose apply t f g w))
+    (pick-both (λ (x : World). Alike (w .lent .memory .page) (x .lent .memory .page)) (t w) (p w h) (q w h))
 
 leaves-nothing : Leaves nothing
 unfolding nothing
-leaves-nothing w h = alike-self (w .memory .page) h
+leaves-nothing w h = alike-self (w .lent .memory .page) h
 
 leaves-here : (f : World → Step) → ((v : World) → Leaves (f v)) → Leaves (here f)
 unfolding here
 leaves-here f p w h = p w w h
 
 -- a change that is no store
-leaves-one : (c : World → Change) → ((w : World) → apply (c w) w .memory .page ≡ w .memory .page) → Leaves (one c)
+leaves-one : (c : World → Change) → ((w : World) → apply (c w) w .lent .memory .page ≡ w .lent .memory .page) → Leaves (one c)
 unfolding one
-leaves-one c e w h = subst (Alike (w .memory .page)) (sym (e w)) (alike-self (w .memory .page) h)
+leaves-one c e w h = subst (Alike (w .lent .memory .page)) (sym (e w)) (alike-self (w .lent .memory .page) h)
 
 leaves-page : (f : PageStep) → CalmStep f → Leaves (onPage f)
 unfolding onPage
 leaves-page f p w h =
-    let r = registers (w .memory .page) (w .state .port .line) in
+    let r = registers (w .lent .memory .page) (w .state .port .line) in
     let x = p r h in
-    subst (Alike (w .memory .page))
+    subst (Alike (w .lent .memory .page))
     (sym
-    (ap (λ (v : World). v .memory .page) (replay-bus (lifted f (busOf w)) w)
-    ∙ ap (λ (b : S.Bus). b .memory .page) (on-bus (f r) (w .memory .dynamic) (w .memory .sram) (w .memory .page) (w .state .port .line) (x .inside))))
+    (ap (λ (v : World). v .lent .memory .page) (replay-bus (lifted f (busOf w)) w)
+    ∙ ap (λ (b : S.Bus). b .memory .page) (on-bus (f r) (w .lent .memory .dynamic) (w .lent .memory .sram) (w .lent .memory .page) (w .state .port .line) (x .inside))))
     (x .alike)
 
 leaves-counts : Leaves counts
@@ -294,7 +294,7 @@ unfolding opens
 leaves-opens c = leaves-then _ _ leaves-counts (leaves-then _ _ (leaves-if _ _ _ leaves-ticks leaves-nothing) leaves-cable)
 
 -- at the choice by phase
-pub alike-phase : (rs : Bool) (w : World) → length (w .memory .page) ≡ 4096 → Alike (w .memory .page) (phaseBy rs w .memory .page)
+pub alike-phase : (rs : Bool) (w : World) → length (w .lent .memory .page) ≡ 4096 → Alike (w .lent .memory .page) (phaseBy rs w .lent .memory .page)
 unfolding phaseBy toPhase
 alike-phase rs w h =
     leaves-then _ _ (leaves-opens (w .settings)) (leaves-then _ _ leaves-resumes (leaves-leaves (w .settings .«device_stack») rs)) w h

@@ -34,7 +34,7 @@ BLOCK = 368
 
 -- 858-861: a descriptor is named
 unfoldable pub named : World → Bool
-named w = primed audioIn (w .memory .page) && not (terminates (nextDtd audioIn (w .memory)))
+named w = primed audioIn (w .lent .memory .page) && not (terminates (nextDtd audioIn (w .lent .memory)))
 
 -- 863: one packet's bytes more
 unfoldable pub addsBudget : Step
@@ -103,13 +103,13 @@ streamIn = addsBudget then if overBudget nothing (clearsBudget then inputs)
 
 -- frames that the sending ring has room for
 abbrev pub capacity : World → ℕ
-capacity w = length (w .sending) / WORDS
+capacity w = length (w .lent .sending) / WORDS
 
 -- 934-940: the i-th frame that waits in the sending ring, or silence
 unfoldable pub frameAt : World → ℕ → List ℕ
 frameAt w i =
     pick (ltb i (w .state .audio .sending .len))
-    (take WORDS (drop ((w .state .audio .sending .start + i) % capacity w * WORDS) (w .sending)))
+    (take WORDS (drop ((w .state .audio .sending .start + i) % capacity w * WORDS) (w .lent .sending)))
     (replicate WORDS 0)
 
 -- a word's bytes, big-endian
@@ -149,8 +149,8 @@ unprimes = onPage (changing EPSR (λ v. clear v 8))
 -- 902-952: `stream_out`
 unfoldable pub streamOut : Step
 streamOut =
-    when (λ w. primed audioOut (w .memory .page) && leb BLOCK-FRAMES (w .state .audio .credit))
-    (if (λ w. nextActive audioOut (w .memory)) (here (λ v. sendsBlock (blockOf v))) unprimes)
+    when (λ w. primed audioOut (w .lent .memory .page) && leb BLOCK-FRAMES (w .state .audio .credit))
+    (if (λ w. nextActive audioOut (w .lent .memory)) (here (λ v. sendsBlock (blockOf v))) unprimes)
 
 -- 855-952: `stream`
 unfoldable pub streams : Step

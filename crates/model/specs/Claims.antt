@@ -24,10 +24,10 @@ sendsAt t w = reachesOutput t w && (outputReady (atOutput w) && leb BLOCK-FRAMES
 
 -- the descriptor that the output step retires: its pointer, its token, and how many bytes it takes (577)
 abbrev pub outPointer : World → ℕ
-outPointer x = nextDtd audioOut (x .memory)
+outPointer x = nextDtd audioOut (x .lent .memory)
 
 abbrev pub outToken : World → ℕ
-outToken x = tokenOf (outPointer x) (x .memory)
+outToken x = tokenOf (outPointer x) (x .lent .memory)
 
 abbrev pub outMoved : World → ℕ
 outMoved x = min (totalOf (outToken x)) (length (blockOf x))
@@ -35,8 +35,8 @@ outMoved x = min (totalOf (outToken x)) (length (blockOf x))
 -- 579-581, 585-619: the block's first bytes, as many as its total allows, at its addresses, and then its retirement
 abbrev pub blockStores : World → BusStep
 blockStores x =
-    S._then_ (sending (pointers (x .memory) (descriptor (outPointer x))) (blockOf x) (outMoved x))
-    (finishing (queueHead audioOut (x .memory .page)) (outPointer x) (outToken x) (outMoved x) (bitOf audioOut))
+    S._then_ (sending (pointers (x .lent .memory) (descriptor (outPointer x))) (blockOf x) (outMoved x))
+    (finishing (queueHead audioOut (x .lent .memory .page)) (outPointer x) (outToken x) (outMoved x) (bitOf audioOut))
 
 -- 932-947: what the output step changes before it stores
 abbrev pub blockFirst : World → List Change
@@ -60,4 +60,4 @@ oneBlock x =
 
 -- 910-911, 916-917: the one store that an ended or inactive list gets
 abbrev pub unprimed : World → List Change
-unprimed x = bus (S.word (BASE + EPSR) (clear (wordAt (x .memory .page) EPSR) 8)) ∷ []
+unprimed x = bus (S.word (BASE + EPSR) (clear (wordAt (x .lent .memory .page) EPSR) 8)) ∷ []

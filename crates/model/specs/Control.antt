@@ -62,7 +62,7 @@ posted qh first second =
 
 -- 625, 637: the first setup that waits, to the queue head of endpoint 0
 unfoldable pub posts : Step
-posts = here (λ v. posted (queueHead (endpoint 0 false) (v .memory .page)) (little (v .setups) 0) (little (v .setups) 4))
+posts = here (λ v. posted (queueHead (endpoint 0 false) (v .lent .memory .page)) (little (v .own .setups) 0) (little (v .own .setups) 4))
 
 -- 626: the phase is enumeration
 abbrev pub enumerating : Phase → Bool
@@ -122,11 +122,11 @@ asksFor type c = eqb (requestType c) 0x80 && (eqb (request c) 6 && eqb (descript
 
 -- the bytes of the reply (`got`)
 abbrev pub replied : World → List ℕ
-replied w = take (w .state .control .got) (w .reply)
+replied w = take (w .state .control .got) (w .lent .reply)
 
 -- 710-713: a configuration's header has its total length in bytes 2 and 3 (USB 2.0, 9.6.3), and that is asked for
 unfoldable pub asksWhole : Step
-asksWhole = one (λ w. pushed (0x80 ∷ 6 ∷ 0 ∷ 2 ∷ 0 ∷ 0 ∷ getD (w .reply) 2 0 ∷ getD (w .reply) 3 0 ∷ []))
+asksWhole = one (λ w. pushed (0x80 ∷ 6 ∷ 0 ∷ 2 ∷ 0 ∷ 0 ∷ getD (w .lent .reply) 2 0 ∷ getD (w .lent .reply) 3 0 ∷ []))
 
 -- 723-725, 730-732; USB 2.0, 9.4.7 and 9.4.10: set configuration 1, and an interface's alternate
 abbrev pub setsConfiguration : List ℕ
@@ -201,7 +201,7 @@ statusStage stack =
 
 -- 649-650: endpoint 0 is stalled
 abbrev pub stalled : World → Bool
-stalled w = any (wordAt (w .memory .page) EPCR0) 0x10001
+stalled w = any (wordAt (w .lent .memory .page) EPCR0) 0x10001
 
 -- 647, 652-653: a stall drops the request, and its bits are cleared
 unfoldable pub unstalls : Step

@@ -6,7 +6,7 @@ use mathlib.Core.List.{List, [], _∷_}
 use lib.Dec.{leb}
 use lib.ListN.{length}
 use Rattle.bits.specs.Pick.{pick}
-use Rattle.record.specs.Record.{wrapped}
+use Rattle.record.specs.Record.{wrapped, counterOf, «in_frames», «out_frames»}
 use Rattle.record.specs.declared.Ring.{Ring}
 use Rattle.record.specs.World.{World}
 use Rattle.record.specs.Change.{left, WORDS, takenFrom}
@@ -21,7 +21,7 @@ pub record Counts : Type 0 where
 
 abbrev pub countsOf : World → Counts
 countsOf w =
-    record { credit = w .state .audio .credit; received = w .state .stats .«in_frames»; sent = w .state .stats .«out_frames» }
+    record { credit = w .state .audio .credit; received = counterOf «in_frames» (w .state .stats); sent = counterOf «out_frames» (w .state .stats) }
 
 -- the stream counter, the place of the sending ring, which has room for so many frames, and the frames counted as sent
 pub record Out : Type 0 where
@@ -35,8 +35,8 @@ outOf w =
     record {
       counter = w .state .audio .counter;
       sending = w .state .audio .sending;
-      capacity = length (w .sending) / WORDS;
-      sent = w .state .stats .«out_frames»;
+      capacity = length (w .lent .sending) / WORDS;
+      sent = counterOf «out_frames» (w .state .stats);
     }
 
 -- 932, 934, 951: a block sent: the counter goes up by seven, modulo 2^16, seven frames leave the ring, or all that it has, and seven are counted

@@ -17,7 +17,7 @@ use Rattle.model.specs.Audio.{streams}
 -- ---- what is taken from the entry values: RS (379), gone (384), suspended (412)
 
 abbrev pub rsSet : World → Bool
-rsSet w = any (wordAt (w .memory .page) USBCMD) 1
+rsSet w = any (wordAt (w .lent .memory .page) USBCMD) 1
 
 abbrev pub goneAt : ℕ → World → Bool
 goneAt t w = anySpan (w .settings .gone) 0 (w .settings .spans) t

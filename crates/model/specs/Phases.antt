@@ -27,7 +27,7 @@ now w = w .state .port .uf
 
 -- the register page, with the line's flag (`usb_irq`)
 abbrev pub registersOf : World → Registers
-registersOf w = registers (w .memory .page) (w .state .port .line)
+registersOf w = registers (w .lent .memory .page) (w .state .port .line)
 
 -- a register is read, changed and stored, as at 391-392
 unfoldable pub changing : ℕ → (ℕ → ℕ) → PageStep
@@ -150,7 +150,7 @@ firstSetups =
 -- 469-487: the reset is over once the firmware has cleared URI: connected, enabled, high speed (field 2)
 unfoldable pub resets : Step
 resets =
-    when (λ w. longer AFTER-RESET w && not (any (wordAt (w .memory .page) USBSTS) 0x40))
+    when (λ w. longer AFTER-RESET w && not (any (wordAt (w .lent .memory .page) USBSTS) 0x40))
     (onPage (R._then_ (changing PORTSC1 (λ v. set (clear v 0x0C000100) 0x08000005)) (raising 4))
     then enters Enumerate
     then one (λ w. queued firstSetups))

@@ -7,6 +7,7 @@ use lib.ListN.{getD}
 use Rattle.bus.specs.Words.{wordAt}
 use Rattle.record.specs.declared.Settings.{Settings}
 use Rattle.record.specs.World.{World}
+use Rattle.record.specs.Record.{counterOf, «midi_dtds»}
 use Rattle.model.specs.Reach.{reachesOutput}
 
 -- a span holds its start and not its end
@@ -52,4 +53,4 @@ pub record MidiCome : Type 0 where
 
 abbrev pub midiCome : World → MidiCome
 midiCome w =
-    record { counted = w .state .stats .«midi_dtds»; bytes = w .state .answer .received; area = w .receive }
+    record { counted = counterOf «midi_dtds» (w .state .stats); bytes = w .state .answer .received; area = w .lent .receive }

@@ -51,20 +51,20 @@ setAddress address = 0 ∷ 5 ∷ address ∷ 0 ∷ 0 ∷ 0 ∷ 0 ∷ 0 ∷ []
 -- configuration's header
 pub record Asks (w w′ : World) : Type 0 where
   pub waits : w′ .state .lengths .setups ≡ w .state .lengths .setups + 4
-  pub bytes : 8 * w .state .lengths .setups + 32 ≤ length (w .setups) → waiting w′ ≡ waiting w ++ (getDescriptor 1 64 ++ setAddress 7 ++ getDescriptor 1 18 ++ getDescriptor 2 9)
+  pub bytes : 8 * w .state .lengths .setups + 32 ≤ length (w .own .setups) → waiting w′ ≡ waiting w ++ (getDescriptor 1 64 ++ setAddress 7 ++ getDescriptor 1 18 ++ getDescriptor 2 9)
 
 -- 625-645: the first setup that waited is a request that runs from now on, and the others moved up; EPSETUPSR's bit 0 says so on a page of 4,096 bytes
 pub record Posts (w w′ : World) : Type 0 where
   pub runs : w′ .state .control .on ≡ true
-  pub first : w′ .state .control .first ≡ getD (w .setups) 0 0 + 0x100 * getD (w .setups) 1 0 + 0x1_0000 * getD (w .setups) 2 0 + 0x100_0000 * getD (w .setups) 3 0
-  pub second : w′ .state .control .second ≡ getD (w .setups) 4 0 + 0x100 * getD (w .setups) 5 0 + 0x1_0000 * getD (w .setups) 6 0 + 0x100_0000 * getD (w .setups) 7 0
+  pub first : w′ .state .control .first ≡ getD (w .own .setups) 0 0 + 0x100 * getD (w .own .setups) 1 0 + 0x1_0000 * getD (w .own .setups) 2 0 + 0x100_0000 * getD (w .own .setups) 3 0
+  pub second : w′ .state .control .second ≡ getD (w .own .setups) 4 0 + 0x100 * getD (w .own .setups) 5 0 + 0x1_0000 * getD (w .own .setups) 6 0 + 0x100_0000 * getD (w .own .setups) 7 0
   pub stage : w′ .state .control .stage ≡ Data
   pub none : w′ .state .control .got ≡ 0
   pub begins : w′ .state .control .t0 ≡ w .state .port .uf + 1
   pub waits : w′ .state .lengths .setups + 1 ≡ w .state .lengths .setups
-  pub moves : 8 * w .state .lengths .setups ≤ length (w .setups) → (i : ℕ) → i < 8 * w′ .state .lengths .setups → getD (w′ .setups) i 0 ≡ getD (w .setups) (8 + i) 0
+  pub moves : 8 * w .state .lengths .setups ≤ length (w .own .setups) → (i : ℕ) → i < 8 * w′ .state .lengths .setups → getD (w′ .own .setups) i 0 ≡ getD (w .own .setups) (8 + i) 0
   pub goes-on : GoesOn Enumerate w w′
-  pub flagged : length (w .memory .page) ≡ 4096 → any (wordAt (w′ .memory .page) EPSETUPSR) 1 ≡ true
+  pub flagged : length (w .lent .memory .page) ≡ 4096 → any (wordAt (w′ .lent .memory .page) EPSETUPSR) 1 ≡ true
 
 -- the request that ran runs still: only its stage and the bytes that came may be others
 pub record RunsOn (w w′ : World) : Type 0 where
@@ -73,7 +73,7 @@ pub record RunsOn (w w′ : World) : Type 0 where
   pub second : w′ .state .control .second ≡ w .state .control .second
   pub begun : w′ .state .control .t0 ≡ w .state .control .t0
   pub waits : w′ .state .lengths .setups ≡ w .state .lengths .setups
-  pub queue : w′ .setups ≡ w .setups
+  pub queue : w′ .own .setups ≡ w .own .setups
 
 -- USB 2.0, 9.3.1 and 9.3.5: bit 7 of a setup's first byte says that data goes to the host, its last two bytes how many bytes
 abbrev pub takesData : Control → Bool

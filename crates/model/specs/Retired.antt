@@ -29,4 +29,4 @@ pub record StoresToken (n tok moved : ℕ) (sent ss : List Store) : Type 0 where
 
 -- 579-581: the data of a block, at the addresses of its descriptor
 abbrev pub blockData : World → List Store
-blockData x = sending (pointers (x .memory) (descriptor (outPointer x))) (blockOf x) (outMoved x) (busOf x)
+blockData x = sending (pointers (x .lent .memory) (descriptor (outPointer x))) (blockOf x) (outMoved x) (busOf x)

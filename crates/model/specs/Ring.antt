@@ -31,7 +31,7 @@ contents ring start len = oldestFirst FRAMES ring start len
 
 -- what the received ring holds
 abbrev pub ringFrames : World → List (List ℕ)
-ringFrames w = contents (w .received) (w .state .audio .received .start) (w .state .audio .received .len)
+ringFrames w = contents (w .lent .received) (w .state .audio .received .start) (w .state .audio .received .len)
 
 -- those of a sending ring, which has room for a frame in every twelve of its words (`to_rytm`, 373)
 abbrev pub sendingFrames : List ℕ → Ring → List (List ℕ)
@@ -39,7 +39,7 @@ sendingFrames ring place = oldestFirst (length ring / WORDS) ring (place .start)
 
 -- the frames that wait to be sent
 abbrev pub waitingFrames : World → List (List ℕ)
-waitingFrames w = sendingFrames (w .sending) (w .state .audio .sending)
+waitingFrames w = sendingFrames (w .lent .sending) (w .state .audio .sending)
 
 -- a ring with room for 48,000 frames, and a place that lies in it
 pub record InOrder (ring : List ℕ) (place : Ring) : Type 0 where
@@ -48,7 +48,7 @@ pub record InOrder (ring : List ℕ) (place : Ring) : Type 0 where
   pub holds : place .len ≤ FRAMES
 
 abbrev pub RingInOrder : World → Type 0
-RingInOrder w = InOrder (w .received) (w .state .audio .received)
+RingInOrder w = InOrder (w .lent .received) (w .state .audio .received)
 
 -- 882-887: n frames of a block from the i-th on, behind its header of 32 bytes, 48 bytes each
 unfoldable pub framesFrom : ℕ → ℕ → List ℕ → List (List ℕ)
@@ -76,22 +76,22 @@ lastOf n l = drop (length l - n) l
 
 -- the pointer to the endpoint's next descriptor, its token, and how many bytes it moves
 abbrev pub inPointer : World → ℕ
-inPointer x = nextDtd audioIn (x .memory)
+inPointer x = nextDtd audioIn (x .lent .memory)
 
 abbrev pub inToken : World → ℕ
-inToken x = tokenOf (inPointer x) (x .memory)
+inToken x = tokenOf (inPointer x) (x .lent .memory)
 
 abbrev pub inMoved : World → ℕ
 inMoved x = totalOf (inToken x)
 
 -- the bytes at its addresses
 abbrev pub inBytes : World → List ℕ
-inBytes x = bytesIn (x .memory) (pointers (x .memory) (descriptor (inPointer x))) (inMoved x)
+inBytes x = bytesIn (x .lent .memory) (pointers (x .lent .memory) (descriptor (inPointer x))) (inMoved x)
 
 -- its retirement, and what follows it
 abbrev pub inStores : World → List Store
 inStores x =
-    finishing (queueHead audioIn (x .memory .page)) (inPointer x) (inToken x) (inMoved x) (bitOf audioIn) (busOf x)
+    finishing (queueHead audioIn (x .lent .memory .page)) (inPointer x) (inToken x) (inMoved x) (bitOf audioIn) (busOf x)
 
 -- 876-891: what becomes of a block, where the credit was c, and of some blocks in order
 unfoldable pub blockChanges : ℕ → List ℕ → List Change

@@ -19,11 +19,11 @@ use Rattle.model.specs.Phases.{now, changing, sleeps}
 
 -- 815-825, 835-845: an endpoint is primed, and its next descriptor is there and active
 abbrev pub ready : Endpoint → World → Bool
-ready e w = primed e (w .memory .page) && nextActive e (w .memory)
+ready e w = primed e (w .lent .memory .page) && nextActive e (w .lent .memory)
 
 -- 826, 846, 862: the bytes that its next descriptor is to move
 abbrev pub nextTotal : Endpoint → World → ℕ
-nextTotal e w = totalOf (tokenOf (nextDtd e (w .memory)) (w .memory))
+nextTotal e w = totalOf (tokenOf (nextDtd e (w .lent .memory)) (w .lent .memory))
 
 -- there is a byte
 abbrev pub nonempty : List ℕ → Bool
@@ -55,7 +55,7 @@ readsAt every uf = pick (eqb every 0) 8 (pick (eqb (uf % every) 0) 1 0)
 
 -- 782-785: an endpoint that is not primed answers NAK
 unfoldable pub naks : Step
-naks = when (λ w. not (primed (endpoint 1 true) (w .memory .page))) (onPage (changing EPNAK (λ v. set v 0x20000)))
+naks = when (λ w. not (primed (endpoint 1 true) (w .lent .memory .page))) (onPage (changing EPNAK (λ v. set v 0x20000)))
 
 -- 773-808: `midi`; asleep: the time lies in the MIDI sleep span; every: the midi_every setting
 unfoldable pub midiIn : Bool → ℕ → Step
@@ -69,7 +69,7 @@ fitting e held w = min (min (nextTotal e w) 512) held
 
 -- 828-829: n bytes leave the serial queue and are sent
 unfoldable pub drainsSerial : ℕ → Step
-drainsSerial n = here (λ v. one (λ w. serial n) then runs (endpoint 2 false) (take n (v .serial)) (λ r. nothing))
+drainsSerial n = here (λ v. one (λ w. serial n) then runs (endpoint 2 false) (take n (v .own .serial)) (λ r. nothing))
 
 -- 813-814: bytes from a serial device, and 815-829: those for it
 abbrev pub takesSerial : Step
@@ -87,7 +87,7 @@ serialStep = takesSerial then givesSerial
 -- 848-850: n bytes leave the MIDI queue and are sent, and their packets are counted
 unfoldable pub drainsMidi : ℕ → Step
 drainsMidi n =
-    here (λ v. one (λ w. midi n) then runs (endpoint 1 false) (take n (v .midi)) (λ r. one (λ w. count «midi_packets_out» (n / 4))))
+    here (λ v. one (λ w. midi n) then runs (endpoint 1 false) (take n (v .own .midi)) (λ r. one (λ w. count «midi_packets_out» (n / 4))))
 
 -- 834-851: `midi_out`, whole packets
 unfoldable pub midiOut : Step

@@ -54,10 +54,8 @@ const RESET_WAIT: u64 = 80;
 pub fn counts(s: State) -> State
     ensures { λ r. ⌜ Alone M.counts s r ⌝ }
 {
-    let microframes = wrapping_add_u64(s.stats.microframes, 1);
     let uf = wrapping_add_u64(s.port.uf, 1);
-    let mut next = s;
-    next.stats.microframes = microframes;
+    let mut next = record::count(s, record::MICROFRAMES, 1);
     next.port.uf = uf;
     next
 }
@@ -133,10 +131,8 @@ fn fresh(s: State) -> State
 fn host_back(s: State) -> State
     ensures { λ r. ⌜ Alone M.returns s r ⌝ }
 {
-    let mut next = fresh(record::with_phase(s, Phase::Idle));
-    let restarts = wrapping_add_u64(next.stats.restarts, 1);
-    next.stats.restarts = restarts;
-    next
+    let next = fresh(record::with_phase(s, Phase::Idle));
+    record::count(next, record::RESTARTS, 1)
 }
 
 // The host goes or comes back where `gone` differs from what the record says.
@@ -162,10 +158,7 @@ pub fn gone_step(s: State, page: &mut [u8], gone: bool) -> State
 pub fn asleep(s: State) -> State
     ensures { λ r. ⌜ Alone M.sleeps s r ⌝ }
 {
-    let midi_asleep = wrapping_add_u64(s.stats.midi_asleep, 1);
-    let mut next = s;
-    next.stats.midi_asleep = midi_asleep;
-    next
+    record::count(s, record::MIDI_ASLEEP, 1)
 }
 
 // The host suspends the bus.

@@ -1,12 +1,15 @@
 -- What few steps of a microframe change: the block that is sent, its channels, and the microframes in which no MIDI was read; and how a list keeps them.
 use Prim.Native.Nat.{ℕ, _+_}
 use mathlib.Core.Path.{_≡_, refl, ap, sym, _∙_}
-use mathlib.Core.Bool.{Bool, true, false}
+use mathlib.Core.Bool.{Bool, true, false, not}
+use lib.Dec.{eqb}
+use Rattle.bus.proofs.Sizes.{and-true}
 use Rattle.bits.proofs.Tests.{false-true}
 use Rattle.record.specs.declared.Phase.{Phase}
 use Rattle.record.specs.declared.Phase.the-variants.{Idle, Vbus, Reset, Enumerate, Stream}
 use Rattle.record.specs.declared.Settings.{Settings}
-use Rattle.record.specs.Record.{wrapped, counted, Counter, microframes, «in_transfers», «out_transfers», «in_frames», «out_frames», «bad_blocks», «midi_dtds», «midi_asleep», «out_underruns», «midi_packets_out», «vendor_in_bytes», restarts, enumerations}
+use Rattle.record.specs.Record.{wrapped, raised, Counter, place, «midi_asleep», counterOf}
+use Rattle.record.proofs.Counters.{rose, raised-by, rose-other}
 use Rattle.record.specs.World.{World}
 use Rattle.record.specs.Change.{Change, bus, ran, lost, count, uf, phase, started, gone, suspended, wasRunning, credit, budget, counter, block, timers, control, queued, popped, pushed, cleared, reply, device, config, forgot, midi, serial, received, frame, taken, apply, left, nothing, one, here}
 use Rattle.model.specs.Phases.{within, sleeps, suspends, leaves, startsFrame}
@@ -24,26 +27,17 @@ pub record Aside : Type 0 where
   pub asleep : ℕ
 
 abbrev pub asideOf : World → Aside
-asideOf w = record { block = w .state .audio .block; channels = w .state .audio .channels; asleep = w .state .stats .«midi_asleep» }
+asideOf w = record { block = w .state .audio .block; channels = w .state .audio .channels; asleep = counterOf «midi_asleep» (w .state .stats) }
 
 -- one microframe more in which no MIDI was read
 abbrev pub slept : Aside → Aside
 slept k = record { block = k .block; channels = k .channels; asleep = wrapped (k .asleep + 1) }
 
+abbrev asleepIs : Aside → ℕ → Aside
+asleepIs k n = record { block = k .block; channels = k .channels; asleep = n }
+
 abbrev pub asideCounts : Counter → ℕ → Aside → Aside
-asideCounts microframes n k = k
-asideCounts «in_transfers» n k = k
-asideCounts «out_transfers» n k = k
-asideCounts «in_frames» n k = k
-asideCounts «out_frames» n k = k
-asideCounts «bad_blocks» n k = k
-asideCounts «midi_dtds» n k = k
-asideCounts «midi_asleep» n k = record { block = k .block; channels = k .channels; asleep = wrapped (k .asleep + n) }
-asideCounts «out_underruns» n k = k
-asideCounts «midi_packets_out» n k = k
-asideCounts «vendor_in_bytes» n k = k
-asideCounts restarts n k = k
-asideCounts enumerations n k = k
+asideCounts c n k = asleepIs k (rose (place «midi_asleep») (place c) n (k .asleep))
 
 abbrev pub asideOn : Change → Aside → Aside
 asideOn (bus s) k = k
@@ -77,20 +71,8 @@ asideOn (frame f) k = k
 asideOn (taken n) k = k
 
 aside-count : (c : Counter) (n : ℕ) (w : World) → asideOf (apply (count c n) w) ≡ asideOn (count c n) (asideOf w)
-unfolding apply counted
-aside-count microframes n w = refl
-aside-count «in_transfers» n w = refl
-aside-count «out_transfers» n w = refl
-aside-count «in_frames» n w = refl
-aside-count «out_frames» n w = refl
-aside-count «bad_blocks» n w = refl
-aside-count «midi_dtds» n w = refl
-aside-count «midi_asleep» n w = refl
-aside-count «out_underruns» n w = refl
-aside-count «midi_packets_out» n w = refl
-aside-count «vendor_in_bytes» n w = refl
-aside-count restarts n w = refl
-aside-count enumerations n w = refl
+unfolding apply
+aside-count c n w = ap (asleepIs (asideOf w)) (raised-by (place «midi_asleep») (place c) n (w .state .stats))
 
 pub aside-apply : (c : Change) (w : World) → asideOf (apply c w) ≡ asideOn c (asideOf w)
 unfolding apply
@@ -140,19 +122,8 @@ abbrev pub asideIgnored : Ignored
 asideIgnored = record { block = false; enumerations = true; midi = true; marks = true }
 
 aside-counter : (c : Counter) → plainCounterBy asideIgnored c ≡ true → (n : ℕ) (k : Aside) → asideOn (count c n) k ≡ k
-aside-counter microframes h n k = refl
-aside-counter «in_transfers» h n k = refl
-aside-counter «out_transfers» h n k = refl
-aside-counter «in_frames» h n k = refl
-aside-counter «out_frames» h n k = refl
-aside-counter «bad_blocks» h n k = refl
-aside-counter «midi_dtds» h n k = refl
-aside-counter «midi_asleep» h n k = absurd (false-true h)
-aside-counter «out_underruns» h n k = refl
-aside-counter «midi_packets_out» h n k = refl
-aside-counter «vendor_in_bytes» h n k = refl
-aside-counter restarts h n k = refl
-aside-counter enumerations h n k = refl
+aside-counter c h n k =
+    ap (asleepIs k) (rose-other (place «midi_asleep») (place c) n (k .asleep) (and-true (not (eqb (place «midi_asleep») (place c))) _ h .0))
 
 pub aside-plain : (c : Change) → plainBy asideIgnored c ≡ true → (k : Aside) → asideOn c k ≡ k
 aside-plain (bus s) h k = refl
@@ -244,7 +215,7 @@ aside-awake t w e f g h =
 
 -- one that is suspended
 pub sleeps-once : (v : World) → asideOf (left sleeps v) ≡ slept (asideOf v)
-unfolding sleeps one apply counted
+unfolding sleeps one apply raised
 sleeps-once v = refl
 
 by-suspend : (t : ℕ) (rs g s : Bool) (w : World) → g ≡ false → s ≡ true → asideOf (left (frameOf (w .settings) t rs g s) w) ≡ slept (asideOf w)

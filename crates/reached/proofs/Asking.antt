@@ -21,7 +21,7 @@ use Rattle.record.specs.declared.Phase.the-variants.{Idle, Vbus, Reset, Enumera
 use Rattle.record.specs.declared.Stage.the-variants.{Data}
 use Rattle.record.specs.declared.Control.{Control}
 use Rattle.record.specs.declared.Settings.{Settings}
-use Rattle.record.specs.Record.{wrapped, counted}
+use Rattle.record.specs.Record.{wrapped, raised, counterOf, enumerations}
 use Rattle.record.specs.Setups.{little}
 use Rattle.record.specs.World.{World, busOf}
 use Rattle.record.specs.Change.{apply, left, nothing, one, here, drained}
@@ -98,7 +98,7 @@ reply-byte l bs i h k = sym (getD-take (length bs) (sets l 0 bs) i 0 k) ∙ ap (
 -- ---- the request at control is that at entry
 
 control-counts : (w : World) → left counts w .state .control ≡ w .state .control
-unfolding counts andThen one apply counted
+unfolding counts andThen one apply raised
 control-counts w = refl
 
 control-leaves : (stack : Bool) (v : World) → left (leaves stack true) v .state .control ≡ v .state .control
@@ -116,7 +116,7 @@ control-asked t w p =
     ∙ ap (λ (k : Asked). k .control) (keeps-if K.asked (λ v. c .«midi_in») ticks nothing U.keeps-ticks (keeps-nothing K.asked) (left counts w))
     ∙ control-counts w
 
-reply-asked : (t : ℕ) (w : World) (p : Plain t w) → length (asked t w p .reply) ≡ length (w .reply)
+reply-asked : (t : ℕ) (w : World) (p : Plain t w) → length (asked t w p .lent .reply) ≡ length (w .lent .reply)
 unfolding phaseBy
 reply-asked t w p =
     ap (λ (z : Shape). z .reply) (step-kept startsFrame (phaseBy true w)) ∙ ap (λ (z : Shape). z .reply) (step-kept (toPhase (w .settings) true) w)
@@ -155,7 +155,7 @@ does-many call (suc n) P f = does-then (f 0 (omega arith)) (does-many call n (λ
 pub record Waiting (a : Areas) (k : Stand) (ws : List ℕ) (n : ℕ) (h : Host) : Type 0 where
   pub on : On withInput a k h
   pub waits : take (length ws) (h .setups) ≡ ws
-  pub ended : h .stats .enumerations ≡ n
+  pub ended : counterOf enumerations (h .stats) ≡ n
 
 -- one whose request runs
 pub record Running (a : Areas) (k : Stand) (ws : List ℕ) (n first second : ℕ) (h : Host) : Type 0 where
@@ -181,11 +181,11 @@ module _ (a : Areas) (long : Long a) (calm : Calm withInput 0) (m : Memory) (fit
     step-by = step-is withInput a long refl 0 m fit k few h o
 
     -- enumerations so far
-    pub ended-by : step h call .stats .enumerations ≡ pick (endsBy (k .phase) (k .on) (k .waiting)) (wrapped (h .stats .enumerations + 1)) (h .stats .enumerations)
+    pub ended-by : counterOf enumerations (step h call .stats) ≡ pick (endsBy (k .phase) (k .on) (k .waiting)) (wrapped (counterOf enumerations (h .stats) + 1)) (counterOf enumerations (h .stats))
     ended-by =
-        ap (λ (g : Host). g .stats .enumerations) step-by
+        ap (λ (g : Host). counterOf enumerations (g .stats)) step-by
         ∙ enumerated-frame 0 w plain (ap (λ (c : Settings). c .«device_stack») (o .settings))
-        ∙ ap (λ (x : Stand). pick (endsBy (x .phase) (x .on) (x .waiting)) (wrapped (h .stats .enumerations + 1)) (h .stats .enumerations)) (o .stands)
+        ∙ ap (λ (x : Stand). pick (endsBy (x .phase) (x .on) (x .waiting)) (wrapped (counterOf enumerations (h .stats) + 1)) (counterOf enumerations (h .stats))) (o .stands)
 
     -- before the stream, by what it holds then
     module _ (quiet : streamsAt k ≡ false) (k′ : Stand) (q : List ℕ) (is : heldOf (left (M.microframe 0) w) ≡ record { stand = k′; queue = q }) where
@@ -224,7 +224,7 @@ module _ (a : Areas) (long : Long a) (calm : Calm withInput 0) (m : Memory) (fit
             record {
               on = leads y .host h (p .on);
               waits = refl;
-              ended = ended-by k few there h (p .on) ∙ ap (λ (b : Bool). pick b (wrapped (h .stats .enumerations + 1)) (h .stats .enumerations)) before ∙ p .ended;
+              ended = ended-by k few there h (p .on) ∙ ap (λ (b : Bool). pick b (wrapped (counterOf enumerations (h .stats) + 1)) (counterOf enumerations (h .stats))) before ∙ p .ended;
             };
         sums = λ h p. sums-by k few there h (p .on) quiet;
         numbers = λ h p. numbers-by k few there h (p .on);
@@ -306,7 +306,7 @@ module _ (a : Areas) (long : Long a) (calm : Calm withInput 0) (m : Memory) (fit
         let v = worldOf h (lend a m) in
         let pl = plain posting few refl h o in
         let x = asked 0 v pl in
-        let same : x .setups ≡ h .setups = ap (λ (k : Held). k .queue) (asked-held 0 v pl) in
+        let same : x .own .setups ≡ h .setups = ap (λ (k : Held). k .queue) (asked-held 0 v pl) in
         let off : x .state .control .on ≡ false = asked-on 0 v pl false (ap (λ (k : Stand). k .on) (o .stands)) in
         let some : x .state .lengths .setups ≡ suc i = asked-waiting 0 v pl (suc i) (ap (λ (k : Stand). k .waiting) (o .stands)) in
         let there : left (M.microframe 0) v .state .control ≡ left posts x .state .control =
@@ -314,9 +314,9 @@ module _ (a : Areas) (long : Long a) (calm : Calm withInput 0) (m : Memory) (fit
         ∙ ap (λ (z : World). z .state .control)
         (if-false (λ z. z .state .control .on) (requests (v .settings .«device_stack»)) _ x off
         ∙ if-false (λ z. eqb (z .state .lengths .setups) 0) configured posts x (ne-eqb (x .state .lengths .setups) 0 (λ z. omega (arith, z, some)))) in
-        let words : Runs (little (x .setups) 0) (little (x .setups) 4) (left posts x .state .control) = runs-posted (queueHead (endpoint 0 false) (x .memory .page)) (little (x .setups) 0) (little (x .setups) 4) x in
-        let first : little (x .setups) 0 ≡ little ws 0 = ap (λ (q : List ℕ). little q 0) same ∙ little-is (h .setups) ws (p .waits) 0 (omega (arith, size)) in
-        let second : little (x .setups) 4 ≡ little ws 4 = ap (λ (q : List ℕ). little q 4) same ∙ little-is (h .setups) ws (p .waits) 4 (omega (arith, size)) in
+        let words : Runs (little (x .own .setups) 0) (little (x .own .setups) 4) (left posts x .state .control) = runs-posted (queueHead (endpoint 0 false) (x .lent .memory .page)) (little (x .own .setups) 0) (little (x .own .setups) 4) x in
+        let first : little (x .own .setups) 0 ≡ little ws 0 = ap (λ (q : List ℕ). little q 0) same ∙ little-is (h .setups) ws (p .waits) 0 (omega (arith, size)) in
+        let second : little (x .own .setups) 4 ≡ little ws 4 = ap (λ (q : List ℕ). little q 4) same ∙ little-is (h .setups) ws (p .waits) 4 (omega (arith, size)) in
         let control = ap (λ (g : Host). g .control) (step-by posting few refl h o) ∙ there in
         record {
           stage = ap (λ (c : Control). c .stage) control ∙ words .stage;
@@ -339,7 +339,7 @@ module _ (a : Areas) (long : Long a) (calm : Calm withInput 0) (m : Memory) (fit
                 waiting = record {
                   on = on-by posting few refl h o quiet-posting running q (posted-is h p) (queue-posted (h .setups) (8 * suc i) (omega arith) (o .queue));
                   waits = ap (take (length (drop 8 ws))) (setups-by posting few refl h o quiet-posting running q (posted-is h p)) ∙ take-posted (h .setups) ws (8 * suc i) (p .waits) (omega (arith, size)) (omega (arith, size));
-                  ended = ended-by posting few refl h o ∙ ap (λ (b : Bool). pick b (wrapped (h .stats .enumerations + 1)) (h .stats .enumerations)) quiet-posting ∙ p .ended;
+                  ended = ended-by posting few refl h o ∙ ap (λ (b : Bool). pick b (wrapped (counterOf enumerations (h .stats) + 1)) (counterOf enumerations (h .stats))) quiet-posting ∙ p .ended;
                 };
                 request = runs-by h p;
               };
@@ -372,7 +372,7 @@ module _ (a : Areas) (long : Long a) (calm : Calm withInput 0) (m : Memory) (fit
       on-is : x .state .control .on ≡ true
       on-is = asked-on 0 v pl true (ap (λ (k : Stand). k .on) (o .stands))
 
-      memory-is : x .memory ≡ framedMemory m
+      memory-is : x .lent .memory ≡ framedMemory m
       memory-is = framed-memory (phaseBy true v) ∙ ap framedMemory (awake-memory 0 v pl (ap (λ (k : Stand). k .suspended) (o .stands)))
 
       bus-is : busOf x ≡ bus (framedMemory m) (x .state .port .line)
@@ -437,20 +437,20 @@ module _ (a : Areas) (long : Long a) (calm : Calm withInput 0) (m : Memory) (fit
         end-got : end .state .control .got ≡ length bs
         end-got = data-got false x on-is free stage-is some-is input-is done-is status-is got-is bs (bytes-is ∙ whole)
 
-        end-reply : end .reply ≡ sets (x .reply) 0 bs
+        end-reply : end .lent .reply ≡ sets (x .lent .reply) 0 bs
         end-reply = data-reply false x on-is free stage-is some-is input-is done-is status-is got-is bs (bytes-is ∙ whole)
 
         device-held : asks 2 first ≡ false → heldOf (left (M.microframe 0) v) ≡ record { stand = standing Enumerate false i (u + 1) s false; queue = h .setups }
         device-held other = held-by end ending (λ k. k) (finishes-other end false (ap (asks 2) end-first ∙ other))
 
-        long-reply : length bs ≤ 65535 → length bs ≤ length (x .reply)
+        long-reply : length bs ≤ 65535 → length bs ≤ length (x .lent .reply)
         unfolding lengthsOk
         long-reply e = omega (arith, e, reply-asked 0 v pl, leb-true 65535 (length (a .reply)) (and-first (leb 65535 (length (a .reply))) _ (long .lengths)))
 
         header-held : asks 2 first ≡ true → length bs ≡ 9
             → heldOf (left (M.microframe 0) v) ≡ pushedHeld (0x80 ∷ 6 ∷ 0 ∷ 2 ∷ 0 ∷ 0 ∷ getD bs 2 0 ∷ getD bs 3 0 ∷ []) (record { stand = standing Enumerate false i (u + 1) s false; queue = h .setups })
         header-held other nine =
-            let byte : (j : ℕ) → j < 9 → getD (end .reply) j 0 ≡ getD bs j 0 = λ j l. ap (λ (z : List ℕ). getD z j 0) end-reply ∙ reply-byte (x .reply) bs j (long-reply (omega (arith, nine))) (omega (arith, nine, l)) in
+            let byte : (j : ℕ) → j < 9 → getD (end .lent .reply) j 0 ≡ getD bs j 0 = λ j l. ap (λ (z : List ℕ). getD z j 0) end-reply ∙ reply-byte (x .lent .reply) bs j (long-reply (omega (arith, nine))) (omega (arith, nine, l)) in
             held-by end ending (pushedHeld (0x80 ∷ 6 ∷ 0 ∷ 2 ∷ 0 ∷ 0 ∷ getD bs 2 0 ∷ getD bs 3 0 ∷ []))
             (finishes-header end false (ap (asks 2) end-first ∙ other) (end-got ∙ nine)
             ∙ ap₂ (λ (b₂ b₃ : ℕ). pushedHeld (0x80 ∷ 6 ∷ 0 ∷ 2 ∷ 0 ∷ 0 ∷ b₂ ∷ b₃ ∷ []) (onHeld false (heldOf end))) (byte 2 (omega arith)) (byte 3 (omega arith)))

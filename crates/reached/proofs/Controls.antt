@@ -56,7 +56,7 @@ fixedHeld k =
 record Keeps (x v : World) : Type 0 where
   held-same : heldOf v ≡ heldOf x
   control : v .state .control ≡ x .state .control
-  reply : v .reply ≡ x .reply
+  reply : v .lent .reply ≡ x .lent .reply
 
 stores-device : (v : World) → Keeps v (left keepsDevice v)
 unfolding one apply
@@ -77,7 +77,7 @@ drops-held x = refl
 abbrev pub asks : ℕ → ℕ → Bool
 asks type first = eqb (first % 256) 0x80 && (eqb (first / 2 ^ 8 % 256) 6 && eqb (first / 2 ^ 24) type)
 
-whole-held : (v : World) → heldOf (left asksWhole v) ≡ pushedHeld (0x80 ∷ 6 ∷ 0 ∷ 2 ∷ 0 ∷ 0 ∷ getD (v .reply) 2 0 ∷ getD (v .reply) 3 0 ∷ []) (heldOf v)
+whole-held : (v : World) → heldOf (left asksWhole v) ≡ pushedHeld (0x80 ∷ 6 ∷ 0 ∷ 2 ∷ 0 ∷ 0 ∷ getD (v .lent .reply) 2 0 ∷ getD (v .lent .reply) 3 0 ∷ []) (heldOf v)
 unfolding asksWhole one apply
 whole-held v = refl
 
@@ -100,7 +100,7 @@ module _ (x : World) where
   unfolding dropsRequest one apply
   got-kept = ap (λ (c : Control). c .got) (device-keeps d .control)
 
-  reply-kept : e .reply ≡ x .reply
+  reply-kept : e .lent .reply ≡ x .lent .reply
   unfolding dropsRequest one apply
   reply-kept = device-keeps d .reply
 
@@ -120,7 +120,7 @@ module _ (x : World) where
 
   -- 710-713: a configuration's header
   pub finishes-header : (stack : Bool) → asks 2 (x .state .control .first) ≡ true → x .state .control .got ≡ 9
-      → heldOf (left (finishes stack) x) ≡ pushedHeld (0x80 ∷ 6 ∷ 0 ∷ 2 ∷ 0 ∷ 0 ∷ getD (x .reply) 2 0 ∷ getD (x .reply) 3 0 ∷ []) (onHeld false (heldOf x))
+      → heldOf (left (finishes stack) x) ≡ pushedHeld (0x80 ∷ 6 ∷ 0 ∷ 2 ∷ 0 ∷ 0 ∷ getD (x .lent .reply) 2 0 ∷ getD (x .lent .reply) 3 0 ∷ []) (onHeld false (heldOf x))
   unfolding finishes
   finishes-header stack h nine =
       fields-then held dropsRequest _ x
@@ -248,7 +248,7 @@ module _ (stack : Bool) (u : World) (on : u .state .control .on ≡ true) (free 
     control-ran : x₁ .state .control ≡ u .state .control
     control-ran = ap (λ (k : Asked). k .control) (fields-ran asked (endpoint 0 true) [] u)
 
-    reply-ran : x₁ .reply ≡ u .reply
+    reply-ran : x₁ .lent .reply ≡ u .lent .reply
     reply-ran = ap (λ (k : Asked). k .reply) (fields-ran asked (endpoint 0 true) [] u)
 
     replied-stage : v₁ .state .control .stage ≡ Status
@@ -283,10 +283,10 @@ module _ (stack : Bool) (u : World) (on : u .state .control .on ≡ true) (free 
         let none : 0 + length bs ≡ length bs = omega arith in
         ap₂ (λ (c : Control) (l : List ℕ). c .got + length l) control-ran kept-bytes ∙ ap (λ (n : ℕ). n + length bs) none-yet ∙ none
 
-    replied-reply : v₁ .reply ≡ sets (u .reply) 0 bs
+    replied-reply : v₁ .lent .reply ≡ sets (u .lent .reply) 0 bs
     unfolding toStatus one apply
     replied-reply =
-        ap₂ (λ (n : ℕ) (l : List ℕ). sets (x₁ .reply) n l) (ap (λ (c : Control). c .got) control-ran ∙ none-yet) kept-bytes
+        ap₂ (λ (n : ℕ) (l : List ℕ). sets (x₁ .lent .reply) n l) (ap (λ (c : Control). c .got) control-ran ∙ none-yet) kept-bytes
         ∙ ap (λ (l : List ℕ). sets l 0 bs) reply-ran
 
     pub dataEnd : World
@@ -310,6 +310,6 @@ module _ (stack : Bool) (u : World) (on : u .state .control .on ≡ true) (free 
     unfolding dataEnd
     data-got = ap (λ (k : Asked). k .control .got) (fields-ran asked (endpoint 0 false) [] v₁) ∙ replied-got
 
-    pub data-reply : dataEnd .reply ≡ sets (u .reply) 0 bs
+    pub data-reply : dataEnd .lent .reply ≡ sets (u .lent .reply) 0 bs
     unfolding dataEnd
     data-reply = ap (λ (k : Asked). k .reply) (fields-ran asked (endpoint 0 false) [] v₁) ∙ replied-reply

@@ -66,18 +66,18 @@ held-queued : (v : World) → heldOf (left (one (λ w. Ch.queued firstSetups)) v
 unfolding one apply
 held-queued v = refl
 
-held-resets : (v : World) → (longer 80 v && not (any (wordAt (v .memory .page) USBSTS) 0x40)) ≡ true → heldOf (left resets v) ≡ asking (enteredHeld Enumerate (heldOf v))
+held-resets : (v : World) → (longer 80 v && not (any (wordAt (v .lent .memory .page) USBSTS) 0x40)) ≡ true → heldOf (left resets v) ≡ asking (enteredHeld Enumerate (heldOf v))
 unfolding resets
 held-resets v e =
-    ap heldOf (when-true (λ w. longer 80 w && not (any (wordAt (w .memory .page) USBSTS) 0x40)) _ v e)
+    ap heldOf (when-true (λ w. longer 80 w && not (any (wordAt (w .lent .memory .page) USBSTS) 0x40)) _ v e)
     ∙ fields-then held _ _ v ∙ fields-then held _ _ _ ∙ held-queued _
     ∙ ap asking (held-enters Enumerate _ ∙ ap (enteredHeld Enumerate) (keeps-page held _ v))
 
 waits-resets : (v : World) → longer 80 v ≡ false → left resets v ≡ v
 unfolding resets
 waits-resets v e =
-    when-false (λ w. longer 80 w && not (any (wordAt (w .memory .page) USBSTS) 0x40)) _ v
-    (ap (λ (b : Bool). b && not (any (wordAt (v .memory .page) USBSTS) 0x40)) e)
+    when-false (λ w. longer 80 w && not (any (wordAt (w .lent .memory .page) USBSTS) 0x40)) _ v
+    (ap (λ (b : Bool). b && not (any (wordAt (v .lent .memory .page) USBSTS) 0x40)) e)
 
 -- ---- enumeration
 
@@ -177,7 +177,7 @@ module _ (t : ℕ) (w : World) (p : Plain t w) where
       ap heldOf (frame-in t w p Reset e ∙ waits-resets there (late-is 80 ∙ l)) ∙ opened-held t w p
 
   -- URI is clear on the page that the microframe is lent
-  pub frame-resets : w .state .port .suspended ≡ false → w .state .phase ≡ Reset → late 80 (opened stack (standOf w)) ≡ true → any (wordAt (w .memory .page) USBSTS) 0x40 ≡ false
+  pub frame-resets : w .state .port .suspended ≡ false → w .state .phase ≡ Reset → late 80 (opened stack (standOf w)) ≡ true → any (wordAt (w .lent .memory .page) USBSTS) 0x40 ≡ false
       → heldOf (left (microframe t) w) ≡ asking (enteredHeld Enumerate (openedHeld stack (heldOf w)))
   frame-resets awake e l u =
       ap heldOf (frame-in t w p Reset e)
@@ -222,14 +222,14 @@ module _ (t : ℕ) (w : World) (p : Plain t w) where
       ∙ ap postedHeld asked-held
 
   -- a request whose endpoint is stalled is dropped
-  pub frame-stalls : w .state .port .suspended ≡ false → w .state .phase ≡ Enumerate → w .state .control .on ≡ true → any (wordAt (w .memory .page) EPCR0) 0x10001 ≡ true
+  pub frame-stalls : w .state .port .suspended ≡ false → w .state .phase ≡ Enumerate → w .state .control .on ≡ true → any (wordAt (w .lent .memory .page) EPCR0) 0x10001 ≡ true
       → heldOf (left (microframe t) w) ≡ onHeld false (openedHeld stack (heldOf w))
   unfolding controls
   frame-stalls awake e o s =
       let there-page = framed-memory there ∙ ap framedMemory (awake-memory t w p awake) in
       let stall : stalled asked ≡ true =
       ap (λ (m : Memory). any (wordAt (m .page) EPCR0) 0x10001) there-page
-      ∙ ap (λ (v : ℕ). any v 0x10001) (framed-word (w .memory .page) EPCR0 (inr (omega arith)))
+      ∙ ap (λ (v : ℕ). any v 0x10001) (framed-word (w .lent .memory .page) EPCR0 (inr (omega arith)))
       ∙ s in
       frame-talks Enumerate e refl
       ∙ ap heldOf (if-true (λ v. v .state .control .on) _ _ asked (asked-on true o))

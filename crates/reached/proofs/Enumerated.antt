@@ -1,14 +1,16 @@
 -- How often enumeration ended: by one in the microframe in which no request runs and no setup waits, and in no other.
 use Prim.Native.Nat.{ℕ, _+_}
 use mathlib.Core.Path.{_≡_, refl, ap, ap₂, sym, _∙_}
-use mathlib.Core.Bool.{Bool, true, false, not, _&&_}
+use mathlib.Core.Bool.{Bool, true, false, not, _&&_, _||_}
+use Rattle.bus.proofs.Sizes.{and-true}
 use lib.Dec.{eqb}
 use Rattle.bits.specs.Pick.{pick}
-use Rattle.bits.proofs.Tests.{false-true}
+use Rattle.bits.proofs.Tests.{false-true, or-false}
 use Rattle.bus.specs.Steps.{andThen, exec-then}
 use Rattle.record.specs.declared.Phase.{Phase}
 use Rattle.record.specs.declared.Phase.the-variants.{Idle, Vbus, Reset, Enumerate, Stream}
-use Rattle.record.specs.Record.{wrapped, counted, Counter, microframes, «in_transfers», «out_transfers», «in_frames», «out_frames», «bad_blocks», «midi_dtds», «midi_asleep», «out_underruns», «midi_packets_out», «vendor_in_bytes», restarts, enumerations}
+use Rattle.record.specs.Record.{wrapped, raised, Counter, place, «midi_dtds», «midi_asleep», enumerations, counterOf}
+use Rattle.record.proofs.Counters.{rose, raised-by, rose-other}
 use Rattle.record.specs.World.{World}
 use Rattle.record.specs.Change.{Change, bus, ran, lost, count, uf, phase, started, gone, suspended, wasRunning, credit, budget, counter, block, timers, control, queued, popped, pushed, cleared, reply, device, config, forgot, midi, serial, received, frame, taken, apply, left, if, one, nothing}
 use Rattle.model.specs.Phases.{counts, ticks, sleeps, leaves}
@@ -25,22 +27,10 @@ use Rattle.reached.proofs.Opening.{Plain, ticked, phase-ticked, frame-i
 use Rattle.reached.proofs.Early.{asked, asked-held}
 
 abbrev pub enumeratedOf : World → ℕ
-enumeratedOf w = w .state .stats .enumerations
+enumeratedOf w = counterOf enumerations (w .state .stats)
 
 abbrev enumeratedCounts : Counter → ℕ → ℕ → ℕ
-enumeratedCounts microframes n k = k
-enumeratedCounts «in_transfers» n k = k
-enumeratedCounts «out_transfers» n k = k
-enumeratedCounts «in_frames» n k = k
-enumeratedCounts «out_frames» n k = k
-enumeratedCounts «bad_blocks» n k = k
-enumeratedCounts «midi_dtds» n k = k
-enumeratedCounts «midi_asleep» n k = k
-enumeratedCounts «out_underruns» n k = k
-enumeratedCounts «midi_packets_out» n k = k
-enumeratedCounts «vendor_in_bytes» n k = k
-enumeratedCounts restarts n k = k
-enumeratedCounts enumerations n k = wrapped (k + n)
+enumeratedCounts c n k = rose (place enumerations) (place c) n k
 
 abbrev enumeratedOn : Change → ℕ → ℕ
 enumeratedOn (bus s) k = k
@@ -74,20 +64,8 @@ enumeratedOn (frame f) k = k
 enumeratedOn (taken n) k = k
 
 enumerated-count : (c : Counter) (n : ℕ) (w : World) → enumeratedOf (apply (count c n) w) ≡ enumeratedOn (count c n) (enumeratedOf w)
-unfolding apply counted
-enumerated-count microframes n w = refl
-enumerated-count «in_transfers» n w = refl
-enumerated-count «out_transfers» n w = refl
-enumerated-count «in_frames» n w = refl
-enumerated-count «out_frames» n w = refl
-enumerated-count «bad_blocks» n w = refl
-enumerated-count «midi_dtds» n w = refl
-enumerated-count «midi_asleep» n w = refl
-enumerated-count «out_underruns» n w = refl
-enumerated-count «midi_packets_out» n w = refl
-enumerated-count «vendor_in_bytes» n w = refl
-enumerated-count restarts n w = refl
-enumerated-count enumerations n w = refl
+unfolding apply
+enumerated-count c n w = raised-by (place enumerations) (place c) n (w .state .stats)
 
 enumerated-apply : (c : Change) (w : World) → enumeratedOf (apply c w) ≡ enumeratedOn c (enumeratedOf w)
 unfolding apply
@@ -137,19 +115,10 @@ abbrev enumeratedIgnored : Ignored
 enumeratedIgnored = record { block = true; enumerations = false; midi = true; marks = true }
 
 enumerated-counter : (c : Counter) → plainCounterBy enumeratedIgnored c ≡ true → (n : ℕ) (k : ℕ) → enumeratedOn (count c n) k ≡ k
-enumerated-counter microframes h n k = refl
-enumerated-counter «in_transfers» h n k = refl
-enumerated-counter «out_transfers» h n k = refl
-enumerated-counter «in_frames» h n k = refl
-enumerated-counter «out_frames» h n k = refl
-enumerated-counter «bad_blocks» h n k = refl
-enumerated-counter «midi_dtds» h n k = refl
-enumerated-counter «midi_asleep» h n k = absurd (false-true h)
-enumerated-counter «out_underruns» h n k = refl
-enumerated-counter «midi_packets_out» h n k = refl
-enumerated-counter «vendor_in_bytes» h n k = refl
-enumerated-counter restarts h n k = refl
-enumerated-counter enumerations h n k = absurd (false-true h)
+enumerated-counter c h n k =
+    let rest = and-true (not (eqb (place «midi_asleep») (place c))) _ h .1 in
+    let own = and-true (not (eqb (place «midi_dtds») (place c)) || true) _ rest .1 in
+    rose-other (place enumerations) (place c) n k (sym (or-false (not (eqb (place enumerations) (place c)))) ∙ own)
 
 enumerated-plain : (c : Change) → plainBy enumeratedIgnored c ≡ true → (k : ℕ) → enumeratedOn c k ≡ k
 enumerated-plain (bus s) h k = refl
@@ -185,7 +154,7 @@ enumerated-plain (taken n) h k = refl
 -- ---- control: enumeration ends where no request runs and no setup waits
 
 ended-once : (v : World) → enumeratedOf (left (one (λ w. count enumerations 1)) (left (one (λ w. phase Stream)) v)) ≡ wrapped (enumeratedOf v + 1)
-unfolding one apply counted
+unfolding one apply raised
 ended-once v = refl
 
 counts-configured : (v : World) → enumeratedOf (left configured v) ≡ pick (enumerating (v .state .phase)) (wrapped (enumeratedOf v + 1)) (enumeratedOf v)

@@ -66,13 +66,13 @@ pub record On (c : Settings) (a : Areas) (k : Stand) (h : Host) : Type 0 where
 pub record Enters (c : Settings) (k : Stand) (m : Memory) (w : World) : Type 0 where
   pub settings : w .settings ≡ c
   pub stands : standOf w ≡ k
-  pub memory : w .memory ≡ m
+  pub memory : w .lent .memory ≡ m
   pub budget : w .state .audio .budget ≤ 32766
 
 -- what it comes to
 pub record Goes (t : ℕ) (w : World) (k : Stand) (y y′ : Tally) : Type 0 where
   pub stands : standOf (left (M.microframe t) w) ≡ k
-  pub queue : Queue (w .setups) → Queue (left (M.microframe t) w .setups)
+  pub queue : Queue (w .own .setups) → Queue (left (M.microframe t) w .own .setups)
   pub sums : tallyOf t w y ≡ y′
 
 -- ---- lists

@@ -10,7 +10,7 @@ use Rattle.bus.specs.Steps.{replay, andThen, exec-then}
 use Rattle.usbdev.specs.Registers.{PageStore, onBus}
 use Rattle.gptimers.specs.Timer.{STEP, tickingBoth, tickedBoth}
 use Rattle.record.specs.declared.Settings.{Settings}
-use Rattle.record.specs.Record.{counted, wrapped}
+use Rattle.record.specs.Record.{raised, wrapped}
 use Rattle.record.specs.World.{World}
 use Rattle.record.specs.Change.{apply, left, nothing, when, one, here, onPage}
 use Rattle.record.specs.Change as Ch
@@ -37,7 +37,7 @@ pub ticked-held : (c : Settings) (w : World) → heldOf (ticked c w) ≡ heldOf 
 ticked-held c w = keeps-if held (λ v. c .«midi_in») ticks nothing keeps-ticks (keeps-nothing held) (left counts w)
 
 same-gone : (w : World) → left counts w .state .port .gone ≡ w .state .port .gone
-unfolding counts andThen one apply counted
+unfolding counts andThen one apply raised
 same-gone w = refl
 
 pub opens-ticked : (c : Settings) (w : World) → w .state .port .gone ≡ false → left (opens c false) w ≡ ticked c w
@@ -57,7 +57,7 @@ phase-ticked rs w f =
     ∙ ap (λ (v : World). left (leaves (c .«device_stack») rs) (left (suspends false) v)) (opens-ticked c w f)
 
 same-suspended : (c : Settings) (w : World) → ticked c w .state .port .suspended ≡ w .state .port .suspended
-unfolding counts andThen one apply counted
+unfolding counts andThen one apply raised
 same-suspended c w = ap (λ (k : Held). k .stand .suspended) (ticked-held c w)
 
 -- without MIDI input, and not suspended before
@@ -90,7 +90,7 @@ held-wakes v = by-mark (v .state .port .suspended) refl
     marked b =
         record {
           stand = record { phase = v .state .phase; on = v .state .control .on; waiting = v .state .lengths .setups; uf = v .state .port .uf; t = v .state .port .t; gone = v .state .port .gone; suspended = b; wasRunning = v .state .port .«was_running» };
-          queue = v .setups;
+          queue = v .own .setups;
         }
 
     by-mark : (b : Bool) → v .state .port .suspended ≡ b → heldOf (left (suspends false) v) ≡ waking (heldOf v)
@@ -101,19 +101,19 @@ held-wakes v = by-mark (v .state .port .suspended) refl
 
 -- the memory at the choice by phase: a resume changes the page
 abbrev pub openedMemory : World → Memory
-openedMemory w = pick (w .state .port .suspended) (resumedMemory (w .memory)) (w .memory)
+openedMemory w = pick (w .state .port .suspended) (resumedMemory (w .lent .memory)) (w .lent .memory)
 
-wakes-memory : (v : World) → left (suspends false) v .memory ≡ openedMemory v
+wakes-memory : (v : World) → left (suspends false) v .lent .memory ≡ openedMemory v
 unfolding suspends
 wakes-memory v = by-mark (v .state .port .suspended) refl
   where
-    by-mark : (b : Bool) → v .state .port .suspended ≡ b → left (suspends false) v .memory ≡ openedMemory v
+    by-mark : (b : Bool) → v .state .port .suspended ≡ b → left (suspends false) v .lent .memory ≡ openedMemory v
     by-mark true e =
-        ap (λ (x : World). x .memory) (when-true (λ w. w .state .port .suspended) resuming v e)
-        ∙ resumed-memory v ∙ ap (λ (b : Bool). pick b (resumedMemory (v .memory)) (v .memory)) (sym e)
+        ap (λ (x : World). x .lent .memory) (when-true (λ w. w .state .port .suspended) resuming v e)
+        ∙ resumed-memory v ∙ ap (λ (b : Bool). pick b (resumedMemory (v .lent .memory)) (v .lent .memory)) (sym e)
     by-mark false e =
-        ap (λ (x : World). x .memory) (when-false (λ w. w .state .port .suspended) resuming v e)
-        ∙ ap (λ (b : Bool). pick b (resumedMemory (v .memory)) (v .memory)) (sym e)
+        ap (λ (x : World). x .lent .memory) (when-false (λ w. w .state .port .suspended) resuming v e)
+        ∙ ap (λ (b : Bool). pick b (resumedMemory (v .lent .memory)) (v .lent .memory)) (sym e)
 
 -- one microframe more, not suspended, and RS seen by a device stack
 abbrev pub opened : Bool → Stand → Stand
@@ -125,7 +125,7 @@ openedHeld stack k = record { stand = opened stack (k .stand); queue = k .queue 
 
 -- a microframe at the time t in which the host neither goes, nor is back, nor is suspended, RS is set and no timer runs; no serial device
 pub record Plain (t : ℕ) (w : World) : Type 0 where
-  pub timers : Stopped (w .memory .page)
+  pub timers : Stopped (w .lent .memory .page)
   pub audio : w .settings .cdc ≡ false
   pub there : goneAt t w ≡ false
   pub awake : asleepAt t w ≡ false
@@ -141,7 +141,7 @@ counting n k =
     }
 
 pub held-counts : (w : World) → heldOf (left counts w) ≡ counting (wrapped (w .state .port .uf + 1)) (heldOf w)
-unfolding counts andThen one apply counted
+unfolding counts andThen one apply raised
 held-counts w = refl
 
 abbrev pub seeing : Bool → Held → Held
@@ -177,43 +177,43 @@ module _ (t : ℕ) (w : World) (p : Plain t w) where
       ∙ ap (λ (x : Phase). left (atPhase (w .settings) t true x) (phaseBy true w)) (ap (λ (k : Held). k .stand .phase) opened-held ∙ e)
 
 -- memory and budget are as they were
-same-leaves : (stack : Bool) (v : World) → left (leaves stack true) v .memory ≡ v .memory
+same-leaves : (stack : Bool) (v : World) → left (leaves stack true) v .lent .memory ≡ v .lent .memory
 unfolding leaves one apply nothing
 same-leaves true v = refl
 same-leaves false v = refl
 
-same-counts : (w : World) → left counts w .memory ≡ w .memory
-unfolding counts andThen one apply counted
+same-counts : (w : World) → left counts w .lent .memory ≡ w .lent .memory
+unfolding counts andThen one apply raised
 same-counts w = refl
 
 -- timers that stand still store nothing
-ticks-memory : (v : World) → Stopped (v .memory .page) → left ticks v .memory ≡ v .memory
+ticks-memory : (v : World) → Stopped (v .lent .memory .page) → left ticks v .lent .memory ≡ v .lent .memory
 unfolding ticks here one apply onPage
 ticks-memory v s =
     let ts = v .state .timers in
     let first = one (λ w. Ch.timers (tickedBoth STEP ts (registersOf v))) in
-    ap (λ (u : World). u .memory) (exec-then apply first (onPage (tickingBoth STEP ts)) v)
-    ∙ ap (λ (ss : List PageStore). replay apply (map Ch.bus (map onBus ss)) (left first v) .memory) (ticking-nothing STEP ts (registersOf v) s)
+    ap (λ (u : World). u .lent .memory) (exec-then apply first (onPage (tickingBoth STEP ts)) v)
+    ∙ ap (λ (ss : List PageStore). replay apply (map Ch.bus (map onBus ss)) (left first v) .lent .memory) (ticking-nothing STEP ts (registersOf v) s)
 
-ticked-memory : (c : Settings) (w : World) → Stopped (w .memory .page) → ticked c w .memory ≡ w .memory
+ticked-memory : (c : Settings) (w : World) → Stopped (w .lent .memory .page) → ticked c w .lent .memory ≡ w .lent .memory
 ticked-memory c w s = by-input (c .«midi_in») refl
   where
-    by-input : (b : Bool) → c .«midi_in» ≡ b → ticked c w .memory ≡ w .memory
+    by-input : (b : Bool) → c .«midi_in» ≡ b → ticked c w .lent .memory ≡ w .lent .memory
     by-input true e =
-        ap (λ (v : World). v .memory) (when-true (λ v. c .«midi_in») ticks (left counts w) e)
+        ap (λ (v : World). v .lent .memory) (when-true (λ v. c .«midi_in») ticks (left counts w) e)
         ∙ ticks-memory (left counts w) (subst (λ (m : Memory). Stopped (m .page)) (sym (same-counts w)) s) ∙ same-counts w
-    by-input false e = ap (λ (v : World). v .memory) (when-false (λ v. c .«midi_in») ticks (left counts w) e) ∙ same-counts w
+    by-input false e = ap (λ (v : World). v .lent .memory) (when-false (λ v. c .«midi_in») ticks (left counts w) e) ∙ same-counts w
 
-pub opened-memory : (t : ℕ) (w : World) → Plain t w → phaseBy true w .memory ≡ openedMemory w
+pub opened-memory : (t : ℕ) (w : World) → Plain t w → phaseBy true w .lent .memory ≡ openedMemory w
 opened-memory t w p =
-    ap (λ (v : World). v .memory) (phase-ticked true w (p .still))
+    ap (λ (v : World). v .lent .memory) (phase-ticked true w (p .still))
     ∙ same-leaves (w .settings .«device_stack») (left (suspends false) (ticked (w .settings) w))
     ∙ wakes-memory (ticked (w .settings) w)
     ∙ ap₂ (λ (b : Bool) (m : Memory). pick b (resumedMemory m) m) (same-suspended (w .settings) w) (ticked-memory (w .settings) w (p .timers))
 
 -- where it was not suspended before
-pub awake-memory : (t : ℕ) (w : World) → Plain t w → w .state .port .suspended ≡ false → phaseBy true w .memory ≡ w .memory
-awake-memory t w p e = opened-memory t w p ∙ ap (λ (b : Bool). pick b (resumedMemory (w .memory)) (w .memory)) e
+pub awake-memory : (t : ℕ) (w : World) → Plain t w → w .state .port .suspended ≡ false → phaseBy true w .lent .memory ≡ w .lent .memory
+awake-memory t w p e = opened-memory t w p ∙ ap (λ (b : Bool). pick b (resumedMemory (w .lent .memory)) (w .lent .memory)) e
 
 budget-leaves : (stack : Bool) (v : World) → left (leaves stack true) v .state .audio .budget ≡ v .state .audio .budget
 unfolding leaves one apply nothing
@@ -221,7 +221,7 @@ budget-leaves true v = refl
 budget-leaves false v = refl
 
 budget-counts : (w : World) → left counts w .state .audio .budget ≡ w .state .audio .budget
-unfolding counts andThen one apply counted
+unfolding counts andThen one apply raised
 budget-counts w = refl
 
 pub opened-budget : (t : ℕ) (w : World) → Plain t w → phaseBy true w .state .audio .budget ≡ w .state .audio .budget

@@ -36,20 +36,20 @@ framedMemory m = memory (m .dynamic) (m .sram) (framedPage (m .page))
 abbrev sof : PageStep
 sof = R._then_ (changing FRINDEX (nextFrindex 1)) (raising 0x80)
 
-framed-bus : (v : World) → S.stored (lifted sof (busOf v)) (busOf v) .memory ≡ framedMemory (v .memory)
+framed-bus : (v : World) → S.stored (lifted sof (busOf v)) (busOf v) .memory ≡ framedMemory (v .lent .memory)
 unfolding framedPage changing andThen setting following store
 framed-bus v =
     let l = v .state .port .line in
     ap (λ (b : S.Bus). b .memory)
-    (on-bus (sof (registers (v .memory .page) l)) (v .memory .dynamic) (v .memory .sram) (v .memory .page) l (omega arith, (omega arith, tt)))
+    (on-bus (sof (registers (v .lent .memory .page) l)) (v .lent .memory .dynamic) (v .lent .memory .sram) (v .lent .memory .page) l (omega arith, (omega arith, tt)))
 
 -- the World after the start of frame: only the bus is another
 pub framed-is : (v : World) → left startsFrame v ≡ withBus v (S.stored (lifted sof (busOf v)) (busOf v))
 unfolding startsFrame onPage
 framed-is v = replay-bus (lifted sof (busOf v)) v
 
-pub framed-memory : (v : World) → left startsFrame v .memory ≡ framedMemory (v .memory)
-framed-memory v = ap (λ (w : World). w .memory) (framed-is v) ∙ framed-bus v
+pub framed-memory : (v : World) → left startsFrame v .lent .memory ≡ framedMemory (v .lent .memory)
+framed-memory v = ap (λ (w : World). w .lent .memory) (framed-is v) ∙ framed-bus v
 
 pub framed-budget : (v : World) → left startsFrame v .state .audio .budget ≡ v .state .audio .budget
 framed-budget v = ap (λ (w : World). w .state .audio .budget) (framed-is v)
@@ -80,18 +80,18 @@ resumedMemory m = memory (m .dynamic) (m .sram) (resumedPage (m .page))
 abbrev resume : PageStep
 resume = R._then_ (changing PORTSC1 (λ v. clear v 0x80)) (raising 4)
 
-resumed-bus : (v : World) → S.stored (lifted resume (busOf v)) (busOf v) .memory ≡ resumedMemory (v .memory)
+resumed-bus : (v : World) → S.stored (lifted resume (busOf v)) (busOf v) .memory ≡ resumedMemory (v .lent .memory)
 unfolding resumedPage changing andThen setting following store
 resumed-bus v =
     let l = v .state .port .line in
     ap (λ (b : S.Bus). b .memory)
-    (on-bus (resume (registers (v .memory .page) l)) (v .memory .dynamic) (v .memory .sram) (v .memory .page) l (omega arith, (omega arith, tt)))
+    (on-bus (resume (registers (v .lent .memory .page) l)) (v .lent .memory .dynamic) (v .lent .memory .sram) (v .lent .memory .page) l (omega arith, (omega arith, tt)))
 
-pub resumed-memory : (v : World) → left resuming v .memory ≡ resumedMemory (v .memory)
+pub resumed-memory : (v : World) → left resuming v .lent .memory ≡ resumedMemory (v .lent .memory)
 unfolding onPage one apply
 resumed-memory v =
     let x = left (one (λ w. Ch.suspended false)) v in
-    ap (λ (w : World). w .memory) (exec-then apply (one (λ w. Ch.suspended false)) (onPage resume) v ∙ replay-bus (lifted resume (busOf x)) x)
+    ap (λ (w : World). w .lent .memory) (exec-then apply (one (λ w. Ch.suspended false)) (onPage resume) v ∙ replay-bus (lifted resume (busOf x)) x)
     ∙ resumed-bus x
 
 -- ---- the timers (741-765)

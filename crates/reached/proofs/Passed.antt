@@ -17,6 +17,7 @@ use Rattle.record.specs.declared.Ring.{Ring}
 use Rattle.record.specs.declared.Settings.{Settings}
 use Rattle.record.specs.World.{World}
 use Rattle.record.specs.Change.{left, takenFrom}
+use Rattle.record.specs.Record.{counterOf, «out_frames»}
 use Rattle.model.specs.Audio.{bytesOf, frameAt, channelBytes, frameBytes, blockOf}
 use Rattle.model.specs.Microframe as M
 use Rattle.model.specs.Reach.{reachesInput, reachesOutput, atInput, atOutput, outputReady}
@@ -90,8 +91,8 @@ one-frame x e =
 silent : (v : World) (i : ℕ) → v .state .audio .sending .len ≡ 1 → ltb i 1 ≡ false → frameAt v i ≡ replicate 12 0
 unfolding frameAt
 silent v i one e =
-    ap (λ (n : ℕ). pick (ltb i n) (take 12 (drop ((v .state .audio .sending .start + i) % (length (v .sending) / 12) * 12) (v .sending))) (replicate 12 0)) one
-    ∙ ap (λ (t : Bool). pick t (take 12 (drop ((v .state .audio .sending .start + i) % (length (v .sending) / 12) * 12) (v .sending))) (replicate 12 0)) e
+    ap (λ (n : ℕ). pick (ltb i n) (take 12 (drop ((v .state .audio .sending .start + i) % (length (v .lent .sending) / 12) * 12) (v .lent .sending))) (replicate 12 0)) one
+    ∙ ap (λ (t : Bool). pick t (take 12 (drop ((v .state .audio .sending .start + i) % (length (v .lent .sending) / 12) * 12) (v .lent .sending))) (replicate 12 0)) e
 
 -- the block of a World whose sending ring has one frame
 block-tail : (v : World) (x : List ℕ) → length x ≡ 12 → v .state .audio .block ≡ 368 → v .state .audio .channels ≡ 12 → v .state .audio .sending .len ≡ 1 → frameAt v 0 ≡ x
@@ -275,13 +276,13 @@ module _ (a : Areas) (f : List ℕ) (long : Long a) (static-length : length f �
   -- ---- room for a block
 
   abbrev ring₂ : List ℕ
-  ring₂ = framed 0 h₁ (lend areas₁ m₂) .received
+  ring₂ = framed 0 h₁ (lend areas₁ m₂) .lent .received
 
   abbrev areas₂ : Areas
   areas₂ = withRings a ring₂ ring₁
 
   same-length : length ring₂ ≡ length (a .received)
-  same-length = ap (λ (v : World). length (v .received)) framed₂ ∙ ap (λ (z : Shape). z .received) (shape-kept 0 w₂)
+  same-length = ap (λ (v : World). length (v .lent .received)) framed₂ ∙ ap (λ (z : Shape). z .received) (shape-kept 0 w₂)
 
   long₂ : Long areas₂
   long₂ =
@@ -336,12 +337,12 @@ module _ (a : Areas) (f : List ℕ) (long : Long a) (static-length : length f �
   waits₂ = ap (λ (z : Out). z .sending .len) sending₂ ∙ waits
 
   -- the block goes out, since it is counted
-  pub sends : h₂ .stats .«out_frames» ≡ 0 → h₃ .stats .«out_frames» ≡ 7 → sendsAt 0 w₃ ≡ true
+  pub sends : counterOf «out_frames» (h₂ .stats) ≡ 0 → counterOf «out_frames» (h₃ .stats) ≡ 7 → sendsAt 0 w₃ ≡ true
   unfolding step
   sends before now =
       by-test (λ b. sendsAt 0 w₃ ≡ b → b ≡ true) (sendsAt 0 w₃) (λ e p. refl)
       (λ e p.
-      let still : framed 0 h₂ (lend areas₂ m₃) .state .stats .«out_frames» ≡ h₂ .stats .«out_frames» = ap (λ (z : Out). z .sent) (ap outOf framed₃ ∙ no-block 0 w₃ e .out) in
+      let still : counterOf «out_frames» (framed 0 h₂ (lend areas₂ m₃) .state .stats) ≡ counterOf «out_frames» (h₂ .stats) = ap (λ (z : Out). z .sent) (ap outOf framed₃ ∙ no-block 0 w₃ e .out) in
       absurd (omega (arith, still, before, now)))
       refl
 
@@ -370,7 +371,7 @@ module _ (a : Areas) (f : List ℕ) (long : Long a) (static-length : length f �
   first-frame =
       let s = h .audio .sending .start in
       let n = h .audio .sending .len in
-      let words : atOutput w₃ .sending ≡ sets ring ((s + n) % (length ring / 12) * 12) x = words-output w₃ ∙ ring-is in
+      let words : atOutput w₃ .lent .sending ≡ sets ring ((s + n) % (length ring / 12) * 12) x = words-output w₃ ∙ ring-is in
       let inside : s % (length ring / 12) < length ring / 12 = mod-lt s {m = length ring / 12} (omega (arith, most)) in
       let same₁ : s + 0 ≡ s = omega arith in
       let same₂ : s + n ≡ s = omega (arith, none-out) in
@@ -388,7 +389,7 @@ module _ (a : Areas) (f : List ℕ) (long : Long a) (static-length : length f �
   -- ---- a frame is taken
 
   abbrev ring₃ : List ℕ
-  ring₃ = framed 0 h₂ (lend areas₂ m₃) .received
+  ring₃ = framed 0 h₂ (lend areas₂ m₃) .lent .received
 
   frames₃ : ringFrames (framed 0 h₂ (lend areas₂ m₃)) ≡ (0x1234_5678 ∷ 0x9ABC_DEF0 ∷ replicate 10 0) ∷ replicate 6 (replicate 12 0)
   unfolding step numberOf
@@ -410,7 +411,7 @@ module _ (a : Areas) (f : List ℕ) (long : Long a) (static-length : length f �
       let l₂ = and-second (leb 65535 (length (a .config))) _ l₁ in
       let l₃ = and-second (leb 196608 (length (a .receive))) _ l₂ in
       let whole : eqb (length ring₃) 576000 ≡ true =
-      ap (λ (n : ℕ). eqb n 576000) (ap (λ (v : World). length (v .received)) framed₃ ∙ ap (λ (z : Shape). z .received) (shape-kept 0 w₃) ∙ same-length)
+      ap (λ (n : ℕ). eqb n 576000) (ap (λ (v : World). length (v .lent .received)) framed₃ ∙ ap (λ (z : Shape). z .received) (shape-kept 0 w₃) ∙ same-length)
       ∙ and-first (eqb (length (a .received)) 576000) _ l₃ in
       let spans : fewSpans h₃ ≡ true = ap (λ (c : Settings). leb (c .spans) 16) (on₃ .settings) in
       simp (whole, spans, on₃ .bounds .record-bounds, on₃ .bounds .received)

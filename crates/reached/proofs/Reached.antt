@@ -12,7 +12,7 @@ use Rattle.bus.specs.Memory.{Memory}
 use Rattle.record.specs.declared.Phase.{Phase}
 use Rattle.record.specs.declared.Phase.the-variants.{Idle, Vbus, Enumerate, Stream}
 use Rattle.record.specs.declared.Settings.{Settings}
-use Rattle.record.specs.Record.{wrapped}
+use Rattle.record.specs.Record.{wrapped, counterAt, counterOf, enumerations, «out_frames»}
 use Rattle.record.specs.Setups.{little}
 use Rattle.model.specs.Phases.{within, anySpan, firstSetups}
 use Rattle.model.specs.Control.{fixedSetups}
@@ -280,7 +280,7 @@ module _ (a : Areas) (f : List ℕ) (l : Lendable a f) where
   last-is cs x = after-append (newHost withSleep) cs (x ∷ [])
 
   aside-before : asideHost (sleepers (oneBlock a f)) ≡ record { block = 368; channels = 12; asleep = 0 }
-  unfolding oneBlock toStream newHost
+  unfolding oneBlock toStream newHost counterAt
   aside-before =
       let k = awake-sleep 0 refl refl in
       let s = aside-waits withSleep 0 k (lend a (words f [] stalledPage)) 492 (newHost withSleep) refl in
@@ -426,7 +426,7 @@ module _ (a : Areas) (f : List ℕ) (l : Lendable a f) where
       (asked-plain 0 497 (drop 16 fixedSetups) refl (omega arith) (omega arith) refl refl refl)
 
   waiting-new : Waiting a start [] 0 (newHost withInput)
-  unfolding newHost
+  unfolding newHost counterAt
   waiting-new = record { on = on-new withInput; waits = refl; ended = refl }
 
   waits-after : (cs : List Call) (i u : ℕ) (ws : List ℕ) → Does cs (Waiting a start [] 0) (Waiting a (standing Enumerate false i u 483 false) ws 0) → 8 * i ≡ length ws → Waits withInput cs ws
@@ -463,11 +463,11 @@ module _ (a : Areas) (f : List ℕ) (l : Lendable a f) where
       (ap (λ (g : Host). g .phase) (after-append (newHost withInput) (answersSetups a f) cs) ∙ ap (λ (x : Stand). x .phase) (p .host asker o .stands))
       (accepted-append (newHost withInput) (answersSetups a f) cs (does-answers .numbers (newHost withInput) waiting-new) (p .numbers asker o))
 
-  settled-behind : (cs : List Call) (q : Phase) (u n : ℕ) → On withInput a (standing q false 0 u 483 false) (after asker cs) → after asker cs .stats .enumerations ≡ n → Settled withInput (answersSetups a f ++ cs) n
+  settled-behind : (cs : List Call) (q : Phase) (u n : ℕ) → On withInput a (standing q false 0 u 483 false) (after asker cs) → counterOf enumerations (after asker cs .stats) ≡ n → Settled withInput (answersSetups a f ++ cs) n
   settled-behind cs q u n o e =
       let is = after-append (newHost withInput) (answersSetups a f) cs in
       record {
-        ended = ap (λ (g : Host). g .stats .enumerations) is ∙ e;
+        ended = ap (λ (g : Host). counterOf enumerations (g .stats)) is ∙ e;
         free = ap (λ (g : Host). g .control .on) is ∙ ap (λ (x : Stand). x .on) (o .stands);
         none-waits = ap (λ (g : Host). g .lengths .setups) is ∙ ap (λ (x : Stand). x .waiting) (o .stands);
       }
@@ -483,7 +483,7 @@ module _ (a : Areas) (f : List ℕ) (l : Lendable a f) where
   on-begun : On withInput a (standing Stream false 0 500 483 false) (after asker (rests a f ∷ []))
   on-begun = leads-begins .host asker (waiting-answered .on)
 
-  ended-once : after asker (rests a f ∷ []) .stats .enumerations ≡ 1
+  ended-once : counterOf enumerations (after asker (rests a f ∷ []) .stats) ≡ 1
   unfolding after
   ended-once =
       ended-by a long calm-input restMemory rest-fit (pages .rs-rests) (standing Enumerate false 0 499 483 false) (omega arith) refl asker (waiting-answered .on)
@@ -497,7 +497,7 @@ module _ (a : Areas) (f : List ℕ) (l : Lendable a f) where
   leads-all : Leads withInput a ((rests a f ∷ []) ++ (brings a f 0x0700_0000 ∷ takes a f ∷ [])) (standing Enumerate false 0 499 483 false) (standing Stream false 0 502 483 false) fresh (alike 7 7)
   leads-all = leads-then leads-begins (leads-then leads-heard leads-sent)
 
-  ended-still : after asker ((rests a f ∷ []) ++ (brings a f 0x0700_0000 ∷ takes a f ∷ [])) .stats .enumerations ≡ 1
+  ended-still : counterOf enumerations (after asker ((rests a f ∷ []) ++ (brings a f 0x0700_0000 ∷ takes a f ∷ [])) .stats) ≡ 1
   unfolding after
   ended-still =
       let h = after asker (rests a f ∷ []) in
@@ -543,24 +543,24 @@ module _ (a : Areas) (f : List ℕ) (l : Lendable a f) where
     none-out = omega (arith, few-streamed .sending)
 
     aside-streamed : asideHost h ≡ record { block = 368; channels = 12; asleep = 0 }
-    unfolding toStream newHost
+    unfolding toStream newHost counterAt
     aside-streamed = aside-waits plain 0 awake-plain (lend a (words f [] stalledPage)) 492 (newHost plain) refl .aside
 
     -- the sums after more calls, and the counter of sent frames
     more-sums : (cs : List Call) (y : Tally) → tally h fresh cs ≡ y → tally (newHost plain) fresh (toStream a f ++ cs) ≡ y
     more-sums cs y e = tally-append (newHost plain) fresh (toStream a f) cs ∙ ap (λ (z : Tally). tally h z cs) tally-streamed ∙ e
 
-    counter-is : (cs : List Call) (y : Tally) → tally h fresh cs ≡ y → after h cs .stats .«out_frames» ≡ y .ever .sent
+    counter-is : (cs : List Call) (y : Tally) → tally h fresh cs ≡ y → counterOf «out_frames» (after h cs .stats) ≡ y .ever .sent
     counter-is cs y e =
-        ap (λ (g : Host). g .stats .«out_frames») (sym (after-append (newHost plain) (toStream a f) cs))
+        ap (λ (g : Host). counterOf «out_frames» (g .stats)) (sym (after-append (newHost plain) (toStream a f) cs))
         ∙ table-counters plain (toStream a f ++ cs) .sent
         ∙ ap (λ (z : Tally). z .ever .sent) (more-sums cs y e)
 
-    sent-before : heard a f x h .stats .«out_frames» ≡ 0
+    sent-before : counterOf «out_frames» (heard a f x h .stats) ≡ 0
     unfolding after
     sent-before = counter-is (gives a f x ∷ microframe 0 (hearing a f x h) ∷ []) (alike 7 0) (heard-sums a f long (l .static-length) (l .static-bytes) calm-plain awake-plain x twelve-words h on-streamed none-in none-out aside-streamed)
 
-    sent-now : answered a f x h .stats .«out_frames» ≡ 7
+    sent-now : counterOf «out_frames» (answered a f x h .stats) ≡ 7
     unfolding after
     sent-now = counter-is (gives a f x ∷ microframe 0 (hearing a f x h) ∷ microframe 0 (answering a f x h) ∷ []) (alike 7 7) (answered-sums a f long (l .static-length) (l .static-bytes) calm-plain awake-plain x twelve-words h on-streamed none-in none-out aside-streamed)
 

@@ -236,10 +236,10 @@ module _ (c : Settings) (a : Areas) (long : Long a) (few : leb (c .spans) 16 ≡
   of-settings f e = ap f (e .settings)
 
   goes : (k k′ : Stand) (r : Bool) (y : Tally) (f : Held → Held) (w : World) → Enters c k m w → heldOf (left (M.microframe t) w) ≡ f (heldOf w)
-      → f (record { stand = k; queue = w .setups }) ≡ record { stand = k′; queue = w .setups }
+      → f (record { stand = k; queue = w .own .setups }) ≡ record { stand = k′; queue = w .own .setups }
       → Tested t w r false 0 false → Goes t w k′ y (played r false 0 false y)
   goes k k′ r y f w e law is sum =
-      let now = law ∙ ap (λ (x : Stand). f (record { stand = x; queue = w .setups })) (e .stands) ∙ is in
+      let now = law ∙ ap (λ (x : Stand). f (record { stand = x; queue = w .own .setups })) (e .stands) ∙ is in
       record {
         stands = ap (λ (x : Held). x .stand) now;
         queue = λ h. subst Queue (sym (ap (λ (x : Held). x .queue) now)) h;
@@ -265,7 +265,7 @@ module _ (c : Settings) (a : Areas) (long : Long a) (few : leb (c .spans) 16 ≡
       (frame-back t w spans (of-settings (λ x. within (x .suspend) t) e ∙ awake) (ap (λ (x : Memory). any (wordAt (x .page) USBCMD) 1) (e .memory) ∙ set)
       (of-settings (λ x. x .«midi_in») e ∙ midi) away (ap (λ (x : Stand). x .suspended) (e .stands)) (omega (arith, ap (λ (x : Stand). x .uf) (e .stands), early))
       ∙ ap (λ (b : Bool). enteredHeld Vbus (seeing (pick b true (w .state .port .«was_running»)) (freshHeld (counting (w .state .port .uf + 1) (heldOf w))))) (of-settings (λ x. x .«device_stack») e))
-      (ap (λ (b : Bool). record { stand = standing Vbus false 0 (u + 1) (u + 1) b; queue = w .setups }) (seen-is stack))
+      (ap (λ (b : Bool). record { stand = standing Vbus false 0 (u + 1) (u + 1) b; queue = w .own .setups }) (seen-is stack))
       (tested-back t w spans away))
 
   -- with RS clear and a device stack that has seen it set

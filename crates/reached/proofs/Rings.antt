@@ -9,7 +9,7 @@ use lib.ListN.{length, replicate, length-append, length-drop}
 use borrow.Author.Tests.{eqb-true}
 use Rattle.bits.specs.Pick.{pick}
 use Rattle.bits.proofs.Tests.{and-first, and-second}
-use Rattle.record.specs.World.{World}
+use Rattle.record.specs.World.{Lent, World}
 use Rattle.record.specs.Change.{FRAMES, left, takenFrom}
 use Rattle.model.specs.Audio.{blocksOf}
 use Rattle.model.specs.Microframe as M
@@ -22,7 +22,7 @@ use Rattle.model.proofs.InputStep.{input-step, no-input}
 use Rattle.model.proofs.OldestFirst.{ring-length}
 use Rattle.model.proofs.Blocks.{frames-count}
 use Rattle.usbhost.specs.declared.Host.{Host}
-use Rattle.usbhost.specs.Frame.{Lent, worldOf, hostIn, frameNumber, framed}
+use Rattle.usbhost.specs.Frame.{worldOf, hostIn, frameNumber, framed}
 use Rattle.history.specs.Calls.{microframe, step, after}
 use Rattle.history.specs.Sums as S
 use Rattle.history.specs.Sums.{Sums, Tally, receive, send, readAt, heard, reset, answeredEver, tallied, tally}
@@ -36,7 +36,7 @@ module _ (t : ℕ) (w : World) (o : RingInOrder w) where
   lenAfter = left (M.microframe t) w .state .audio .received .len
 
   after-length : lenAfter ≡ length (ringFrames (left (M.microframe t) w))
-  after-length = sym (ring-length FRAMES (left (M.microframe t) w .received) (left (M.microframe t) w .state .audio .received .start) lenAfter)
+  after-length = sym (ring-length FRAMES (left (M.microframe t) w .lent .received) (left (M.microframe t) w .state .audio .received .start) lenAfter)
 
   ring-grows : lenAfter ≤ w .state .audio .received .len + pick (S.inputReached t w) (readAt w) 0
   ring-grows =
@@ -50,7 +50,7 @@ module _ (t : ℕ) (w : World) (o : RingInOrder w) where
         ap length (s .after),
         length-drop (length fs - FRAMES) fs,
         length-append (ringFrames w) (framesRead (inBytes (atInput w))),
-        ring-length FRAMES (w .received) (w .state .audio .received .start) (w .state .audio .received .len),
+        ring-length FRAMES (w .lent .received) (w .state .audio .received .start) (w .state .audio .received .len),
         frames-count (inBytes (atInput w)),
         ap (λ (bs : List ℕ). 7 * goodBlocks (blocksOf bs)) (s .bytes),
       ))
@@ -59,7 +59,7 @@ module _ (t : ℕ) (w : World) (o : RingInOrder w) where
         arith,
         after-length,
         ap length (no-input t w o e .frames),
-        ring-length FRAMES (w .received) (w .state .audio .received .start) (w .state .audio .received .len),
+        ring-length FRAMES (w .lent .received) (w .state .audio .received .start) (w .state .audio .received .len),
       ))
 
 -- ---- the sending ring

@@ -13,8 +13,8 @@ use Rattle.bus.specs.Steps.{exec-then}
 use Rattle.record.specs.declared.Phase.{Phase}
 use Rattle.record.specs.declared.Phase.the-variants.{Stream}
 use Rattle.record.specs.declared.Settings.{Settings}
-use Rattle.record.specs.Record.{wrapped}
-use Rattle.record.specs.World.{World}
+use Rattle.record.specs.Record.{wrapped, counterOf, «midi_asleep»}
+use Rattle.record.specs.World.{Lent, World}
 use Rattle.record.specs.Change.{apply, left, _then_, one, here}
 use Rattle.record.specs.Change as Ch
 use Rattle.model.specs.Phases.{within, anySpan, sleeps, suspending, suspends}
@@ -30,7 +30,7 @@ use Rattle.model.proofs.Progress.{if-false, when-true, when-false}
 use Rattle.bounds.specs.Bounds.{MOST}
 use Rattle.kept.proofs.Shape.{Shape, shape-kept}
 use Rattle.usbhost.specs.declared.Host.{Host}
-use Rattle.usbhost.specs.Frame.{Lent, worldOf, hostIn, frameNumber, framed}
+use Rattle.usbhost.specs.Frame.{worldOf, hostIn, frameNumber, framed}
 use Rattle.history.specs.Calls.{microframe, step, after}
 use Rattle.history.specs.Sums.{Sums, Tally, none}
 use Rattle.reached.specs.Lists.{Areas, lend}
@@ -104,7 +104,7 @@ module _ (c : Settings) (a : Areas) (long : Long a) (few : leb (c .spans) 16 ≡
       let still : w .state .port .gone ≡ false = ap (λ (x : Stand). x .gone) (e .stands) in
       let now =
       frame-suspends t w spans sleeping still (ap (λ (x : Stand). x .suspended) (e .stands)) (omega (arith, ap (λ (x : Stand). x .uf) (e .stands), early))
-      ∙ ap (λ (x : Stand). suspendedHeld (counting (x .uf + 1) (record { stand = x; queue = w .setups }))) (e .stands) in
+      ∙ ap (λ (x : Stand). suspendedHeld (counting (x .uf + 1) (record { stand = x; queue = w .own .setups }))) (e .stands) in
       record {
         stands = ap (λ (x : Held). x .stand) now;
         queue = λ h. subst Queue (sym (ap (λ (x : Held). x .queue) now)) h;
@@ -132,7 +132,7 @@ aside-asleep t w s ph stack midi asleep =
 -- ---- of calls
 
 abbrev pub asideHost : Host → Aside
-asideHost h = record { block = h .audio .block; channels = h .audio .channels; asleep = h .stats .«midi_asleep» }
+asideHost h = record { block = h .audio .block; channels = h .audio .channels; asleep = counterOf «midi_asleep» (h .stats) }
 
 -- settings without the device stack, and a time in none of their spans
 pub record Awake (c : Settings) (t : ℕ) : Type 0 where

@@ -40,7 +40,7 @@ standOf w =
     }
 
 abbrev pub heldOf : World → Held
-heldOf w = record { stand = standOf w; queue = w .setups }
+heldOf w = record { stand = standOf w; queue = w .own .setups }
 
 abbrev pub heldOn : Change → Held → Held
 heldOn (bus s) k = k

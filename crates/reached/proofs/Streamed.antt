@@ -80,7 +80,7 @@ module _ (c : Settings) (a : Areas) (long : Long a) (t : ℕ) (calm : Calm c t) 
   module _ (b : Bool) (u s : ℕ) (few : u < MOST) (h : Bool) (n : ℕ) (o : Bool) (y : Tally)
       (law : (w : World) → Streams t w → openedMemory w ≡ opensTo b → w .state .audio .budget ≤ 32766 → Tested t w false h n o) where
     goes : (q : Phase) (w : World) → Enters c (From b q u s) m w → Streams t w
-        → heldOf (left (M.microframe t) w) ≡ record { stand = At Stream (u + 1) s; queue = w .setups } → Goes t w (At Stream (u + 1) s) y (played false h n o y)
+        → heldOf (left (M.microframe t) w) ≡ record { stand = At Stream (u + 1) s; queue = w .own .setups } → Goes t w (At Stream (u + 1) s) y (played false h n o y)
     goes q w e st is =
         record {
           stands = ap (λ (x : Held). x .stand) is;
@@ -90,10 +90,10 @@ module _ (c : Settings) (a : Areas) (long : Long a) (t : ℕ) (calm : Calm c t) 
 
     -- what the opening makes of it
     more : (q : Phase) (w : World) → Enters c (From b q u s) m w → (f : Held → Held)
-        → f (openedHeld (w .settings .«device_stack») (heldOf w)) ≡ f (record { stand = At q (u + 1) s; queue = w .setups })
+        → f (openedHeld (w .settings .«device_stack») (heldOf w)) ≡ f (record { stand = At q (u + 1) s; queue = w .own .setups })
     more q w e f =
-        ap₂ (λ (b : Bool) (x : Stand). f (openedHeld b (record { stand = x; queue = w .setups }))) (ap (λ (x : Settings). x .«device_stack») (e .settings)) (e .stands)
-        ∙ ap (λ (b : Bool). f (record { stand = standing q false 0 (u + 1) s b; queue = w .setups })) (seen-is stack)
+        ap₂ (λ (b : Bool) (x : Stand). f (openedHeld b (record { stand = x; queue = w .own .setups }))) (ap (λ (x : Settings). x .«device_stack») (e .settings)) (e .stands)
+        ∙ ap (λ (b : Bool). f (record { stand = standing q false 0 (u + 1) s b; queue = w .own .setups })) (seen-is stack)
 
     leads-ends : Leads c a (call ∷ []) (From b Enumerate u s) (At Stream (u + 1) s) y (played false h n o y)
     leads-ends =

@@ -124,11 +124,11 @@ module _ (t : ℕ) (w : World) (p : Plain t w) where
 
 -- a step that changes neither memory nor, of the record, the audio's budget
 pub record Same (w v : World) : Type 0 where
-  pub memory : v .memory ≡ w .memory
+  pub memory : v .lent .memory ≡ w .lent .memory
   pub budget : v .state .audio .budget ≡ w .state .audio .budget
 
 same-refl : {w v : World} → v ≡ w → Same w v
-same-refl e = record { memory = ap (λ (x : World). x .memory) e; budget = ap (λ (x : World). x .state .audio .budget) e }
+same-refl e = record { memory = ap (λ (x : World). x .lent .memory) e; budget = ap (λ (x : World). x .state .audio .budget) e }
 
 same-trans : {u v w : World} → Same u v → Same v w → Same u w
 same-trans p q = record { memory = q .memory ∙ p .memory; budget = q .budget ∙ p .budget }
@@ -166,9 +166,9 @@ module _ (t : ℕ) (w : World) (s : Streams t w) where
       ∙ if-false (λ v. v .state .control .on) _ _ at-control (asked-on t w p false (s .free))
       ∙ if-true (λ v. eqb (v .state .lengths .setups) 0) configured posts at-control (ap (λ (n : ℕ). eqb n 0) (asked-waiting t w p 0 (s .nothing-waits)))
 
-  stream-memory : streamBy true w .memory ≡ framedMemory (openedMemory w)
+  stream-memory : streamBy true w .lent .memory ≡ framedMemory (openedMemory w)
   stream-memory =
-      ap (λ (x : World). x .memory) stream-is ∙ configured-same at-control .memory
+      ap (λ (x : World). x .lent .memory) stream-is ∙ configured-same at-control .memory
       ∙ framed-memory (phaseBy true w) ∙ ap framedMemory (opened-memory t w p)
 
   stream-budget : streamBy true w .state .audio .budget ≡ w .state .audio .budget
@@ -178,27 +178,27 @@ module _ (t : ℕ) (w : World) (s : Streams t w) where
 
 -- ---- the budget
 
-one-same : (f : World → ℕ) (v : World) → left (one (λ x. Ch.budget (f x))) v .memory ≡ v .memory
+one-same : (f : World → ℕ) (v : World) → left (one (λ x. Ch.budget (f x))) v .lent .memory ≡ v .lent .memory
 unfolding one apply
 one-same f v = refl
 
-adds-memory : (u : World) → left addsBudget u .memory ≡ u .memory
+adds-memory : (u : World) → left addsBudget u .lent .memory ≡ u .lent .memory
 unfolding addsBudget
 adds-memory u = by-name (named u) refl
   where
-    by-name : (b : Bool) → named u ≡ b → left addsBudget u .memory ≡ u .memory
-    by-name true e = ap (λ (x : World). x .memory) (when-true named _ u e) ∙ one-same (λ x. wrapped (x .state .audio .budget + 368)) u
-    by-name false e = ap (λ (x : World). x .memory) (when-false named _ u e)
+    by-name : (b : Bool) → named u ≡ b → left addsBudget u .lent .memory ≡ u .lent .memory
+    by-name true e = ap (λ (x : World). x .lent .memory) (when-true named _ u e) ∙ one-same (λ x. wrapped (x .state .audio .budget + 368)) u
+    by-name false e = ap (λ (x : World). x .lent .memory) (when-false named _ u e)
 
-clears-memory : (u : World) → left clearsBudget u .memory ≡ u .memory
+clears-memory : (u : World) → left clearsBudget u .lent .memory ≡ u .lent .memory
 unfolding clearsBudget
 clears-memory u = by-name (named u) refl
   where
-    by-name : (b : Bool) → named u ≡ b → left clearsBudget u .memory ≡ u .memory
-    by-name true e = ap (λ (x : World). x .memory) (when-true named _ u e) ∙ one-same (λ x. 0) u
-    by-name false e = ap (λ (x : World). x .memory) (when-false named _ u e)
+    by-name : (b : Bool) → named u ≡ b → left clearsBudget u .lent .memory ≡ u .lent .memory
+    by-name true e = ap (λ (x : World). x .lent .memory) (when-true named _ u e) ∙ one-same (λ x. 0) u
+    by-name false e = ap (λ (x : World). x .lent .memory) (when-false named _ u e)
 
-pub paced-memory : (u : World) → paced u .memory ≡ u .memory
+pub paced-memory : (u : World) → paced u .lent .memory ≡ u .lent .memory
 unfolding paced
 paced-memory u = clears-memory (left addsBudget u) ∙ adds-memory u
 
@@ -209,10 +209,10 @@ within-small n u few small =
     ap (λ (b : Bool). not (named u && b)) (le-ltb (wrapped (n + 368)) (nextTotal audioIn u) (omega (arith, few, small))) ∙ ap not (and-false (named u))
 
 -- nor is an endpoint that is not primed
-within-unprimed : (n : ℕ) (u : World) → primed audioIn (u .memory .page) ≡ false → withinBudget n u ≡ true
+within-unprimed : (n : ℕ) (u : World) → primed audioIn (u .lent .memory .page) ≡ false → withinBudget n u ≡ true
 unfolding withinBudget named
 within-unprimed n u e =
-    ap (λ (b : Bool). not ((b && not (terminates (nextDtd audioIn (u .memory)))) && ltb (wrapped (n + 368)) (nextTotal audioIn u))) e
+    ap (λ (b : Bool). not ((b && not (terminates (nextDtd audioIn (u .lent .memory)))) && ltb (wrapped (n + 368)) (nextTotal audioIn u))) e
 
 -- ---- what the memory at the start of frame says
 
@@ -234,18 +234,18 @@ bytesRead m = bytesIn m (pointers m (descriptor (nextDtd audioIn m))) (bytesAske
 unfoldable pub ranMemory : Memory → Bool → Memory
 ranMemory m l = stored (runDtds audioIn [] (bus m l) .stores) (bus m l) .memory
 
-bytes-is : (x : World) → readyIn (x .memory) ≡ true → bytesAt x ≡ bytesRead (x .memory)
+bytes-is : (x : World) → readyIn (x .lent .memory) ≡ true → bytesAt x ≡ bytesRead (x .lent .memory)
 unfolding bytesAt bytesOf
 bytes-is x e =
-    let is : IsActive audioIn (x .memory) (queueHead audioIn (x .memory .page)) (nextDtd audioIn (x .memory)) (tokenOf (nextDtd audioIn (x .memory)) (x .memory)) =
-    record { prime = and-first _ _ e; active = and-second (primed audioIn (x .memory .page)) _ e; head = refl; next = refl; token = refl } in
+    let is : IsActive audioIn (x .lent .memory) (queueHead audioIn (x .lent .memory .page)) (nextDtd audioIn (x .lent .memory)) (tokenOf (nextDtd audioIn (x .lent .memory)) (x .lent .memory)) =
+    record { prime = and-first _ _ e; active = and-second (primed audioIn (x .lent .memory .page)) _ e; head = refl; next = refl; token = refl } in
     active-bytes audioIn [] (busOf x) refl _ _ _ is
 
 -- ---- the memory that the input leaves to the output
 
 module _ (m : Memory) where
   abbrev MemoryIs : World → Type 0
-  MemoryIs w = w .memory ≡ m
+  MemoryIs w = w .lent .memory ≡ m
 
   keeps-frames : (n : ℕ) (bs : List ℕ) → Holds MemoryIs (keepsFrames n bs)
   unfolding keepsFrames apply
@@ -272,24 +272,24 @@ module _ (m : Memory) where
       (holds-then MemoryIs (one (λ w. Ch.count «in_transfers» 1)) (keepsBlocks (blocksOf (r .bytes))) (holds-one MemoryIs (λ w. Ch.count «in_transfers» 1) (λ w h. h)) (keeps-blocks (blocksOf (r .bytes))))
       (holds-nothing MemoryIs)
 
-ran-memory : (x : World) → ranWorld held audioIn [] x .memory ≡ ranMemory (x .memory) (x .state .port .line)
+ran-memory : (x : World) → ranWorld held audioIn [] x .lent .memory ≡ ranMemory (x .lent .memory) (x .state .port .line)
 unfolding ranStores ranMemory apply
 ran-memory x =
     let ss = runDtds audioIn [] (busOf x) .stores in
-    ap (λ (v : World). v .memory) (replay-append apply (map Ch.bus ss) _ x)
-    ∙ ap (λ (v : World). v .memory) (replay-bus ss x)
+    ap (λ (v : World). v .lent .memory) (replay-append apply (map Ch.bus ss) _ x)
+    ∙ ap (λ (v : World). v .lent .memory) (replay-bus ss x)
 
-inputs-memory : (x : World) → left inputs x .memory ≡ ranMemory (x .memory) (x .state .port .line)
+inputs-memory : (x : World) → left inputs x .lent .memory ≡ ranMemory (x .lent .memory) (x .state .port .line)
 unfolding inputs
 inputs-memory x =
-    ap (λ (v : World). v .memory) (left-runs held audioIn [] keepsRun x)
+    ap (λ (v : World). v .lent .memory) (left-runs held audioIn [] keepsRun x)
     ∙ keeps-run _ _ (ranWorld held audioIn [] x) (ran-memory x)
 
 -- the budget is met
-hears-memory : (u : World) → overBudget (left addsBudget u) ≡ false → left streamIn u .memory ≡ ranMemory (u .memory) (paced u .state .port .line)
+hears-memory : (u : World) → overBudget (left addsBudget u) ≡ false → left streamIn u .lent .memory ≡ ranMemory (u .lent .memory) (paced u .state .port .line)
 unfolding streamIn paced
 hears-memory u e =
-    ap (λ (v : World). v .memory) (exec-then apply addsBudget _ u ∙ if-false overBudget nothing _ (left addsBudget u) e ∙ exec-then apply clearsBudget inputs (left addsBudget u))
+    ap (λ (v : World). v .lent .memory) (exec-then apply addsBudget _ u ∙ if-false overBudget nothing _ (left addsBudget u) e ∙ exec-then apply clearsBudget inputs (left addsBudget u))
     ∙ inputs-memory (paced u)
     ∙ ap (λ (m : Memory). ranMemory m (paced u .state .port .line)) (paced-memory u)
 
@@ -304,9 +304,9 @@ module _ (t : ℕ) (w : World) (s : Streams t w) where
   abbrev seen : Memory
   seen = framedMemory (openedMemory w)
 
-  input-memory : atInput w .memory ≡ seen
+  input-memory : atInput w .lent .memory ≡ seen
   input-memory =
-      ap (λ (b : Bool). paced (streamBy b w) .memory) (s .plain .rs) ∙ paced-memory (streamBy true w) ∙ stream-memory t w s
+      ap (λ (b : Bool). paced (streamBy b w) .lent .memory) (s .plain .rs) ∙ paced-memory (streamBy true w) ∙ stream-memory t w s
 
   abbrev within : Bool
   within = withinBudget (w .state .audio .budget) (streamBy (rsSet w) w)
@@ -322,9 +322,9 @@ module _ (t : ℕ) (w : World) (s : Streams t w) where
   unfolding inputReady
   ready-is = ap readyIn input-memory
 
-  output-memory : withinBudget (streamBy true w .state .audio .budget) (streamBy true w) ≡ true → atOutput w .memory ≡ ranMemory seen (paced (streamBy true w) .state .port .line)
+  output-memory : withinBudget (streamBy true w .state .audio .budget) (streamBy true w) ≡ true → atOutput w .lent .memory ≡ ranMemory seen (paced (streamBy true w) .state .port .line)
   output-memory e =
-      ap (λ (b : Bool). left streamIn (streamBy b w) .memory) (s .plain .rs)
+      ap (λ (b : Bool). left streamIn (streamBy b w) .lent .memory) (s .plain .rs)
       ∙ hears-memory (streamBy true w) (over-within (streamBy true w) ∙ ap not e)
       ∙ ap (λ (m : Memory). ranMemory m (paced (streamBy true w) .state .port .line)) (stream-memory t w s)
 

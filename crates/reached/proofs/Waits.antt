@@ -85,15 +85,15 @@ module _ (c : Settings) (a : Areas) (long : Long a) (t : ℕ) (calm : Calm c t) 
   -- before the stream: by what the microframe does to what the host holds, f, whatever its setups
   early : (k : Stand) (f : Bool → Held → Held) (y : Tally) → k .gone ≡ false → k .uf < MOST → streamsAt k ≡ false
       → ((q : List ℕ) → Queue q → Queue (f stack (record { stand = k; queue = q }) .queue))
-      → ((w : World) → Plain t w → standOf w ≡ k → w .memory ≡ m → heldOf (left (M.microframe t) w) ≡ f (w .settings .«device_stack») (heldOf w))
+      → ((w : World) → Plain t w → standOf w ≡ k → w .lent .memory ≡ m → heldOf (left (M.microframe t) w) ≡ f (w .settings .«device_stack») (heldOf w))
       → (k′ : Stand) → ((q : List ℕ) → f stack (record { stand = k; queue = q }) .stand ≡ k′) → Leads c a (call ∷ []) k k′ y y
   early k f y gn u quiet queue law k′ is =
       leads-one c a long (calm .few) t m fit k u k′ y y (λ w e.
       let p = plain-of k w gn u e in
-      let now = law w p (e .stands) (e .memory) ∙ ap₂ (λ (b : Bool) (x : Stand). f b (record { stand = x; queue = w .setups })) (ap (λ (x : Settings). x .«device_stack») (e .settings)) (e .stands) in
+      let now = law w p (e .stands) (e .memory) ∙ ap₂ (λ (b : Bool) (x : Stand). f b (record { stand = x; queue = w .own .setups })) (ap (λ (x : Settings). x .«device_stack») (e .settings)) (e .stands) in
       record {
-        stands = ap (λ (x : Held). x .stand) now ∙ is (w .setups);
-        queue = λ h. subst Queue (sym (ap (λ (x : Held). x .queue) now)) (queue (w .setups) h);
+        stands = ap (λ (x : Held). x .stand) now ∙ is (w .own .setups);
+        queue = λ h. subst Queue (sym (ap (λ (x : Held). x .queue) now)) (queue (w .own .setups) h);
         sums = tested-tally t w false false 0 false (tested-early t w p (ap streamsAt (e .stands) ∙ quiet)) y;
       })
 

@@ -7,13 +7,15 @@ use lib.ListN.{length, getD, take, drop, replicate}
 use Rattle.record.specs.declared.Phase.{Phase}
 use Rattle.record.specs.declared.Phase.the-variants.{Vbus, Enumerate, Stream}
 use Rattle.record.specs.declared.Settings.{Settings}
+use Rattle.record.specs.Record.{counterOf, enumerations, «in_frames», «midi_asleep», «out_frames»}
 use Rattle.model.specs.Audio.{blocksOf, blockOf}
 use Rattle.model.specs.Reach.{atInput, atOutput, bytesAt}
 use Rattle.model.specs.Claims.{sendsAt}
 use Rattle.usbhost.specs.declared.Host.{Host}
 use Rattle.usbhost.specs.Host.{newHost, created}
 use Rattle.usbhost.specs.Calls.{frameTaken, takenFrame}
-use Rattle.usbhost.specs.Frame.{Lent, worldOf, lengthsOk}
+use Rattle.usbhost.specs.Frame.{worldOf, lengthsOk}
+use Rattle.record.specs.World.{Lent}
 use Rattle.history.specs.Calls.{Call, step, after}
 use Rattle.history.specs.Accepts.{numberOf, AtEach}
 use Rattle.history.specs.Sums as S
@@ -45,8 +47,8 @@ pub record Ends (c : Settings) (cs : List Call) (since ever : Sums) (credit : �
   pub sums : S.sums (newHost c) none cs ≡ since
   pub through : tally (newHost c) (record { since = none; ever = none }) cs .ever ≡ ever
   pub credit-left : after (newHost c) cs .audio .credit ≡ credit
-  pub frames-in : after (newHost c) cs .stats .«in_frames» ≡ ever .received
-  pub frames-out : after (newHost c) cs .stats .«out_frames» ≡ ever .sent
+  pub frames-in : counterOf «in_frames» (after (newHost c) cs .stats) ≡ ever .received
+  pub frames-out : counterOf «out_frames» (after (newHost c) cs .stats) ≡ ever .sent
   pub phase : after (newHost c) cs .phase ≡ p
   pub accepted : NoneRefused (newHost c) cs
 
@@ -75,7 +77,7 @@ pub record Passes (a : Areas) (f x : List ℕ) : Type 0 where
 -- whether the bus is suspended then, and in how many microframes no MIDI was read so far (409, 427, 776)
 pub record Rests (c : Settings) (cs : List Call) (mark : Bool) (unread : ℕ) : Type 0 where
   pub suspended : after (newHost c) cs .port .suspended ≡ mark
-  pub asleep : after (newHost c) cs .stats .«midi_asleep» ≡ unread
+  pub asleep : counterOf «midi_asleep» (after (newHost c) cs .stats) ≡ unread
 
 -- no request runs then, and the setups that wait are these bytes
 pub record Waits (c : Settings) (cs : List Call) (ws : List ℕ) : Type 0 where
@@ -85,7 +87,7 @@ pub record Waits (c : Settings) (cs : List Call) (ws : List ℕ) : Type 0 where
 
 -- no request runs and no setup waits then, and enumeration has ended so often (626-629)
 pub record Settled (c : Settings) (cs : List Call) (n : ℕ) : Type 0 where
-  pub ended : after (newHost c) cs .stats .enumerations ≡ n
+  pub ended : counterOf enumerations (after (newHost c) cs .stats) ≡ n
   pub free : after (newHost c) cs .control .on ≡ false
   pub none-waits : after (newHost c) cs .lengths .setups ≡ 0
 

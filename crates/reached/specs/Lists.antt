@@ -10,7 +10,8 @@ use Rattle.record.specs.declared.Settings.{Settings}
 use Rattle.usbhost.specs.declared.Host.{Host}
 use Rattle.usbhost.specs.Host.{newHost}
 use Rattle.usbhost.specs.Calls.{givenRing}
-use Rattle.usbhost.specs.Frame.{Lent, framed}
+use Rattle.usbhost.specs.Frame.{framed}
+use Rattle.record.specs.World.{Lent}
 use Rattle.history.specs.Calls.{Call, microframe, frameGive, frameTake, step, after}
 
 -- ---- what is lent
@@ -283,14 +284,14 @@ module _ (a : Areas) (f x : List ℕ) where
     -- room for one
     abbrev pub answering : Lent
     answering =
-        lend (withRings a (framed 0 (step h gives) hearing .received) (givenRing h x (a .sending))) (words f roomAt420 (primedPage 8))
+        lend (withRings a (framed 0 (step h gives) hearing .lent .received) (givenRing h x (a .sending))) (words f roomAt420 (primedPage 8))
 
     abbrev pub answered : Host
     answered = step heard (microframe 0 answering)
 
     -- the received ring then
     abbrev pub ringLeft : List ℕ
-    ringLeft = framed 0 heard answering .received
+    ringLeft = framed 0 heard answering .lent .received
 
     unfoldable pub passing : List Call
     passing = gives ∷ microframe 0 hearing ∷ microframe 0 answering ∷ frameTake ringLeft ∷ []

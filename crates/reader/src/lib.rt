@@ -174,12 +174,7 @@ fn take_line(
     );
     lines::clear_all(
         next.run.number != run.number,
-        lines::used_by(
-            run.length,
-            run.all,
-            run.state.stats,
-            run.state.audio.sending.len,
-        ),
+        lines::used_by(run.length, run.all, run.state),
         setups,
         midi,
         serial,

@@ -81,7 +81,7 @@ on-page f w s p p′ l′ h e =
     record {
       is =
           ap (λ (r : Registers). atPage w (lined s (r .line)) (r .page)) e
-          ∙ ap (λ (b : Bus). withBus (atPage w s p) b) (sym (on-bus (f (registers p (s .port .line))) (w .memory .dynamic) (w .memory .sram) p (s .port .line) h))
+          ∙ ap (λ (b : Bus). withBus (atPage w s p) b) (sym (on-bus (f (registers p (s .port .line))) (w .lent .memory .dynamic) (w .lent .memory .sram) p (s .port .line) h))
           ∙ sym (replay-bus (map page-onBus (f (registers p (s .port .line)))) (atPage w s p));
     }
 

@@ -55,7 +55,7 @@ drained q len n = take (len - n) (drop n q) ++ drop (len - n) q
 
 -- the setups that wait, as one list of bytes
 abbrev pub waiting : World → List ℕ
-waiting w = take (8 * w .state .lengths .setups) (w .setups)
+waiting w = take (8 * w .state .lengths .setups) (w .own .setups)
 
 -- frames that the received ring holds at most (document 01, "Streams"), and a frame's words
 abbrev pub FRAMES : ℕ
@@ -94,26 +94,26 @@ apply (block n c) w = inAudio w (withBlock (w .state .audio) n c)
 apply (timers ts) w = withState w (withTimers (w .state) ts)
 apply (control c) w = inControl w c
 apply (queued bs) w =
-    withSetupQueue (inLengths w (withSetups (w .state .lengths) (w .state .lengths .setups + length bs / 8))) (sets (w .setups) (8 * w .state .lengths .setups) bs)
+    withSetupQueue (inLengths w (withSetups (w .state .lengths) (w .state .lengths .setups + length bs / 8))) (sets (w .own .setups) (8 * w .state .lengths .setups) bs)
 apply popped w =
-    withSetupQueue (inLengths w (withSetups (w .state .lengths) (w .state .lengths .setups - 1))) (drained (w .setups) (8 * w .state .lengths .setups) 8)
+    withSetupQueue (inLengths w (withSetups (w .state .lengths) (w .state .lengths .setups - 1))) (drained (w .own .setups) (8 * w .state .lengths .setups) 8)
 apply (pushed bs) w =
-    withSetupQueue (inLengths w (withSetups (w .state .lengths) (w .state .lengths .setups + 1))) (sets (w .setups) 0 (bs ++ waiting w))
+    withSetupQueue (inLengths w (withSetups (w .state .lengths) (w .state .lengths .setups + 1))) (sets (w .own .setups) 0 (bs ++ waiting w))
 apply cleared w = inLengths w (withSetups (w .state .lengths) 0)
-apply (reply at bs) w = withReplyArea w (sets (w .reply) at bs)
-apply (device bs) w = withDeviceArea (inLengths w (withDevice (w .state .lengths) (length bs))) (sets (w .device) 0 bs)
-apply (config bs) w = withConfigArea (inLengths w (withConfig (w .state .lengths) (length bs))) (sets (w .config) 0 bs)
+apply (reply at bs) w = withReplyArea w (sets (w .lent .reply) at bs)
+apply (device bs) w = withDeviceArea (inLengths w (withDevice (w .state .lengths) (length bs))) (sets (w .own .device) 0 bs)
+apply (config bs) w = withConfigArea (inLengths w (withConfig (w .state .lengths) (length bs))) (sets (w .lent .config) 0 bs)
 apply forgot w = inLengths w (withConfig (withDevice (w .state .lengths) 0) 0)
 apply (midi n) w =
-    withMidiQueue (inLengths w (withMidi (w .state .lengths) (w .state .lengths .midi - n))) (drained (w .midi) (w .state .lengths .midi) n)
+    withMidiQueue (inLengths w (withMidi (w .state .lengths) (w .state .lengths .midi - n))) (drained (w .own .midi) (w .state .lengths .midi) n)
 apply (serial n) w =
-    withSerialQueue (inLengths w (withSerial (w .state .lengths) (w .state .lengths .serial - n))) (drained (w .serial) (w .state .lengths .serial) n)
+    withSerialQueue (inLengths w (withSerial (w .state .lengths) (w .state .lengths .serial - n))) (drained (w .own .serial) (w .state .lengths .serial) n)
 apply (received bs) w =
-    withReceiveArea (inAnswer w (withCount (w .state .answer) (w .state .answer .received + length bs))) (sets (w .receive) (w .state .answer .received) bs)
+    withReceiveArea (inAnswer w (withCount (w .state .answer) (w .state .answer .received + length bs))) (sets (w .lent .receive) (w .state .answer .received) bs)
 apply (frame f) w =
-    withReceivedRing (inAudio w (withReceived (w .state .audio) (ringedPlace (w .state .audio .received)))) (ringed (w .received) (w .state .audio .received) f)
+    withReceivedRing (inAudio w (withReceived (w .state .audio) (ringedPlace (w .state .audio .received)))) (ringed (w .lent .received) (w .state .audio .received) f)
 apply (taken n) w =
-    inAudio w (withSending (w .state .audio) (takenFrom (length (w .sending) / WORDS) n (w .state .audio .sending)))
+    inAudio w (withSending (w .state .audio) (takenFrom (length (w .lent .sending) / WORDS) n (w .state .audio .sending)))
 
 -- ---- steps
 

@@ -1,6 +1,7 @@
 -- The parts of the host record with a field changed, and its counters (usbhost.rs 199-310).
-use Prim.Native.Nat.{ℕ, _+_, _%_, _^_}
+use Prim.Native.Nat.{ℕ, zero, suc, _+_, _%_, _^_}
 use mathlib.Core.Bool.{Bool}
+use mathlib.Core.List.{List, [], _∷_}
 use Rattle.gptimers.specs.declared.Timers.{Timers}
 use Rattle.record.specs.declared.Phase.{Phase}
 use Rattle.record.specs.declared.Stage.{Stage}
@@ -8,7 +9,6 @@ use Rattle.record.specs.declared.Port.{Port}
 use Rattle.record.specs.declared.Ring.{Ring}
 use Rattle.record.specs.declared.Audio.{Audio}
 use Rattle.record.specs.declared.Control.{Control}
-use Rattle.record.specs.declared.Stats.{Stats}
 use Rattle.record.specs.declared.Lengths.{Lengths}
 use Rattle.record.specs.declared.Answer.{Answer}
 use Rattle.record.specs.declared.State.{State}
@@ -92,6 +92,10 @@ withDropped r x = record { received = r .received; dropped = x; retired = r .ret
 abbrev pub withRetired : Answer → ℕ → Answer
 withRetired r x = record { received = r .received; dropped = r .dropped; retired = x }
 
+-- the counters, as a list: each has its place there (below)
+abbrev pub Stats : Type 0
+Stats = List ℕ
+
 -- ---- all of the state
 
 abbrev pub withPhase : State → Phase → State
@@ -135,22 +139,53 @@ pub data Counter : Type 0 where
   restarts : Counter
   enumerations : Counter
 
+-- its place in the list of them
+abbrev pub place : Counter → ℕ
+place microframes = 0
+place «in_transfers» = 1
+place «out_transfers» = 2
+place «in_frames» = 3
+place «out_frames» = 4
+place «bad_blocks» = 5
+place «midi_dtds» = 6
+place «midi_asleep» = 7
+place «out_underruns» = 8
+place «midi_packets_out» = 9
+place «vendor_in_bytes» = 10
+place restarts = 11
+place enumerations = 12
+
+-- a list's first element, 0 where it has none, and the others
+unfoldable pub first : List ℕ → ℕ
+first [] = 0
+first (x ∷ xs) = x
+
+unfoldable pub behind : List ℕ → List ℕ
+behind [] = []
+behind (x ∷ xs) = xs
+
+-- the counter at a place, and the counters with another value there
+unfoldable pub counterAt : ℕ → Stats → ℕ
+unfolding first behind
+counterAt zero r = first r
+counterAt (suc k) r = counterAt k (behind r)
+
+unfoldable pub withCounterAt : ℕ → ℕ → Stats → Stats
+unfolding first behind
+withCounterAt zero x r = x ∷ behind r
+withCounterAt (suc k) x r = first r ∷ withCounterAt k x (behind r)
+
+abbrev pub counterOf : Counter → Stats → ℕ
+counterOf c r = counterAt (place c) r
+
 -- 64 bits, which wrap as in the source, built with overflow checks off
 abbrev pub wrapped : ℕ → ℕ
 wrapped n = n % 2 ^ 64
 
--- a counter goes up by n
-unfoldable pub counted : Counter → ℕ → Stats → Stats
-counted microframes n r = record { microframes = wrapped (r .microframes + n); «in_transfers» = r .«in_transfers»; «out_transfers» = r .«out_transfers»; «in_frames» = r .«in_frames»; «out_frames» = r .«out_frames»; «bad_blocks» = r .«bad_blocks»; «midi_dtds» = r .«midi_dtds»; «midi_asleep» = r .«midi_asleep»; «out_underruns» = r .«out_underruns»; «midi_packets_out» = r .«midi_packets_out»; «vendor_in_bytes» = r .«vendor_in_bytes»; restarts = r .restarts; enumerations = r .enumerations }
-counted «in_transfers» n r = record { microframes = r .microframes; «in_transfers» = wrapped (r .«in_transfers» + n); «out_transfers» = r .«out_transfers»; «in_frames» = r .«in_frames»; «out_frames» = r .«out_frames»; «bad_blocks» = r .«bad_blocks»; «midi_dtds» = r .«midi_dtds»; «midi_asleep» = r .«midi_asleep»; «out_underruns» = r .«out_underruns»; «midi_packets_out» = r .«midi_packets_out»; «vendor_in_bytes» = r .«vendor_in_bytes»; restarts = r .restarts; enumerations = r .enumerations }
-counted «out_transfers» n r = record { microframes = r .microframes; «in_transfers» = r .«in_transfers»; «out_transfers» = wrapped (r .«out_transfers» + n); «in_frames» = r .«in_frames»; «out_frames» = r .«out_frames»; «bad_blocks» = r .«bad_blocks»; «midi_dtds» = r .«midi_dtds»; «midi_asleep» = r .«midi_asleep»; «out_underruns» = r .«out_underruns»; «midi_packets_out» = r .«midi_packets_out»; «vendor_in_bytes» = r .«vendor_in_bytes»; restarts = r .restarts; enumerations = r .enumerations }
-counted «in_frames» n r = record { microframes = r .microframes; «in_transfers» = r .«in_transfers»; «out_transfers» = r .«out_transfers»; «in_frames» = wrapped (r .«in_frames» + n); «out_frames» = r .«out_frames»; «bad_blocks» = r .«bad_blocks»; «midi_dtds» = r .«midi_dtds»; «midi_asleep» = r .«midi_asleep»; «out_underruns» = r .«out_underruns»; «midi_packets_out» = r .«midi_packets_out»; «vendor_in_bytes» = r .«vendor_in_bytes»; restarts = r .restarts; enumerations = r .enumerations }
-counted «out_frames» n r = record { microframes = r .microframes; «in_transfers» = r .«in_transfers»; «out_transfers» = r .«out_transfers»; «in_frames» = r .«in_frames»; «out_frames» = wrapped (r .«out_frames» + n); «bad_blocks» = r .«bad_blocks»; «midi_dtds» = r .«midi_dtds»; «midi_asleep» = r .«midi_asleep»; «out_underruns» = r .«out_underruns»; «midi_packets_out» = r .«midi_packets_out»; «vendor_in_bytes» = r .«vendor_in_bytes»; restarts = r .restarts; enumerations = r .enumerations }
-counted «bad_blocks» n r = record { microframes = r .microframes; «in_transfers» = r .«in_transfers»; «out_transfers» = r .«out_transfers»; «in_frames» = r .«in_frames»; «out_frames» = r .«out_frames»; «bad_blocks» = wrapped (r .«bad_blocks» + n); «midi_dtds» = r .«midi_dtds»; «midi_asleep» = r .«midi_asleep»; «out_underruns» = r .«out_underruns»; «midi_packets_out» = r .«midi_packets_out»; «vendor_in_bytes» = r .«vendor_in_bytes»; restarts = r .restarts; enumerations = r .enumerations }
-counted «midi_dtds» n r = record { microframes = r .microframes; «in_transfers» = r .«in_transfers»; «out_transfers» = r .«out_transfers»; «in_frames» = r .«in_frames»; «out_frames» = r .«out_frames»; «bad_blocks» = r .«bad_blocks»; «midi_dtds» = wrapped (r .«midi_dtds» + n); «midi_asleep» = r .«midi_asleep»; «out_underruns» = r .«out_underruns»; «midi_packets_out» = r .«midi_packets_out»; «vendor_in_bytes» = r .«vendor_in_bytes»; restarts = r .restarts; enumerations = r .enumerations }
-counted «midi_asleep» n r = record { microframes = r .microframes; «in_transfers» = r .«in_transfers»; «out_transfers» = r .«out_transfers»; «in_frames» = r .«in_frames»; «out_frames» = r .«out_frames»; «bad_blocks» = r .«bad_blocks»; «midi_dtds» = r .«midi_dtds»; «midi_asleep» = wrapped (r .«midi_asleep» + n); «out_underruns» = r .«out_underruns»; «midi_packets_out» = r .«midi_packets_out»; «vendor_in_bytes» = r .«vendor_in_bytes»; restarts = r .restarts; enumerations = r .enumerations }
-counted «out_underruns» n r = record { microframes = r .microframes; «in_transfers» = r .«in_transfers»; «out_transfers» = r .«out_transfers»; «in_frames» = r .«in_frames»; «out_frames» = r .«out_frames»; «bad_blocks» = r .«bad_blocks»; «midi_dtds» = r .«midi_dtds»; «midi_asleep» = r .«midi_asleep»; «out_underruns» = wrapped (r .«out_underruns» + n); «midi_packets_out» = r .«midi_packets_out»; «vendor_in_bytes» = r .«vendor_in_bytes»; restarts = r .restarts; enumerations = r .enumerations }
-counted «midi_packets_out» n r = record { microframes = r .microframes; «in_transfers» = r .«in_transfers»; «out_transfers» = r .«out_transfers»; «in_frames» = r .«in_frames»; «out_frames» = r .«out_frames»; «bad_blocks» = r .«bad_blocks»; «midi_dtds» = r .«midi_dtds»; «midi_asleep» = r .«midi_asleep»; «out_underruns» = r .«out_underruns»; «midi_packets_out» = wrapped (r .«midi_packets_out» + n); «vendor_in_bytes» = r .«vendor_in_bytes»; restarts = r .restarts; enumerations = r .enumerations }
-counted «vendor_in_bytes» n r = record { microframes = r .microframes; «in_transfers» = r .«in_transfers»; «out_transfers» = r .«out_transfers»; «in_frames» = r .«in_frames»; «out_frames» = r .«out_frames»; «bad_blocks» = r .«bad_blocks»; «midi_dtds» = r .«midi_dtds»; «midi_asleep» = r .«midi_asleep»; «out_underruns» = r .«out_underruns»; «midi_packets_out» = r .«midi_packets_out»; «vendor_in_bytes» = wrapped (r .«vendor_in_bytes» + n); restarts = r .restarts; enumerations = r .enumerations }
-counted restarts n r = record { microframes = r .microframes; «in_transfers» = r .«in_transfers»; «out_transfers» = r .«out_transfers»; «in_frames» = r .«in_frames»; «out_frames» = r .«out_frames»; «bad_blocks» = r .«bad_blocks»; «midi_dtds» = r .«midi_dtds»; «midi_asleep» = r .«midi_asleep»; «out_underruns» = r .«out_underruns»; «midi_packets_out» = r .«midi_packets_out»; «vendor_in_bytes» = r .«vendor_in_bytes»; restarts = wrapped (r .restarts + n); enumerations = r .enumerations }
-counted enumerations n r = record { microframes = r .microframes; «in_transfers» = r .«in_transfers»; «out_transfers» = r .«out_transfers»; «in_frames» = r .«in_frames»; «out_frames» = r .«out_frames»; «bad_blocks» = r .«bad_blocks»; «midi_dtds» = r .«midi_dtds»; «midi_asleep» = r .«midi_asleep»; «out_underruns» = r .«out_underruns»; «midi_packets_out» = r .«midi_packets_out»; «vendor_in_bytes» = r .«vendor_in_bytes»; restarts = r .restarts; enumerations = wrapped (r .enumerations + n) }
+-- the counter at a place goes up by n, and so does a counter
+unfoldable pub raised : ℕ → ℕ → Stats → Stats
+unfolding withCounterAt counterAt
+raised k n r = withCounterAt k (wrapped (counterAt k r + n)) r
+
+abbrev pub counted : Counter → ℕ → Stats → Stats
+counted c n r = raised (place c) n r

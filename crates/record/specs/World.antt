@@ -9,57 +9,120 @@ use Rattle.record.specs.declared.Settings.{Settings}
 use Rattle.record.specs.declared.Port.{Port}
 use Rattle.record.specs.declared.Audio.{Audio}
 use Rattle.record.specs.declared.Control.{Control}
-use Rattle.record.specs.declared.Stats.{Stats}
 use Rattle.record.specs.declared.Lengths.{Lengths}
 use Rattle.record.specs.declared.Answer.{Answer}
 use Rattle.record.specs.declared.State.{State}
-use Rattle.record.specs.Record.{withLine, withPort, withAudio, withControl, withStats, withLengths, withAnswer}
+use Rattle.record.specs.Record.{Stats, withLine, withPort, withAudio, withControl, withStats, withLengths, withAnswer}
 
--- settings and packer do not change in a microframe; setups, MIDI and serial queue and device descriptor are arrays of the record;
--- reply, configuration and receive area and the rings of received and of sending frames are lent
-pub record World : Type 0 where
-  pub settings : Settings
-  pub packer : Packer
-  pub state : State
-  pub memory : Memory
+-- arrays of the record: setups, MIDI and serial queue, and device descriptor
+pub record Own : Type 0 where
   pub setups : List ℕ
   pub midi : List ℕ
   pub serial : List ℕ
   pub device : List ℕ
+
+abbrev pub own : List ℕ → List ℕ → List ℕ → List ℕ → Own
+own setups midi serial device = record { setups = setups; midi = midi; serial = serial; device = device }
+
+-- what is lent: memory, reply, configuration and receive area, and the rings of received and of sending frames
+pub record Lent : Type 0 where
+  pub memory : Memory
   pub reply : List ℕ
   pub config : List ℕ
   pub receive : List ℕ
   pub received : List ℕ
   pub sending : List ℕ
 
--- ---- a part changed
+abbrev pub lent : Memory → List ℕ → List ℕ → List ℕ → List ℕ → List ℕ → Lent
+lent m reply config receive received sending =
+    record { memory = m; reply = reply; config = config; receive = receive; received = received; sending = sending }
+
+-- settings and packer do not change in a microframe
+pub record World : Type 0 where
+  pub settings : Settings
+  pub packer : Packer
+  pub state : State
+  pub own : Own
+  pub lent : Lent
+
+abbrev pub world : Settings → Packer → State → Own → Lent → World
+world c p s o l = record { settings = c; packer = p; state = s; own = o; lent = l }
+
+-- ---- an array of the record changed
+
+abbrev pub ownSetups : Own → List ℕ → Own
+ownSetups o x = own x (o .midi) (o .serial) (o .device)
+
+abbrev pub ownMidi : Own → List ℕ → Own
+ownMidi o x = own (o .setups) x (o .serial) (o .device)
+
+abbrev pub ownSerial : Own → List ℕ → Own
+ownSerial o x = own (o .setups) (o .midi) x (o .device)
+
+abbrev pub ownDevice : Own → List ℕ → Own
+ownDevice o x = own (o .setups) (o .midi) (o .serial) x
+
+-- ---- something that is lent changed
+
+abbrev pub lentMemory : Lent → Memory → Lent
+lentMemory l x = lent x (l .reply) (l .config) (l .receive) (l .received) (l .sending)
+
+abbrev pub lentReply : Lent → List ℕ → Lent
+lentReply l x = lent (l .memory) x (l .config) (l .receive) (l .received) (l .sending)
+
+abbrev pub lentConfig : Lent → List ℕ → Lent
+lentConfig l x = lent (l .memory) (l .reply) x (l .receive) (l .received) (l .sending)
+
+abbrev pub lentReceive : Lent → List ℕ → Lent
+lentReceive l x = lent (l .memory) (l .reply) (l .config) x (l .received) (l .sending)
+
+abbrev pub lentReceived : Lent → List ℕ → Lent
+lentReceived l x = lent (l .memory) (l .reply) (l .config) (l .receive) x (l .sending)
+
+abbrev pub lentSending : Lent → List ℕ → Lent
+lentSending l x = lent (l .memory) (l .reply) (l .config) (l .receive) (l .received) x
+
+-- the register page alone
+abbrev pub lentPage : Lent → List ℕ → Lent
+lentPage l x = lentMemory l (memory (l .memory .dynamic) (l .memory .sram) x)
+
+-- ---- a part of the World changed
 
 abbrev pub withState : World → State → World
-withState r x = record { settings = r .settings; packer = r .packer; state = x; memory = r .memory; setups = r .setups; midi = r .midi; serial = r .serial; device = r .device; reply = r .reply; config = r .config; receive = r .receive; received = r .received; sending = r .sending }
+withState w x = world (w .settings) (w .packer) x (w .own) (w .lent)
+
+abbrev pub withOwn : World → Own → World
+withOwn w x = world (w .settings) (w .packer) (w .state) x (w .lent)
+
+abbrev pub withLent : World → Lent → World
+withLent w x = world (w .settings) (w .packer) (w .state) (w .own) x
 
 abbrev pub withSetupQueue : World → List ℕ → World
-withSetupQueue r x = record { settings = r .settings; packer = r .packer; state = r .state; memory = r .memory; setups = x; midi = r .midi; serial = r .serial; device = r .device; reply = r .reply; config = r .config; receive = r .receive; received = r .received; sending = r .sending }
+withSetupQueue w x = withOwn w (ownSetups (w .own) x)
 
 abbrev pub withMidiQueue : World → List ℕ → World
-withMidiQueue r x = record { settings = r .settings; packer = r .packer; state = r .state; memory = r .memory; setups = r .setups; midi = x; serial = r .serial; device = r .device; reply = r .reply; config = r .config; receive = r .receive; received = r .received; sending = r .sending }
+withMidiQueue w x = withOwn w (ownMidi (w .own) x)
 
 abbrev pub withSerialQueue : World → List ℕ → World
-withSerialQueue r x = record { settings = r .settings; packer = r .packer; state = r .state; memory = r .memory; setups = r .setups; midi = r .midi; serial = x; device = r .device; reply = r .reply; config = r .config; receive = r .receive; received = r .received; sending = r .sending }
+withSerialQueue w x = withOwn w (ownSerial (w .own) x)
 
 abbrev pub withDeviceArea : World → List ℕ → World
-withDeviceArea r x = record { settings = r .settings; packer = r .packer; state = r .state; memory = r .memory; setups = r .setups; midi = r .midi; serial = r .serial; device = x; reply = r .reply; config = r .config; receive = r .receive; received = r .received; sending = r .sending }
+withDeviceArea w x = withOwn w (ownDevice (w .own) x)
 
 abbrev pub withReplyArea : World → List ℕ → World
-withReplyArea r x = record { settings = r .settings; packer = r .packer; state = r .state; memory = r .memory; setups = r .setups; midi = r .midi; serial = r .serial; device = r .device; reply = x; config = r .config; receive = r .receive; received = r .received; sending = r .sending }
+withReplyArea w x = withLent w (lentReply (w .lent) x)
 
 abbrev pub withConfigArea : World → List ℕ → World
-withConfigArea r x = record { settings = r .settings; packer = r .packer; state = r .state; memory = r .memory; setups = r .setups; midi = r .midi; serial = r .serial; device = r .device; reply = r .reply; config = x; receive = r .receive; received = r .received; sending = r .sending }
+withConfigArea w x = withLent w (lentConfig (w .lent) x)
 
 abbrev pub withReceiveArea : World → List ℕ → World
-withReceiveArea r x = record { settings = r .settings; packer = r .packer; state = r .state; memory = r .memory; setups = r .setups; midi = r .midi; serial = r .serial; device = r .device; reply = r .reply; config = r .config; receive = x; received = r .received; sending = r .sending }
+withReceiveArea w x = withLent w (lentReceive (w .lent) x)
 
 abbrev pub withReceivedRing : World → List ℕ → World
-withReceivedRing r x = record { settings = r .settings; packer = r .packer; state = r .state; memory = r .memory; setups = r .setups; midi = r .midi; serial = r .serial; device = r .device; reply = r .reply; config = r .config; receive = r .receive; received = x; sending = r .sending }
+withReceivedRing w x = withLent w (lentReceived (w .lent) x)
+
+abbrev pub withSendingRing : World → List ℕ → World
+withSendingRing w x = withLent w (lentSending (w .lent) x)
 
 -- a part of the state changed
 abbrev pub inPort : World → Port → World
@@ -83,18 +146,18 @@ inAnswer w x = withState w (withAnswer (w .state) x)
 -- ---- the bus in the World: the line's flag stands in the port
 
 abbrev pub busOf : World → Bus
-busOf w = bus (w .memory) (w .state .port .line)
+busOf w = bus (w .lent .memory) (w .state .port .line)
 
 abbrev pub lined : State → Bool → State
 lined s l = withPort s (withLine (s .port) l)
 
 abbrev pub withBus : World → Bus → World
-withBus r b = record { settings = r .settings; packer = r .packer; state = lined (r .state) (b .line); memory = b .memory; setups = r .setups; midi = r .midi; serial = r .serial; device = r .device; reply = r .reply; config = r .config; receive = r .receive; received = r .received; sending = r .sending }
+withBus w b = withLent (withState w (lined (w .state) (b .line))) (lentMemory (w .lent) (b .memory))
 
--- ---- a World with what a function takes in its place: state and page; state and memory
-
-abbrev pub atPage : World → State → List ℕ → World
-atPage r s p = record { settings = r .settings; packer = r .packer; state = s; memory = memory (r .memory .dynamic) (r .memory .sram) p; setups = r .setups; midi = r .midi; serial = r .serial; device = r .device; reply = r .reply; config = r .config; receive = r .receive; received = r .received; sending = r .sending }
+-- ---- a World with what a function takes in its place: state and memory; state and page
 
 abbrev pub atBus : World → State → Memory → World
-atBus r s m = record { settings = r .settings; packer = r .packer; state = s; memory = m; setups = r .setups; midi = r .midi; serial = r .serial; device = r .device; reply = r .reply; config = r .config; receive = r .receive; received = r .received; sending = r .sending }
+atBus w s m = withLent (withState w s) (lentMemory (w .lent) m)
+
+abbrev pub atPage : World → State → List ℕ → World
+atPage w s p = withLent (withState w s) (lentPage (w .lent) p)

@@ -96,22 +96,35 @@ pub struct Control {
     pub t0: u64,
 }
 
-// The counters (usbhost.rs `UsbStats`).
-pub struct Stats {
-    pub microframes: u64,
-    pub in_transfers: u64,
-    pub out_transfers: u64,
-    pub in_frames: u64,
-    pub out_frames: u64,
-    pub bad_blocks: u64,
-    pub midi_dtds: u64,
-    pub midi_asleep: u64,
-    pub out_underruns: u64,
-    pub midi_packets_out: u64,
-    pub vendor_in_bytes: u64,
-    pub restarts: u64,
-    pub enumerations: u64,
-}
+// The counters (usbhost.rs `UsbStats`), each by its place in the array of them.
+pub const MICROFRAMES: usize = 0;
+
+pub const IN_TRANSFERS: usize = 1;
+
+pub const OUT_TRANSFERS: usize = 2;
+
+pub const IN_FRAMES: usize = 3;
+
+pub const OUT_FRAMES: usize = 4;
+
+pub const BAD_BLOCKS: usize = 5;
+
+pub const MIDI_DTDS: usize = 6;
+
+pub const MIDI_ASLEEP: usize = 7;
+
+pub const OUT_UNDERRUNS: usize = 8;
+
+pub const MIDI_PACKETS_OUT: usize = 9;
+
+pub const VENDOR_IN_BYTES: usize = 10;
+
+pub const RESTARTS: usize = 11;
+
+pub const ENUMERATIONS: usize = 12;
+
+// How many there are.
+pub const COUNTERS: usize = 13;
 
 // How much is in use: setups waiting, bytes of the MIDI and the serial queue, of the device descriptor and of the configuration.
 pub struct Lengths {
@@ -136,7 +149,7 @@ pub struct State {
     pub audio: Audio,
     pub control: Control,
     pub timers: Timers,
-    pub stats: Stats,
+    pub stats: [u64; COUNTERS],
     pub lengths: Lengths,
     pub answer: Answer,
 }
@@ -185,6 +198,33 @@ pub fn with_stage(c: Control, g: Stage) -> Control
         got: c.got,
         t0: c.t0,
     }
+}
+
+// A counter, by its place.
+pub fn counter(s: State, c: usize) -> u64
+    requires { ⌜ c < 13 ⌝ }
+    ensures { λ r. ⌜ r ≡ R.counterAt c (s .stats) ⌝ }
+{
+    s.stats[c]
+}
+
+// The state with another value of a counter.
+pub fn with_counter(s: State, c: usize, x: u64) -> State
+    requires { ⌜ c < 13 ⌝ }
+    ensures { λ r. ⌜ r ≡ R.withStats s (R.withCounterAt c x (s .stats)) ⌝ }
+{
+    let mut next = s;
+    next.stats[c] = x;
+    next
+}
+
+// The state with a counter gone up by n, modulo 2^64.
+pub fn count(s: State, c: usize, n: u64) -> State
+    requires { ⌜ c < 13 ⌝ }
+    ensures { λ r. ⌜ r ≡ R.withStats s (R.raised c n (s .stats)) ⌝ }
+{
+    let sum = wrapping_add_u64(counter(s, c), n);
+    with_counter(s, c, sum)
 }
 
 // The state after a run over descriptors: the line's flag, the bytes that no window took, and how many descriptors it retired.

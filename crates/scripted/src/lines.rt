@@ -12,7 +12,6 @@ use crate::turns;
 use crate::turns::Asked;
 use crate::turns::Turned;
 use record::State;
-use record::Stats;
 use script::parse;
 use script::text;
 use script::windows;
@@ -27,18 +26,21 @@ pub struct Used {
     pub sending: usize,
 }
 
-// The same of a run with so much memory, after all that came and was counted, and with so many frames left to send. A ring is written from its
+// The same of a run with so much memory, after all that came, in its last state. A ring is written from its
 // start on, a frame behind the other, and the frames given are those sent but for the missing ones, and those left.
-pub fn used_by(length: usize, all: Came, stats: Stats, left: usize) -> Used
+pub fn used_by(length: usize, all: Came, state: State) -> Used
     ensures { λ r. ⌜ ((r .dynamic ≤ 1048576) × (r .receive ≤ 196608)) × ((r .received ≤ 576000) × (r .sending ≤ 576000)) ⌝ }
 {
     let came = wrapping_add_u64(all.midi, all.serial);
-    let sent = wrapping_sub_u64(stats.out_frames, stats.out_underruns);
-    let given = wrapping_add_u64(sent, left as u64);
+    let sent = wrapping_sub_u64(
+        state.stats[record::OUT_FRAMES],
+        state.stats[record::OUT_UNDERRUNS],
+    );
+    let given = wrapping_add_u64(sent, state.audio.sending.len as u64);
     Used {
         dynamic: log::at_most(length, 1048576),
         receive: log::at_most(came as usize, 196608),
-        received: calls::ring_words(stats.in_frames as usize, 576000),
+        received: calls::ring_words(state.stats[record::IN_FRAMES] as usize, 576000),
         sending: calls::ring_words(given as usize, 576000),
     }
 }

@@ -10,7 +10,6 @@ use record::Phase;
 use record::Ring;
 use record::Stage;
 use record::State;
-use record::Stats;
 use script::hash;
 use script::text;
 
@@ -255,24 +254,18 @@ fn show_block(audio: Audio, packer: Packer, out: &mut [u8; 65536], at: usize) ->
     text::flag(out, end, packer.sysex)
 }
 
-// Fields 31 to 43.
-fn show_stats(stats: Stats, out: &mut [u8; 65536], at: usize) -> usize
+// Fields 31 to 43: the counters in their order.
+fn show_stats(state: State, out: &mut [u8; 65536], at: usize) -> usize
     requires { ⌜ at + 221 ≤ 65536 ⌝ }
     ensures { λ r. ⌜ r ≤ at + 221 ⌝ }
 {
-    let mut end = text::field(out, at, stats.microframes);
-    end = text::field(out, end, stats.in_transfers);
-    end = text::field(out, end, stats.out_transfers);
-    end = text::field(out, end, stats.in_frames);
-    end = text::field(out, end, stats.out_frames);
-    end = text::field(out, end, stats.bad_blocks);
-    end = text::field(out, end, stats.midi_dtds);
-    end = text::field(out, end, stats.midi_asleep);
-    end = text::field(out, end, stats.out_underruns);
-    end = text::field(out, end, stats.midi_packets_out);
-    end = text::field(out, end, stats.vendor_in_bytes);
-    end = text::field(out, end, stats.restarts);
-    text::field(out, end, stats.enumerations)
+    let mut end = at;
+    let mut k = 0;
+    while k < record::COUNTERS {
+        end = text::field(out, end, state.stats[k]);
+        k += 1;
+    }
+    end
 }
 
 // Fields 44 to 48.
@@ -307,7 +300,7 @@ pub fn show_record(
     end = show_block(state.audio, packer, out, end);
     end = text::field(out, end, lengths.device as u64);
     end = text::field(out, end, lengths.config as u64);
-    end = show_stats(state.stats, out, end);
+    end = show_stats(state, out, end);
     show_came(port.line, came, out, end)
 }
 

@@ -1,13 +1,12 @@
 // The table of runs: a row of counters for each, tab-separated, and their sums.
 use crate::calls::Run;
-use record::Stats;
 use script::text;
 use std::num::wrapping_add_u64;
 ghost use Prim.Native.Nat.{_+_, _≤_};
 
 // What a run counted: the host's counters, its credit, calls that were refused and bytes that were dropped.
 pub struct Row {
-    pub stats: Stats,
+    pub stats: [u64; record::COUNTERS],
     pub credit: u64,
     pub refused: u64,
     pub dropped: u64,
@@ -25,33 +24,19 @@ pub fn row_of(run: Run) -> Row {
     }
 }
 
-// The sums of two rows' counters, modulo 2^64.
-fn added_stats(a: Stats, b: Stats) -> Stats {
-    Stats {
-        microframes: wrapping_add_u64(a.microframes, b.microframes),
-        in_transfers: wrapping_add_u64(a.in_transfers, b.in_transfers),
-        out_transfers: wrapping_add_u64(a.out_transfers, b.out_transfers),
-        in_frames: wrapping_add_u64(a.in_frames, b.in_frames),
-        out_frames: wrapping_add_u64(a.out_frames, b.out_frames),
-        bad_blocks: wrapping_add_u64(a.bad_blocks, b.bad_blocks),
-        midi_dtds: wrapping_add_u64(a.midi_dtds, b.midi_dtds),
-        midi_asleep: wrapping_add_u64(a.midi_asleep, b.midi_asleep),
-        out_underruns: wrapping_add_u64(a.out_underruns, b.out_underruns),
-        midi_packets_out: wrapping_add_u64(a.midi_packets_out, b.midi_packets_out),
-        vendor_in_bytes: wrapping_add_u64(a.vendor_in_bytes, b.vendor_in_bytes),
-        restarts: wrapping_add_u64(a.restarts, b.restarts),
-        enumerations: wrapping_add_u64(a.enumerations, b.enumerations),
-    }
-}
-
+// The sums of two rows, modulo 2^64.
 pub fn added(a: Row, b: Row) -> Row {
-    let stats = added_stats(a.stats, b.stats);
-    Row {
-        stats,
-        credit: wrapping_add_u64(a.credit, b.credit),
-        refused: wrapping_add_u64(a.refused, b.refused),
-        dropped: wrapping_add_u64(a.dropped, b.dropped),
+    let mut sums = a;
+    let mut k = 0;
+    while k < record::COUNTERS {
+        let sum = wrapping_add_u64(a.stats[k], b.stats[k]);
+        sums.stats[k] = sum;
+        k += 1;
     }
+    sums.credit = wrapping_add_u64(a.credit, b.credit);
+    sums.refused = wrapping_add_u64(a.refused, b.refused);
+    sums.dropped = wrapping_add_u64(a.dropped, b.dropped);
+    sums
 }
 
 // A tab and a number.
@@ -68,15 +53,14 @@ fn show_audio(row: Row, out: &mut [u8; 65536], at: usize) -> usize
     requires { ⌜ at + 168 ≤ 65536 ⌝ }
     ensures { λ r. ⌜ r ≤ at + 168 ⌝ }
 {
-    let stats = row.stats;
-    let mut end = cell(out, at, stats.microframes);
-    end = cell(out, end, stats.in_frames);
-    end = cell(out, end, stats.out_frames);
+    let mut end = cell(out, at, row.stats[record::MICROFRAMES]);
+    end = cell(out, end, row.stats[record::IN_FRAMES]);
+    end = cell(out, end, row.stats[record::OUT_FRAMES]);
     end = cell(out, end, row.credit);
-    end = cell(out, end, stats.bad_blocks);
-    end = cell(out, end, stats.in_transfers);
-    end = cell(out, end, stats.out_transfers);
-    cell(out, end, stats.out_underruns)
+    end = cell(out, end, row.stats[record::BAD_BLOCKS]);
+    end = cell(out, end, row.stats[record::IN_TRANSFERS]);
+    end = cell(out, end, row.stats[record::OUT_TRANSFERS]);
+    cell(out, end, row.stats[record::OUT_UNDERRUNS])
 }
 
 // All cells behind the first, and the row's end.
@@ -84,14 +68,13 @@ pub fn show_row(row: Row, out: &mut [u8; 65536], at: usize) -> usize
     requires { ⌜ at + 337 ≤ 65536 ⌝ }
     ensures { λ r. ⌜ r ≤ at + 337 ⌝ }
 {
-    let stats = row.stats;
     let mut end = show_audio(row, out, at);
-    end = cell(out, end, stats.restarts);
-    end = cell(out, end, stats.enumerations);
-    end = cell(out, end, stats.midi_dtds);
-    end = cell(out, end, stats.midi_asleep);
-    end = cell(out, end, stats.midi_packets_out);
-    end = cell(out, end, stats.vendor_in_bytes);
+    end = cell(out, end, row.stats[record::RESTARTS]);
+    end = cell(out, end, row.stats[record::ENUMERATIONS]);
+    end = cell(out, end, row.stats[record::MIDI_DTDS]);
+    end = cell(out, end, row.stats[record::MIDI_ASLEEP]);
+    end = cell(out, end, row.stats[record::MIDI_PACKETS_OUT]);
+    end = cell(out, end, row.stats[record::VENDOR_IN_BYTES]);
     end = cell(out, end, row.refused);
     end = cell(out, end, row.dropped);
     text::put(out, end, b'\n')

@@ -205,12 +205,12 @@ module _ (w : World) where
   silent-frames i (suc n) h =
       let four : 4 * of + 4 * (n * of) ≡ 4 * (suc n * of) = omega (arith, suc-mul n of) in
       ap₂ (λ (x y : List ℕ). x ++ y)
-      (ap (λ (t : Bool). channelBytes of (pick t (take 12 (drop ((w .state .audio .sending .start + i) % (length (w .sending) / 12) * 12) (w .sending))) (zeros 12))) (le-ltb i (w .state .audio .sending .len) h) ∙ silent-frame of 12)
+      (ap (λ (t : Bool). channelBytes of (pick t (take 12 (drop ((w .state .audio .sending .start + i) % (length (w .lent .sending) / 12) * 12) (w .lent .sending))) (zeros 12))) (le-ltb i (w .state .audio .sending .len) h) ∙ silent-frame of 12)
       (silent-frames (suc i) n (omega arith))
       ∙ replicate-append-replicate (4 * of) (4 * (n * of)) 0 ∙ ap zeros four
 
-  frame-is : (i at : ℕ) → i < w .state .audio .sending .len → at ≡ (w .state .audio .sending .start + i) % (length (w .sending) / 12)
-      → frameAt w i ≡ take 12 (drop (at * 12) (w .sending))
+  frame-is : (i at : ℕ) → i < w .state .audio .sending .len → at ≡ (w .state .audio .sending .start + i) % (length (w .lent .sending) / 12)
+      → frameAt w i ≡ take 12 (drop (at * 12) (w .lent .sending))
   unfolding frameAt
   frame-is i at h e = simp (lt-ltb i (w .state .audio .sending .len) h, e)
 

@@ -5,8 +5,7 @@ use mathlib.Core.Path.{_≡_}
 use lib.ListN.{length, replicate}
 use Rattle.record.specs.declared.Ring.{Ring}
 use Rattle.record.specs.declared.Audio.{Audio}
-use Rattle.record.specs.Record.{withAudio}
-use Rattle.record.specs.World.{World}
+use Rattle.record.specs.World.{World, withSendingRing, inAudio}
 
 -- the block begins with the bytes p, and the rest of its 2,048 bytes is zeros
 pub record Begun (b p : List ℕ) : Type 0 where
@@ -29,4 +28,4 @@ abbrev pub withRing : Audio → Ring → ℕ → Audio
 withRing r x n = record { credit = r .credit; counter = r .counter; budget = r .budget; block = r .block; channels = n; received = r .received; sending = x }
 
 abbrev pub atSending : World → Ring → ℕ → List ℕ → World
-atSending r x n l = record { settings = r .settings; packer = r .packer; state = withAudio (r .state) (withRing (r .state .audio) x n); memory = r .memory; setups = r .setups; midi = r .midi; serial = r .serial; device = r .device; reply = r .reply; config = r .config; receive = r .receive; received = r .received; sending = l }
+atSending r x n l = withSendingRing (inAudio r (withRing (r .state .audio) x n)) l

@@ -128,11 +128,11 @@ module _ (e : Endpoint) (held : World → ℕ) (f : ℕ → Step) (a : World) wh
   pub none-ready : ready e a ≡ false → Leads sends a a
   none-ready h = by-false _ _ _ (ap (λ (t : Bool). not (eqb (held a) 0) && t) h ∙ and-false (not (eqb (held a) 0))) (unchanged a)
 
-  pub some-sent : (held a ≡ 0 → ⊥) → (qh n tok : ℕ) → found e (a .memory) ≡ Active qh n tok → {b : World} → Leads (f (packetOf tok (held a))) a b → Leads sends a b
+  pub some-sent : (held a ≡ 0 → ⊥) → (qh n tok : ℕ) → found e (a .lent .memory) ≡ Active qh n tok → {b : World} → Leads (f (packetOf tok (held a))) a b → Leads sends a b
   some-sent some qh n tok is p =
-      by-true _ _ _ (ap₂ (λ (t u : Bool). not t && u) (ne-eqb (held a) 0 some) (active-ready e (a .memory) qh n tok is))
+      by-true _ _ _ (ap₂ (λ (t u : Bool). not t && u) (ne-eqb (held a) 0 some) (active-ready e (a .lent .memory) qh n tok is))
       (from-here (λ v. f (fitting e (held v) v)) a
-      (leads-by {f = f (packetOf tok (held a))} (ap (λ (x : ℕ). f (packetOf x (held a)) a) (active-token e (a .memory) qh n tok is)) p))
+      (leads-by {f = f (packetOf tok (held a))} (ap (λ (x : ℕ). f (packetOf x (held a)) a) (active-token e (a .lent .memory) qh n tok is)) p))
 
 -- ---- serial
 

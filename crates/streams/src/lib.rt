@@ -151,16 +151,6 @@ pub fn serial_step(
     serial_out(next, dynamic, sram, page, serial)
 }
 
-// The state with MIDI packets to the device counted.
-fn count_packets(s: State, n: usize) -> State
-    ensures { λ r. ⌜ r ≡ Rec.withStats s (Rec.counted Rec.«midi_packets_out» n (s .stats)) ⌝ }
-{
-    let mut next = s;
-    let counted = wrapping_add_u64(s.stats.midi_packets_out, n as u64);
-    next.stats.midi_packets_out = counted;
-    next
-}
-
 // MIDI output into an active descriptor: whole packets of four bytes.
 fn midi_packet(
     s: State,
@@ -192,7 +182,11 @@ fn midi_packet(
         s.port.line,
     );
     drain(midi, queued, n);
-    let mut next = count_packets(record::after_run(s, ran), packets);
+    let mut next = record::count(
+        record::after_run(s, ran),
+        record::MIDI_PACKETS_OUT,
+        packets as u64,
+    );
     let rest = queued - n;
     next.lengths.midi = rest;
     next
@@ -220,16 +214,6 @@ pub fn midi_out(
     }
 }
 
-// The state with bytes of the vendor interface counted.
-fn count_vendor(s: State, n: u32) -> State
-    ensures { λ r. ⌜ r ≡ Rec.withStats s (Rec.counted Rec.«vendor_in_bytes» n (s .stats)) ⌝ }
-{
-    let mut next = s;
-    let counted = wrapping_add_u64(s.stats.vendor_in_bytes, n as u64);
-    next.stats.vendor_in_bytes = counted;
-    next
-}
-
 // The vendor interface's input, whose bytes are only counted.
 pub fn vendor(s: State, dynamic: &mut [u8], sram: &mut [u8], page: &mut [u8]) -> State
     requires { ⌜ Sized (shown dynamic sram page) ⌝ }
@@ -237,5 +221,9 @@ pub fn vendor(s: State, dynamic: &mut [u8], sram: &mut [u8], page: &mut [u8]) ->
     ensures { λ r. ⌜ P.Fewer (s .lengths) (r .lengths) ⌝ }
 {
     let ran = dtd::run_count(dynamic, sram, page, 2, SECOND_IN, s.port.line);
-    count_vendor(record::after_run(s, ran), ran.moved)
+    record::count(
+        record::after_run(s, ran),
+        record::VENDOR_IN_BYTES,
+        ran.moved as u64,
+    )
 }

@@ -1,7 +1,8 @@
 // A microframe on the host record behind a reference.
 ghost use mathlib.Core.Path.{_≡_};
 ghost use Rattle.bus.specs.Memory.{shown};
-ghost use Rattle.usbhost.specs.Frame.{lent, lentIn, framed, frameAnswer};
+ghost use Rattle.record.specs.World.{lent};
+ghost use Rattle.usbhost.specs.Frame.{framed, frameAnswer};
 ghost use Rattle.thin.specs.Thin.{answered};
 use usbhost::Host;
 
@@ -27,7 +28,7 @@ pub fn microframe(
     received: &mut [u32],
     sending: &[u32],
 ) -> Answered
-    ensures { λ r. ⌜ (answered r (now (host .exit)) ≡ frameAnswer time (now (host .entry)) (lent (shown (dynamic .entry) (sram .entry) (page .entry)) (now (reply .entry)) (now (config .entry)) (now (receive .entry)) (now (received .entry)) (now (sending .entry)))) × (lent (shown (dynamic .exit) (sram .exit) (page .exit)) (now (reply .exit)) (now (config .exit)) (now (receive .exit)) (now (received .exit)) (now (sending .entry)) ≡ lentIn (framed time (now (host .entry)) (lent (shown (dynamic .entry) (sram .entry) (page .entry)) (now (reply .entry)) (now (config .entry)) (now (receive .entry)) (now (received .entry)) (now (sending .entry))))) ⌝ }
+    ensures { λ r. ⌜ (answered r (now (host .exit)) ≡ frameAnswer time (now (host .entry)) (lent (shown (dynamic .entry) (sram .entry) (page .entry)) (now (reply .entry)) (now (config .entry)) (now (receive .entry)) (now (received .entry)) (now (sending .entry)))) × (lent (shown (dynamic .exit) (sram .exit) (page .exit)) (now (reply .exit)) (now (config .exit)) (now (receive .exit)) (now (received .exit)) (now (sending .entry)) ≡ framed time (now (host .entry)) (lent (shown (dynamic .entry) (sram .entry) (page .entry)) (now (reply .entry)) (now (config .entry)) (now (receive .entry)) (now (received .entry)) (now (sending .entry))) .lent) ⌝ }
 {
     let f = Host::microframe(
         *host,

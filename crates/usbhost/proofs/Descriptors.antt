@@ -19,10 +19,11 @@ use Rattle.model.specs.Microframe as M
 use Rattle.model.specs.Microframe.{streaming}
 use Rattle.model.specs.Marks.{allRetired, allDropped}
 use Rattle.model.proofs.Descriptors.{counts-all, retired-any, retired-most, dropped-any}
+use Rattle.record.specs.World.{Lent}
 use Rattle.usbhost.specs.declared.Host.{Host}
 use Rattle.usbhost.specs.Host.{stateOf}
 use Rattle.usbhost.specs.Calls.{bounded}
-use Rattle.usbhost.specs.Frame.{Lent, worldOf, boundsOk, frameNumber, framed, frameAnswer}
+use Rattle.usbhost.specs.Frame.{worldOf, boundsOk, frameNumber, framed, frameAnswer}
 use Rattle.usbhost.proofs.Frame.{accepted-tests}
 
 -- number 5: no request runs outside enumeration

@@ -18,15 +18,16 @@ use Rattle.record.specs.Record.{withAnswer}
 use Rattle.record.specs.Did.{Leads}
 use Rattle.bounds.specs.Bounds.{MOST, areasOk, receivedOk, sendingOk, inBounds, enumeratingOk, countsOk}
 use Rattle.model.specs.Microframe as M
-use Rattle.frames.specs.Promises.{Fit, Long, Frame, areas}
+use Rattle.frames.specs.Promises.{Fit, Long, Frame}
 use Rattle.frames.proofs.Fit.{fit-of}
+use Rattle.record.specs.World.{Own, Lent, World, world}
 use Rattle.usbhost.specs.declared.Host.{Host}
 use Rattle.usbhost.specs.declared.Stored.{Stored}
 use Rattle.usbhost.specs.declared.Framed.{Framed}
-use Rattle.usbhost.specs.Host.{stateOf, hostOf}
+use Rattle.usbhost.specs.Host.{stateOf, hostOf, ownOf, hostWith}
 use Rattle.usbhost.specs.Calls.{bounded, fewSpans, sendingLength}
-use Rattle.usbhost.specs.Frame.{Lent, lent, worldOf, lentIn, lengthsOk, areaLengths, boundsOk, frameBounds, frameNumber, framed, frameAnswer}
-use Rattle.usbhost.specs.Promises.{bare, worldBy, FramePromise}
+use Rattle.usbhost.specs.Frame.{worldOf, lengthsOk, areaLengths, boundsOk, frameBounds, frameNumber, framed, frameAnswer}
+use Rattle.usbhost.specs.Promises.{bare, FramePromise}
 
 -- ---- an accepted microframe
 
@@ -87,13 +88,13 @@ module _ (h : Host) (l : Lent) (e : frameNumber h l ≡ 0) where
   pub accepted-sized : Sized (l .memory)
   accepted-sized = is-sized (l .memory) (accepted-tests h l e .sized)
 
-  pub accepted-long : (setups midi serial device : List ℕ) → Long (areas setups midi serial device (l .reply) (l .config) (l .receive) (l .received))
-  accepted-long setups midi serial device =
+  pub accepted-long : Long (l .reply) (l .config) (l .receive) (l .received)
+  accepted-long =
       record {
-        reply = lengthy-of .reply-long;
-        config = lengthy-of .config-long;
-        receive = lengthy-of .receive-long;
-        received = lengthy-of .received-whole;
+        reply-long = lengthy-of .reply-long;
+        config-long = lengthy-of .config-long;
+        receive-long = lengthy-of .receive-long;
+        received-whole = lengthy-of .received-whole;
       }
 
   pub accepted-fit : Fit (stateOf h) (length (l .sending))
@@ -110,57 +111,53 @@ module _ (h : Host) (l : Lent) (e : frameNumber h l ≡ 0) where
 -- ---- the ways of the call on parts
 
 -- the number reads no settings but their count, no arrays but the setups, and not the state's answer
-pub bare-number : (s : State) (c : Settings) (p : Packer) (setups midi serial device : List ℕ) (l : Lent)
-    → frameNumber (bare (withAnswer s (record { received = 0; dropped = 0; retired = 0 })) (c .spans) p setups) l ≡ frameNumber (hostOf s c p setups midi serial device) l
+pub bare-number : (s : State) (c : Settings) (p : Packer) (o : Own) (l : Lent)
+    → frameNumber (bare (withAnswer s (record { received = 0; dropped = 0; retired = 0 })) (c .spans) p (o .setups)) l ≡ frameNumber (hostOf s c p o) l
 unfolding frameNumber boundsOk inBounds enumeratingOk countsOk areasOk
-bare-number s c p setups midi serial device l = refl
+bare-number s c p o l = refl
 
 module _ (t : ℕ) (h : Host) (l : Lent) {n : ℕ} (e : n ≡ frameNumber h l) where
-  pub frame-stops : (n ≡ 0 → ⊥) → FramePromise t h l (record { refusal = n; state = stateOf h }) (h .setups) (h .midi) (h .serial) (h .device) l
+  pub frame-stops : (n ≡ 0 → ⊥) → FramePromise t h l (record { refusal = n; state = stateOf h }) (ownOf h) l
   unfolding framed
   frame-stops m = record { number = e; outcome = simp (sym e, ne-eqb n 0 m) }
 
-  pub frame-goes : n ≡ 0 → (s : State) (setups midi serial device : List ℕ) (l′ : Lent)
-      → Leads (M.microframe t) (worldOf h l) (worldBy s (h .settings) (h .packer) setups midi serial device l′)
-      → FramePromise t h l (record { refusal = 0; state = s }) setups midi serial device l′
+  pub frame-goes : n ≡ 0 → (s : State) (o : Own) (l′ : Lent) → Leads (M.microframe t) (worldOf h l) (world (h .settings) (h .packer) s o l′)
+      → FramePromise t h l (record { refusal = 0; state = s }) o l′
   unfolding framed
-  frame-goes z s setups midi serial device l′ d =
+  frame-goes z s o l′ d =
       let none : frameNumber h l ≡ 0 = sym e ∙ z in
       record { number = sym none; outcome = d .is ∙ simp none }
 
 -- over parts; f: the state with nothing received and nothing dropped
-module _ (t : ℕ) (s : State) (c : Settings) (p : Packer) (setups midi serial device : List ℕ) (l : Lent) {f : State} (u : f ≡ withAnswer s (record { received = 0; dropped = 0; retired = 0 })) {n : ℕ}
-    (e : n ≡ frameNumber (bare f (c .spans) p setups) l) where
+module _ (t : ℕ) (s : State) (c : Settings) (p : Packer) (o : Own) (l : Lent) {f : State} (u : f ≡ withAnswer s (record { received = 0; dropped = 0; retired = 0 })) {n : ℕ}
+    (e : n ≡ frameNumber (bare f (c .spans) p (o .setups)) l) where
   abbrev whole : Host
-  whole = hostOf s c p setups midi serial device
+  whole = hostOf s c p o
 
   number-of : n ≡ frameNumber whole l
-  number-of = rw u at e ∙ bare-number s c p setups midi serial device l
+  number-of = rw u at e ∙ bare-number s c p o l
 
-  pub parts-stop : (n ≡ 0 → ⊥) → FramePromise t whole l (record { refusal = n; state = f }) setups midi serial device l
+  pub parts-stop : (n ≡ 0 → ⊥) → FramePromise t whole l (record { refusal = n; state = f }) o l
   parts-stop m = rw u (frame-stops t whole l number-of m)
 
-  pub parts-ask : n ≡ 0 → Sized (l .memory) × (Long (areas setups midi serial device (l .reply) (l .config) (l .receive) (l .received)) × (Fit f (length (l .sending)) × (c .spans ≤ 16)))
+  pub parts-ask : n ≡ 0 → Sized (l .memory) × (Long (l .reply) (l .config) (l .receive) (l .received) × (Fit f (length (l .sending)) × (c .spans ≤ 16)))
   parts-ask z =
       let none : frameNumber whole l ≡ 0 = sym number-of ∙ z in
-      (accepted-sized whole l none, (accepted-long whole l none setups midi serial device, (rw u (accepted-fit whole l none), accepted-spans whole l none)))
+      (accepted-sized whole l none, (accepted-long whole l none, (rw u (accepted-fit whole l none), accepted-spans whole l none)))
 
-  pub parts-go : n ≡ 0 → (s′ : State) (m′ : Memory) (setups′ midi′ serial′ device′ reply′ config′ receive′ received′ : List ℕ)
-      → Frame t c f (l .memory) (areas setups midi serial device (l .reply) (l .config) (l .receive) (l .received)) (l .sending) s′ m′ (areas setups′ midi′ serial′ device′ reply′ config′ receive′ received′)
-      → FramePromise t whole l (record { refusal = 0; state = s′ }) setups′ midi′ serial′ device′ (lent m′ reply′ config′ receive′ received′ (l .sending))
-  parts-go z s′ m′ setups′ midi′ serial′ device′ reply′ config′ receive′ received′ d =
-      frame-goes t whole l number-of z s′ setups′ midi′ serial′ device′ (lent m′ reply′ config′ receive′ received′ (l .sending)) ((rw u at d) .leads p)
+  pub parts-go : n ≡ 0 → (s′ : State) (o′ : Own) (l′ : Lent) → Frame t c f o l s′ o′ l′ → FramePromise t whole l (record { refusal = 0; state = s′ }) o′ l′
+  parts-go z s′ o′ l′ d = frame-goes t whole l number-of z s′ o′ l′ ((rw u at d) .leads p)
 
 -- ---- the call by value
 
-pub frame-entry : (t : ℕ) (h : Host) (l : Lent) {s : State} → s ≡ stateOf h → (r : Stored) (setups midi serial device : List ℕ) (l′ : Lent)
-    → FramePromise t (hostOf s (h .settings) (h .packer) (h .setups) (h .midi) (h .serial) (h .device)) l r setups midi serial device l′
-    → {g : Host} → g ≡ hostOf (r .state) (h .settings) (h .packer) setups midi serial device
-    → _≡_ {A = Framed} (record { refusal = r .refusal; received = r .state .answer .received; dropped = r .state .answer .dropped; retired = r .state .answer .retired; host = g }) (frameAnswer t h l) × (l′ ≡ lentIn (framed t h l))
+pub frame-entry : (t : ℕ) (h : Host) (l : Lent) {s : State} → s ≡ stateOf h → (r : Stored) (o : Own) (l′ : Lent)
+    → FramePromise t (hostWith h s) l r o l′
+    → {g : Host} → g ≡ hostOf (r .state) (h .settings) (h .packer) o
+    → _≡_ {A = Framed} (record { refusal = r .refusal; received = r .state .answer .received; dropped = r .state .answer .dropped; retired = r .state .answer .retired; host = g }) (frameAnswer t h l) × (l′ ≡ framed t h l .lent)
 unfolding frameAnswer
-frame-entry t h l e r setups midi serial device l′ d f =
+frame-entry t h l e r o l′ d f =
     let p = rw e at d in
-    (rw (f, p .number, sym (p .outcome)) refl, ap lentIn (p .outcome))
+    (rw (f, p .number, sym (p .outcome)) refl, ap (λ (w : World). w .lent) (p .outcome))
 
 -- ---- a refused microframe: the number alone, and the record and all that was lent as they were
 
@@ -173,5 +170,5 @@ module _ (t : ℕ) (h : Host) (l : Lent) (m : frameNumber h l ≡ 0 → ⊥) whe
   unfolding frameAnswer
   frame-refused = rw stays refl
 
-  pub lent-refused : lentIn (framed t h l) ≡ l
-  lent-refused = ap lentIn stays
+  pub lent-refused : framed t h l .lent ≡ l
+  lent-refused = ap (λ (w : World). w .lent) stays

@@ -17,9 +17,9 @@ use Rattle.usbdev.specs.Access.{fits, readSized, writeSized}
 use Rattle.record.specs.declared.Lengths.{Lengths}
 use Rattle.record.specs.declared.Ring.{Ring}
 use Rattle.record.specs.declared.Settings.{Settings}
-use Rattle.record.specs.Record.{withMidi, withSerial}
+use Rattle.record.specs.Record.{withMidi, withSerial, counterAt}
 use Rattle.record.specs.Change.{takenFrom}
-use Rattle.bounds.specs.Bounds.{inBounds, askedOk, heldOk, countedOk, audioOk, setupsOk, allMade, noneAsks, enumeratingOk, requestOk, queuesOk, packerOk, countsOk, countersOk, creditOk, timersOk, timerOk, ringOk, receivedOk, sendingOk}
+use Rattle.bounds.specs.Bounds.{inBounds, askedOk, heldOk, countedOk, audioOk, setupsOk, allMade, noneAsks, enumeratingOk, requestOk, queuesOk, packerOk, countsOk, noneAbove, countersOk, creditOk, timersOk, timerOk, ringOk, receivedOk, sendingOk}
 use Rattle.bounds.proofs.Laws.{packer-bound, packer-ok}
 use Rattle.usbhost.specs.declared.Host.{Host}
 use Rattle.usbhost.specs.Host.{stateOf, settled, noSettings, newHost, created}
@@ -209,7 +209,7 @@ write-kept n h page off size v =
 
 -- in bounds, and its rings too, where a frame fits them
 pub new-bounded : (c : Settings) → bounded (newHost c) ≡ true
-unfolding newHost inBounds setupsOk allMade noneAsks enumeratingOk requestOk queuesOk packerOk countsOk countersOk creditOk timersOk timerOk audioOk
+unfolding newHost inBounds setupsOk allMade noneAsks enumeratingOk requestOk queuesOk packerOk countsOk countersOk noneAbove counterAt creditOk timersOk timerOk audioOk
 new-bounded c = refl
 
 pub new-received : (c : Settings) → receivedOk (stateOf (newHost c)) ≡ true

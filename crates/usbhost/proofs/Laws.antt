@@ -14,6 +14,7 @@ use Rattle.midi.specs.declared.Packer.{Packer}
 use Rattle.record.specs.declared.Settings.{Settings}
 use Rattle.record.specs.declared.State.{State}
 use Rattle.bounds.specs.Bounds.{inBounds, enumeratingOk, countsOk, areasOk, ringOk}
+use Rattle.record.specs.World.{Own}
 use Rattle.usbhost.specs.declared.Host.{Host}
 use Rattle.usbhost.specs.Host.{hostOf}
 use Rattle.usbhost.specs.Calls.{unless, answered, bounded}
@@ -101,16 +102,15 @@ by-test false p q = q refl
 
 -- ---- a record by its parts is in bounds as they are
 
-pub same-bounds : (s : State) (c : Settings) (p : Packer) (setups midi serial device : List ℕ)
-    → bounded (hostOf s c p setups midi serial device) ≡ inBounds s p setups
+pub same-bounds : (s : State) (c : Settings) (p : Packer) (o : Own) → bounded (hostOf s c p o) ≡ inBounds s p (o .setups)
 unfolding inBounds enumeratingOk countsOk
-same-bounds s c p setups midi serial device = refl
+same-bounds s c p o = refl
 
 -- the bounds of a microframe's record with areas of some lengths
-pub frame-bounds : (s : State) (c : Settings) (p : Packer) (setups midi serial device : List ℕ) (reply config sending : ℕ)
-    → (inBounds s p setups && (areasOk s reply config && (ringOk (s .audio .received) 48000 && ringOk (s .audio .sending) (sending / 12)))) ≡ boundsOk (hostOf s c p setups midi serial device) reply config sending
+pub frame-bounds : (s : State) (c : Settings) (p : Packer) (o : Own) (reply config sending : ℕ)
+    → (inBounds s p (o .setups) && (areasOk s reply config && (ringOk (s .audio .received) 48000 && ringOk (s .audio .sending) (sending / 12)))) ≡ boundsOk (hostOf s c p o) reply config sending
 unfolding boundsOk inBounds enumeratingOk countsOk areasOk
-frame-bounds s c p setups midi serial device reply config sending = refl
+frame-bounds s c p o reply config sending = refl
 
 -- number 4 of an access, from the number of a read at the same place
 pub access-by : (whole few fit ok : Bool)

@@ -24,6 +24,7 @@ use Rattle.record.specs.declared.State.{State}
 use Rattle.record.specs.Record.{withLengths, withMidi, withSerial, withAudio, withReceived, withSending, withPort, withLine}
 use Rattle.record.specs.Change.{takenFrom}
 use Rattle.bounds.specs.Bounds.{inBounds, askedOk, heldOk, countedOk, audioOk, queuesOk, packerOk, receivedOk, sendingOk}
+use Rattle.record.specs.World.{Own, ownSetups, ownMidi, ownSerial}
 use Rattle.usbhost.specs.declared.Host.{Host}
 use Rattle.usbhost.specs.Host.{hostOf, stateOf}
 use Rattle.usbhost.specs.Calls.{unless, fewSpans, bounded, midiNumber, midiQueued, midiSent, serialNumber, serialQueued, serialSent, sendingLength, giveNumber, framePut, frameGiven, given, givenRing, takeNumber, frameTaken, oldest, holdsFrame, takenFrame, accessNumber, deviceRead, withFlag, deviceWritten, writtenPage}
@@ -33,18 +34,18 @@ use Rattle.usbhost.proofs.Laws.{record-stands, record-stops, met, goes,
 -- ---- sends
 
 -- where numbers 3 and 5 are not met, what follows them decides
-follows : (s : State) (c : Settings) (p : Packer) (setups midi serial device : List ℕ) (x : ℕ) {n : ℕ}
-    → n ≡ unless 3 (leb (c .spans) 16) (unless 5 (inBounds s p setups) 0) → n ≡ 0
-    → unless 3 (leb (c .spans) 16) (unless 5 (bounded (hostOf s c p setups midi serial device)) x) ≡ x
-follows s c p setups midi serial device x e z =
-    rw (same-bounds s c p setups midi serial device) (record-stands (leb (c .spans) 16) (inBounds s p setups) x (sym e ∙ z))
+follows : (s : State) (c : Settings) (p : Packer) (o : Own) (x : ℕ) {n : ℕ}
+    → n ≡ unless 3 (leb (c .spans) 16) (unless 5 (inBounds s p (o .setups)) 0) → n ≡ 0
+    → unless 3 (leb (c .spans) 16) (unless 5 (bounded (hostOf s c p o)) x) ≡ x
+follows s c p o x e z =
+    rw (same-bounds s c p o) (record-stands (leb (c .spans) 16) (inBounds s p (o .setups)) x (sym e ∙ z))
 
 -- where one is met, it is the number
-stays : (s : State) (c : Settings) (p : Packer) (setups midi serial device : List ℕ) (x : ℕ) {n : ℕ}
-    → n ≡ unless 3 (leb (c .spans) 16) (unless 5 (inBounds s p setups) 0) → (n ≡ 0 → ⊥)
-    → unless 3 (leb (c .spans) 16) (unless 5 (bounded (hostOf s c p setups midi serial device)) x) ≡ n
-stays s c p setups midi serial device x e m =
-    rw (same-bounds s c p setups midi serial device) (record-stops (leb (c .spans) 16) (inBounds s p setups) x _ e m)
+stays : (s : State) (c : Settings) (p : Packer) (o : Own) (x : ℕ) {n : ℕ}
+    → n ≡ unless 3 (leb (c .spans) 16) (unless 5 (inBounds s p (o .setups)) 0) → (n ≡ 0 → ⊥)
+    → unless 3 (leb (c .spans) 16) (unless 5 (bounded (hostOf s c p o)) x) ≡ n
+stays s c p o x e m =
+    rw (same-bounds s c p o) (record-stops (leb (c .spans) 16) (inBounds s p (o .setups)) x _ e m)
 
 module _ (s : State) (spans : ℕ) (p : Packer) (bs setups midi : List ℕ) {n : ℕ} (e : n ≡ unless 3 (leb spans 16) (unless 5 (inBounds s p setups) 0)) where
   pub midi-stops : (n ≡ 0 → ⊥) → MidiPromise s spans p bs setups midi (record { refusal = n; state = s; packer = p }) midi
@@ -52,9 +53,9 @@ module _ (s : State) (spans : ℕ) (p : Packer) (bs setups midi : List ℕ) {n :
   midi-stops m =
       record {
         answer = refl;
-        done = λ k serial device.
-            let h = hostOf s (withSpans k spans) p setups midi serial device in
-            sym (stops (midiNumber h bs) n (midiQueued h bs) h (stays s (withSpans k spans) p setups midi serial device _ e m) m);
+        done = λ k o.
+            let h = hostOf s (withSpans k spans) p (ownMidi (ownSetups o setups) midi) in
+            sym (stops (midiNumber h bs) n (midiQueued h bs) h (stays s (withSpans k spans) p (ownMidi (ownSetups o setups) midi) _ e m) m);
       }
 
   pub midi-goes : n ≡ 0 → (r : Midi.Sent) (midi′ : List ℕ) → Sends 0 p bs (s .lengths .midi) midi midi′ r
@@ -63,9 +64,9 @@ module _ (s : State) (spans : ℕ) (p : Packer) (bs setups midi : List ℕ) {n :
   midi-goes z r midi′ d =
       record {
         answer = refl;
-        done = λ k serial device.
-            let h = hostOf s (withSpans k spans) p setups midi serial device in
-            let number : midiNumber h bs ≡ unless 7 (roomFor p bs (s .lengths .midi)) 0 = follows s (withSpans k spans) p setups midi serial device _ e z in
+        done = λ k o.
+            let h = hostOf s (withSpans k spans) p (ownMidi (ownSetups o setups) midi) in
+            let number : midiNumber h bs ≡ unless 7 (roomFor p bs (s .lengths .midi)) 0 = follows s (withSpans k spans) p (ownMidi (ownSetups o setups) midi) _ e z in
             by-test (roomFor p bs (s .lengths .midi))
             (λ room. rw (d .answer, d .queue, number) (simp room))
             (λ full. rw (d .answer, d .queue, number) (simp full));
@@ -97,9 +98,9 @@ module _ (s : State) (spans : ℕ) (p : Packer) (bs setups serial : List ℕ) {n
   serial-stops m =
       record {
         answer = refl;
-        done = λ k midi device.
-            let h = hostOf s (withSpans k spans) p setups midi serial device in
-            sym (stops (serialNumber h bs) n (serialQueued h bs) h (stays s (withSpans k spans) p setups midi serial device _ e m) m);
+        done = λ k o.
+            let h = hostOf s (withSpans k spans) p (ownSerial (ownSetups o setups) serial) in
+            sym (stops (serialNumber h bs) n (serialQueued h bs) h (stays s (withSpans k spans) p (ownSerial (ownSetups o setups) serial) _ e m) m);
       }
 
   pub serial-full : n ≡ 0 → 4096 < s .lengths .serial + length bs → SerialPromise s spans p bs setups serial (record { refusal = 7; state = s }) serial
@@ -108,9 +109,9 @@ module _ (s : State) (spans : ℕ) (p : Packer) (bs setups serial : List ℕ) {n
       let full = lt-leb (s .lengths .serial + length bs) 4096 m in
       record {
         answer = refl;
-        done = λ k midi device.
-            let h = hostOf s (withSpans k spans) p setups midi serial device in
-            let number = follows s (withSpans k spans) p setups midi serial device _ e z ∙ ap (λ t. unless 7 t 0) full in
+        done = λ k o.
+            let h = hostOf s (withSpans k spans) p (ownSerial (ownSetups o setups) serial) in
+            let number = follows s (withSpans k spans) p (ownSerial (ownSetups o setups) serial) _ e z ∙ ap (λ t. unless 7 t 0) full in
             sym (stops (serialNumber h bs) 7 (serialQueued h bs) h number (λ y. omega arith));
       }
 
@@ -121,9 +122,9 @@ module _ (s : State) (spans : ℕ) (p : Packer) (bs setups serial : List ℕ) {n
       let room = le-leb (s .lengths .serial + length bs) 4096 m in
       record {
         answer = refl;
-        done = λ k midi device.
-            let h = hostOf s (withSpans k spans) p setups midi serial device in
-            let number = follows s (withSpans k spans) p setups midi serial device _ e z ∙ ap (λ t. unless 7 t 0) room in
+        done = λ k o.
+            let h = hostOf s (withSpans k spans) p (ownSerial (ownSetups o setups) serial) in
+            let number = follows s (withSpans k spans) p (ownSerial (ownSetups o setups) serial) _ e z ∙ ap (λ t. unless 7 t 0) room in
             rw d (sym (goes (serialNumber h bs) (serialQueued h bs) h number));
       }
 
@@ -177,19 +178,19 @@ module _ (s : State) (spans : ℕ) (p : Packer) (setups frame sending : List ℕ
       mod-lt (s .audio .sending .start + s .audio .sending .len) {m = length sending / 12} (omega (arith, g .least))
 
   -- the number reads no settings but their count, and no arrays that are not lent
-  given-number : (k : Settings) (midi serial device : List ℕ) → giveNumber (hostOf s (withSpans k spans) p setups midi serial device) frame sending ≡ n
+  given-number : (k : Settings) (o : Own) → giveNumber (hostOf s (withSpans k spans) p (ownSetups o setups)) frame sending ≡ n
   unfolding giveNumber
-  given-number k midi serial device = sym e
+  given-number k o = sym e
 
   pub give-stops : (n ≡ 0 → ⊥) → GivePromise s spans p frame setups sending (record { refusal = n; state = s }) sending
   unfolding given givenRing
   give-stops m =
       record {
         answer = refl;
-        done = λ k midi serial device.
-            let h = hostOf s (withSpans k spans) p setups midi serial device in
-            sym (stops (giveNumber h frame sending) n (frameGiven h) h (given-number k midi serial device) m);
-        ring = λ k midi serial device. simp (given-number k midi serial device, ne-eqb n 0 m);
+        done = λ k o.
+            let h = hostOf s (withSpans k spans) p (ownSetups o setups) in
+            sym (stops (giveNumber h frame sending) n (frameGiven h) h (given-number k o) m);
+        ring = λ k o. simp (given-number k o, ne-eqb n 0 m);
       }
 
   pub give-goes : n ≡ 0 → (sending′ : List ℕ) → sending′ ≡ sets sending (newest s (length sending) * 12) frame
@@ -198,10 +199,10 @@ module _ (s : State) (spans : ℕ) (p : Packer) (setups frame sending : List ℕ
   give-goes z sending′ d =
       record {
         answer = refl;
-        done = λ k midi serial device.
-            let h = hostOf s (withSpans k spans) p setups midi serial device in
-            sym (goes (giveNumber h frame sending) (frameGiven h) h (given-number k midi serial device ∙ z));
-        ring = λ k midi serial device. let number = given-number k midi serial device ∙ z in simp (number, d);
+        done = λ k o.
+            let h = hostOf s (withSpans k spans) p (ownSetups o setups) in
+            sym (goes (giveNumber h frame sending) (frameGiven h) h (given-number k o ∙ z));
+        ring = λ k o. let number = given-number k o ∙ z in simp (number, d);
       }
 
 -- ---- frames taken
@@ -227,14 +228,14 @@ module _ (s : State) (spans : ℕ) (p : Packer) (setups received : List ℕ) {n 
       let t = accepted-takes (bare s spans p setups) received (sym e ∙ z) in
       record { long = t .long; inside = t .inside; few = t .few }
 
-  taken-number : (k : Settings) (midi serial device : List ℕ) → takeNumber (hostOf s (withSpans k spans) p setups midi serial device) received ≡ n
+  taken-number : (k : Settings) (o : Own) → takeNumber (hostOf s (withSpans k spans) p (ownSetups o setups)) received ≡ n
   unfolding takeNumber
-  taken-number k midi serial device = sym e
+  taken-number k o = sym e
 
   pub take-stops : (n ≡ 0 → ⊥) → TakePromise s spans p setups received (record { refusal = n; empty = false; frame = replicate 12 0; state = s })
   unfolding takenFrame holdsFrame
   take-stops m =
-      record { answer = refl; done = λ k midi serial device. simp (taken-number k midi serial device, ne-eqb n 0 m) }
+      record { answer = refl; done = λ k o. simp (taken-number k o, ne-eqb n 0 m) }
 
   pub take-empty : n ≡ 0 → s .audio .received .len ≡ 0
       → TakePromise s spans p setups received (record { refusal = 0; empty = true; frame = replicate 12 0; state = s })
@@ -242,8 +243,8 @@ module _ (s : State) (spans : ℕ) (p : Packer) (setups received : List ℕ) {n 
   take-empty z l =
       record {
         answer = refl;
-        done = λ k midi serial device.
-            let number = taken-number k midi serial device ∙ z in
+        done = λ k o.
+            let number = taken-number k o ∙ z in
             simp (number, eq-eqb (s .audio .received .len) 0 l);
       }
 
@@ -254,8 +255,8 @@ module _ (s : State) (spans : ℕ) (p : Packer) (setups received : List ℕ) {n 
   take-goes z m frame d =
       record {
         answer = refl;
-        done = λ k midi serial device.
-            let number = taken-number k midi serial device ∙ z in
+        done = λ k o.
+            let number = taken-number k o ∙ z in
             rw d (simp (number, ne-eqb (s .audio .received .len) 0 m));
       }
 
@@ -274,21 +275,21 @@ module _ (s : State) (spans : ℕ) (p : Packer) (setups page : List ℕ) (off si
   accepts : n ≡ 0 → refusal (length page) off size ≡ 0
   accepts z = accepted-access (bare s spans p setups) (length page) off size (sym e ∙ z)
 
-  accessed-number : (k : Settings) (midi serial device : List ℕ) → accessNumber (hostOf s (withSpans k spans) p setups midi serial device) (length page) off size ≡ n
+  accessed-number : (k : Settings) (o : Own) → accessNumber (hostOf s (withSpans k spans) p (ownSetups o setups)) (length page) off size ≡ n
   unfolding accessNumber
-  accessed-number k midi serial device = sym e
+  accessed-number k o = sym e
 
   pub read-stops : (n ≡ 0 → ⊥) → ReadPromise s spans p setups page off size (record { refusal = n; value = 0 })
   unfolding deviceRead
-  read-stops m = record { done = λ k midi serial device. simp (accessed-number k midi serial device, ne-eqb n 0 m) }
+  read-stops m = record { done = λ k o. simp (accessed-number k o, ne-eqb n 0 m) }
 
   pub read-goes : n ≡ 0 → (v : Value) → v ≡ reading page off size → ReadPromise s spans p setups page off size v
   unfolding deviceRead reading
   read-goes z v d =
       let right = accepts z in
       record {
-        done = λ k midi serial device.
-            let number = accessed-number k midi serial device ∙ z in
+        done = λ k o.
+            let number = accessed-number k o ∙ z in
             rw d (simp (right, number));
       }
 
@@ -298,8 +299,8 @@ module _ (s : State) (spans : ℕ) (p : Packer) (setups page : List ℕ) (off si
     write-stops m =
         record {
           answer = refl;
-          done = λ k midi serial device. simp (accessed-number k midi serial device, ne-eqb n 0 m);
-          written = λ k midi serial device. simp (accessed-number k midi serial device, ne-eqb n 0 m);
+          done = λ k o. simp (accessed-number k o, ne-eqb n 0 m);
+          written = λ k o. simp (accessed-number k o, ne-eqb n 0 m);
         }
 
     pub write-goes : n ≡ 0 → (w : Written) (page′ : List ℕ)
@@ -310,10 +311,10 @@ module _ (s : State) (spans : ℕ) (p : Packer) (setups page : List ℕ) (off si
         let right = accepts z in
         record {
           answer = refl;
-          done = λ k midi serial device.
-              let number = accessed-number k midi serial device ∙ z in
+          done = λ k o.
+              let number = accessed-number k o ∙ z in
               rw (d .0) (simp (right, number));
-          written = λ k midi serial device.
-              let number = accessed-number k midi serial device ∙ z in
+          written = λ k o.
+              let number = accessed-number k o ∙ z in
               rw (d .1) (simp (right, number));
         }

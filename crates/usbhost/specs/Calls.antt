@@ -10,14 +10,15 @@ use Rattle.bits.specs.Pick.{pick}
 use Rattle.usbdev.specs.Registers.{Registers, registers}
 use Rattle.usbdev.specs.Access.{fits, readSized, writeSized}
 use Rattle.midi.specs.Packer.{fedAll, packetCount, packetsOf, roomFor}
-use Rattle.record.specs.Record.{withLine, withMidi, withSerial, withReceived, withSending}
+use Rattle.record.specs.Record.{withLine, withMidi, withSerial, withReceived, withSending, withPort, withAudio, withLengths}
+use Rattle.record.specs.World.{ownMidi, ownSerial}
 use Rattle.record.specs.Change.{FRAMES, WORDS, takenFrom}
 use Rattle.bounds.specs.Bounds.{inBounds, receivedOk, sendingOk}
 use Rattle.usbhost.specs.declared.Host.{Host}
 use Rattle.usbhost.specs.declared.Sent.{Sent}
 use Rattle.usbhost.specs.declared.Taken.{Taken}
 use Rattle.usbhost.specs.declared.Read.{Read}
-use Rattle.usbhost.specs.Host.{stateOf}
+use Rattle.usbhost.specs.Host.{stateOf, hostOf, ownOf, hostWith}
 
 -- ---- numbers 3 and 5 of a record
 
@@ -49,7 +50,8 @@ midiNumber h bs = unless 3 (fewSpans h) (unless 5 (bounded h) (unless 7 (roomFor
 -- 362-364: the packer fed, and its packets behind those that wait
 unfoldable pub midiQueued : Host → List ℕ → Host
 midiQueued r bs =
-    record { phase = r .phase; port = r .port; audio = r .audio; control = r .control; timers = r .timers; stats = r .stats; lengths = withMidi (r .lengths) (r .lengths .midi + 4 * packetCount (r .packer) bs); packer = fedAll (r .packer) bs; settings = r .settings; setups = r .setups; midi = sets (r .midi) (r .lengths .midi) (packetsOf 0 (r .packer) bs); serial = r .serial; device = r .device }
+    hostOf (withLengths (stateOf r) (withMidi (r .lengths) (r .lengths .midi + 4 * packetCount (r .packer) bs))) (r .settings) (fedAll (r .packer) bs)
+    (ownMidi (ownOf r) (sets (r .midi) (r .lengths .midi) (packetsOf 0 (r .packer) bs)))
 
 unfoldable pub midiSent : Host → List ℕ → Sent
 midiSent h bs = answered (midiNumber h bs) (midiQueued h bs) h
@@ -62,7 +64,8 @@ serialNumber h bs = unless 3 (fewSpans h) (unless 5 (bounded h) (unless 7 (leb (
 -- the bytes behind those that wait (`cdc_to_device`, 285)
 unfoldable pub serialQueued : Host → List ℕ → Host
 serialQueued r bs =
-    record { phase = r .phase; port = r .port; audio = r .audio; control = r .control; timers = r .timers; stats = r .stats; lengths = withSerial (r .lengths) (r .lengths .serial + length bs); packer = r .packer; settings = r .settings; setups = r .setups; midi = r .midi; serial = sets (r .serial) (r .lengths .serial) bs; device = r .device }
+    hostOf (withLengths (stateOf r) (withSerial (r .lengths) (r .lengths .serial + length bs))) (r .settings) (r .packer)
+    (ownSerial (ownOf r) (sets (r .serial) (r .lengths .serial) bs))
 
 unfoldable pub serialSent : Host → List ℕ → Sent
 serialSent h bs = answered (serialNumber h bs) (serialQueued h bs) h
@@ -87,7 +90,7 @@ framePut h frame sending =
 
 unfoldable pub frameGiven : Host → Host
 frameGiven r =
-    record { phase = r .phase; port = r .port; audio = withSending (r .audio) (record { start = r .audio .sending .start; len = r .audio .sending .len + 1 }); control = r .control; timers = r .timers; stats = r .stats; lengths = r .lengths; packer = r .packer; settings = r .settings; setups = r .setups; midi = r .midi; serial = r .serial; device = r .device }
+    hostWith r (withAudio (stateOf r) (withSending (r .audio) (record { start = r .audio .sending .start; len = r .audio .sending .len + 1 })))
 
 unfoldable pub given : Host → List ℕ → List ℕ → Sent
 given h frame sending = answered (giveNumber h frame sending) (frameGiven h) h
@@ -104,7 +107,7 @@ takeNumber h received =
 -- the oldest frame leaves (`from_rytm`, 219)
 unfoldable pub frameTaken : Host → Host
 frameTaken r =
-    record { phase = r .phase; port = r .port; audio = withReceived (r .audio) (takenFrom FRAMES 1 (r .audio .received)); control = r .control; timers = r .timers; stats = r .stats; lengths = r .lengths; packer = r .packer; settings = r .settings; setups = r .setups; midi = r .midi; serial = r .serial; device = r .device }
+    hostWith r (withAudio (stateOf r) (withReceived (r .audio) (takenFrom FRAMES 1 (r .audio .received))))
 
 -- the oldest frame
 unfoldable pub oldest : Host → List ℕ → List ℕ
@@ -146,7 +149,7 @@ registersOf h page = registers page (h .port .line)
 -- the record with the line's flag (bus.rs 971)
 unfoldable pub withFlag : Host → Bool → Host
 withFlag r x =
-    record { phase = r .phase; port = withLine (r .port) x; audio = r .audio; control = r .control; timers = r .timers; stats = r .stats; lengths = r .lengths; packer = r .packer; settings = r .settings; setups = r .setups; midi = r .midi; serial = r .serial; device = r .device }
+    hostWith r (withPort (stateOf r) (withLine (r .port) x))
 
 -- a write: the record with the flag that it leaves, and the page (bus.rs 963-973)
 unfoldable pub deviceWritten : Host → List ℕ → ℕ → ℕ → ℕ → Sent

@@ -2,67 +2,26 @@
 -- (document 01, "Host record" and "Numbers of refusal").
 use Prim.Native.Nat.{ℕ, _*_}
 use mathlib.Core.Bool.{Bool, _&&_}
-use mathlib.Core.List.{List}
 use lib.Dec.{eqb, leb, ltb}
 use lib.ListN.{length}
 use Rattle.bits.specs.Pick.{pick}
-use Rattle.bus.specs.Memory.{Memory}
 use Rattle.bus.specs.Sized.{isSized}
-use Rattle.record.specs.World.{World}
+use Rattle.record.specs.World.{Lent, World, world}
 use Rattle.record.specs.Change.{FRAMES, WORDS, left}
 use Rattle.bounds.specs.Bounds.{MOST, areasOk, receivedOk, sendingOk}
 use Rattle.model.specs.Microframe as M
 use Rattle.usbhost.specs.declared.Host.{Host}
 use Rattle.usbhost.specs.declared.Framed.{Framed}
-use Rattle.usbhost.specs.Host.{stateOf, hostOf}
+use Rattle.usbhost.specs.Host.{stateOf, hostOf, ownOf}
 use Rattle.usbhost.specs.Calls.{fewSpans, bounded, unless, sendingLength}
-
--- what a microframe is lent: memory, and the areas
-pub record Lent : Type 0 where
-  pub memory : Memory
-  pub reply : List ℕ
-  pub config : List ℕ
-  pub receive : List ℕ
-  pub received : List ℕ
-  pub sending : List ℕ
-
-abbrev pub lent : Memory → List ℕ → List ℕ → List ℕ → List ℕ → List ℕ → Lent
-lent m reply config receive received sending =
-    record { memory = m; reply = reply; config = config; receive = receive; received = received; sending = sending }
 
 -- the World of a record and what it is lent, with nothing received and nothing dropped so far
 abbrev pub worldOf : Host → Lent → World
-worldOf h l =
-    record {
-      settings = h .settings;
-      packer = h .packer;
-      state = stateOf h;
-      memory = l .memory;
-      setups = h .setups;
-      midi = h .midi;
-      serial = h .serial;
-      device = h .device;
-      reply = l .reply;
-      config = l .config;
-      receive = l .receive;
-      received = l .received;
-      sending = l .sending;
-    }
+worldOf h l = world (h .settings) (h .packer) (stateOf h) (ownOf h) l
 
--- the record in a World, and what was lent
+-- the record in a World
 abbrev pub hostIn : World → Host
-hostIn w = hostOf (w .state) (w .settings) (w .packer) (w .setups) (w .midi) (w .serial) (w .device)
-
-abbrev pub lentIn : World → Lent
-lentIn w =
-    record {
-      memory = w .memory;
-      reply = w .reply;
-      config = w .config;
-      receive = w .receive;
-      received = w .received;
-      sending = w .sending;
-    }
+hostIn w = hostOf (w .state) (w .settings) (w .packer) (w .own)
 
 -- number 2, by the lengths: reply and configuration of at least 65,535 bytes, receive area of at least 196,608, the two rings
 unfoldable pub lengthsOk : ℕ → ℕ → ℕ → ℕ → ℕ → Bool

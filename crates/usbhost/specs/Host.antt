@@ -1,7 +1,7 @@
 -- The host record, a new one, and its state by parts (document 01, "Host record"; usbhost.rs 207-354).
-use Prim.Native.Nat.{ℕ, _-_, _*_}
+use Prim.Native.Nat.{_-_, _*_}
 use mathlib.Core.Bool.{false}
-use mathlib.Core.List.{List, _++_}
+use mathlib.Core.List.{_++_}
 use lib.Dec.{leb}
 use lib.ListN.{take, replicate}
 use Rattle.bits.specs.Pick.{pick}
@@ -12,6 +12,7 @@ use Rattle.record.specs.declared.Phase.the-variants.{Idle}
 use Rattle.record.specs.declared.Stage.the-variants.{Data}
 use Rattle.record.specs.declared.Settings.{Settings}
 use Rattle.record.specs.declared.State.{State}
+use Rattle.record.specs.World.{Own, own}
 use Rattle.usbhost.specs.declared.Host.{Host}
 use Rattle.usbhost.specs.declared.Created.{Created}
 
@@ -77,22 +78,7 @@ newHost c =
           };
       control = record { on = false; stage = Data; first = 0; second = 0; got = 0; t0 = 0 };
       timers = record { zero = none; one = none };
-      stats =
-          record {
-            microframes = 0;
-            «in_transfers» = 0;
-            «out_transfers» = 0;
-            «in_frames» = 0;
-            «out_frames» = 0;
-            «bad_blocks» = 0;
-            «midi_dtds» = 0;
-            «midi_asleep» = 0;
-            «out_underruns» = 0;
-            «midi_packets_out» = 0;
-            «vendor_in_bytes» = 0;
-            restarts = 0;
-            enumerations = 0;
-          };
+      stats = replicate 13 0;
       lengths = record { setups = 0; midi = 0; serial = 0; device = 0; config = 0 };
       packer = fresh;
       settings = c;
@@ -107,10 +93,10 @@ unfoldable pub created : Settings → Created
 created c =
     pick (leb (c .spans) 16) (record { refusal = 0; host = newHost (settled c) }) (record { refusal = 3; host = newHost noSettings })
 
--- ---- the record by its parts: a state, whose answer is no part of it, settings, packer, and the four arrays
+-- ---- the record by its parts: a state, whose answer is no part of it, settings, packer, and the arrays
 
-abbrev pub hostOf : State → Settings → Packer → List ℕ → List ℕ → List ℕ → List ℕ → Host
-hostOf s c p setups midi serial device =
+abbrev pub hostOf : State → Settings → Packer → Own → Host
+hostOf s c p o =
     record {
       phase = s .phase;
       port = s .port;
@@ -121,8 +107,16 @@ hostOf s c p setups midi serial device =
       lengths = s .lengths;
       packer = p;
       settings = c;
-      setups = setups;
-      midi = midi;
-      serial = serial;
-      device = device;
+      setups = o .setups;
+      midi = o .midi;
+      serial = o .serial;
+      device = o .device;
     }
+
+-- its arrays
+abbrev pub ownOf : Host → Own
+ownOf h = own (h .setups) (h .midi) (h .serial) (h .device)
+
+-- the record with another state
+abbrev pub hostWith : Host → State → Host
+hostWith h s = hostOf s (h .settings) (h .packer) (ownOf h)

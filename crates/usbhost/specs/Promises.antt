@@ -7,7 +7,7 @@ use Rattle.midi.specs.declared.Packer.{Packer}
 use Rattle.usbdev.specs.declared.Value.{Value}
 use Rattle.record.specs.declared.Settings.{Settings}
 use Rattle.record.specs.declared.State.{State}
-use Rattle.record.specs.World.{World}
+use Rattle.record.specs.World.{Own, Lent, world, own, ownSetups, ownMidi, ownSerial}
 use Rattle.usbhost.specs.declared.Host.{Host}
 use Rattle.usbhost.specs.declared.Sent.{Sent}
 use Rattle.usbhost.specs.declared.Taken.{Taken}
@@ -17,7 +17,7 @@ use Rattle.usbhost.specs.declared.Stored.{Stored}
 use Rattle.usbhost.specs.declared.TakenFrame.{TakenFrame}
 use Rattle.usbhost.specs.Host.{hostOf, noSettings}
 use Rattle.usbhost.specs.Calls.{midiSent, serialSent, given, givenRing, takenFrame, deviceRead, deviceWritten, writtenPage}
-use Rattle.usbhost.specs.Frame.{Lent, frameNumber, framed}
+use Rattle.usbhost.specs.Frame.{frameNumber, framed}
 
 -- settings with a count of gone spans
 abbrev pub withSpans : Settings → ℕ → Settings
@@ -35,74 +35,55 @@ withSpans c n =
 
 -- the parts that numbers of refusal read, in a record that is otherwise empty
 abbrev pub bare : State → ℕ → Packer → List ℕ → Host
-bare s spans p setups = hostOf s (withSpans noSettings spans) p setups [] [] []
+bare s spans p setups = hostOf s (withSpans noSettings spans) p (own setups [] [] [])
 
 abbrev pub sent : ℕ → Host → Sent
 sent number h = record { refusal = number; host = h }
 
 pub record MidiPromise (s : State) (spans : ℕ) (p : Packer) (bs setups midi : List ℕ) (r : MidiSent) (midi′ : List ℕ) : Type 0 where
   pub answer : r .state .answer ≡ s .answer
-  pub done : (c : Settings) (serial device : List ℕ)
-      → sent (r .refusal) (hostOf (r .state) (withSpans c spans) (r .packer) setups midi′ serial device)
-      ≡ midiSent (hostOf s (withSpans c spans) p setups midi serial device) bs
+  pub done : (c : Settings) (o : Own)
+      → sent (r .refusal) (hostOf (r .state) (withSpans c spans) (r .packer) (ownMidi (ownSetups o setups) midi′))
+      ≡ midiSent (hostOf s (withSpans c spans) p (ownMidi (ownSetups o setups) midi)) bs
 
 pub record SerialPromise (s : State) (spans : ℕ) (p : Packer) (bs setups serial : List ℕ) (r : Stored) (serial′ : List ℕ) : Type 0 where
   pub answer : r .state .answer ≡ s .answer
-  pub done : (c : Settings) (midi device : List ℕ)
-      → sent (r .refusal) (hostOf (r .state) (withSpans c spans) p setups midi serial′ device)
-      ≡ serialSent (hostOf s (withSpans c spans) p setups midi serial device) bs
+  pub done : (c : Settings) (o : Own)
+      → sent (r .refusal) (hostOf (r .state) (withSpans c spans) p (ownSerial (ownSetups o setups) serial′))
+      ≡ serialSent (hostOf s (withSpans c spans) p (ownSerial (ownSetups o setups) serial)) bs
 
 pub record GivePromise (s : State) (spans : ℕ) (p : Packer) (frame setups sending : List ℕ) (r : Stored) (sending′ : List ℕ) : Type 0 where
   pub answer : r .state .answer ≡ s .answer
-  pub done : (c : Settings) (midi serial device : List ℕ)
-      → sent (r .refusal) (hostOf (r .state) (withSpans c spans) p setups midi serial device)
-      ≡ given (hostOf s (withSpans c spans) p setups midi serial device) frame sending
-  pub ring : (c : Settings) (midi serial device : List ℕ)
-      → sending′ ≡ givenRing (hostOf s (withSpans c spans) p setups midi serial device) frame sending
+  pub done : (c : Settings) (o : Own)
+      → sent (r .refusal) (hostOf (r .state) (withSpans c spans) p (ownSetups o setups))
+      ≡ given (hostOf s (withSpans c spans) p (ownSetups o setups)) frame sending
+  pub ring : (c : Settings) (o : Own)
+      → sending′ ≡ givenRing (hostOf s (withSpans c spans) p (ownSetups o setups)) frame sending
 
 pub record TakePromise (s : State) (spans : ℕ) (p : Packer) (setups received : List ℕ) (r : TakenFrame) : Type 0 where
   pub answer : r .state .answer ≡ s .answer
-  pub done : (c : Settings) (midi serial device : List ℕ)
+  pub done : (c : Settings) (o : Own)
       → _≡_ {A = Taken}
-      (record { refusal = r .refusal; empty = r .empty; frame = r .frame; host = hostOf (r .state) (withSpans c spans) p setups midi serial device })
-      (takenFrame (hostOf s (withSpans c spans) p setups midi serial device) received)
+      (record { refusal = r .refusal; empty = r .empty; frame = r .frame; host = hostOf (r .state) (withSpans c spans) p (ownSetups o setups) })
+      (takenFrame (hostOf s (withSpans c spans) p (ownSetups o setups)) received)
 
 pub record ReadPromise (s : State) (spans : ℕ) (p : Packer) (setups page : List ℕ) (off size : ℕ) (r : Value) : Type 0 where
-  pub done : (c : Settings) (midi serial device : List ℕ)
+  pub done : (c : Settings) (o : Own)
       → _≡_ {A = Read}
-      (record { refusal = r .refusal; value = r .value; host = hostOf s (withSpans c spans) p setups midi serial device })
-      (deviceRead (hostOf s (withSpans c spans) p setups midi serial device) page off size)
+      (record { refusal = r .refusal; value = r .value; host = hostOf s (withSpans c spans) p (ownSetups o setups) })
+      (deviceRead (hostOf s (withSpans c spans) p (ownSetups o setups)) page off size)
 
 pub record WritePromise (s : State) (spans : ℕ) (p : Packer) (setups page : List ℕ) (off size v : ℕ) (r : Stored) (page′ : List ℕ) : Type 0 where
   pub answer : r .state .answer ≡ s .answer
-  pub done : (c : Settings) (midi serial device : List ℕ)
-      → sent (r .refusal) (hostOf (r .state) (withSpans c spans) p setups midi serial device)
-      ≡ deviceWritten (hostOf s (withSpans c spans) p setups midi serial device) page off size v
-  pub written : (c : Settings) (midi serial device : List ℕ)
-      → page′ ≡ writtenPage (hostOf s (withSpans c spans) p setups midi serial device) page off size v
+  pub done : (c : Settings) (o : Own)
+      → sent (r .refusal) (hostOf (r .state) (withSpans c spans) p (ownSetups o setups))
+      ≡ deviceWritten (hostOf s (withSpans c spans) p (ownSetups o setups)) page off size v
+  pub written : (c : Settings) (o : Own)
+      → page′ ≡ writtenPage (hostOf s (withSpans c spans) p (ownSetups o setups)) page off size v
 
 -- ---- the microframe
 
--- the World by its parts: a state with its answer, settings, packer, the four arrays, and what is lent
-abbrev pub worldBy : State → Settings → Packer → List ℕ → List ℕ → List ℕ → List ℕ → Lent → World
-worldBy s c p setups midi serial device l =
-    record {
-      settings = c;
-      packer = p;
-      state = s;
-      memory = l .memory;
-      setups = setups;
-      midi = midi;
-      serial = serial;
-      device = device;
-      reply = l .reply;
-      config = l .config;
-      receive = l .receive;
-      received = l .received;
-      sending = l .sending;
-    }
-
 -- the record h and what it is lent go as Frame says; the state's answer is the call's
-pub record FramePromise (t : ℕ) (h : Host) (l : Lent) (r : Stored) (setups midi serial device : List ℕ) (l′ : Lent) : Type 0 where
+pub record FramePromise (t : ℕ) (h : Host) (l : Lent) (r : Stored) (o : Own) (l′ : Lent) : Type 0 where
   pub number : r .refusal ≡ frameNumber h l
-  pub outcome : worldBy (r .state) (h .settings) (h .packer) setups midi serial device l′ ≡ framed t h l
+  pub outcome : world (h .settings) (h .packer) (r .state) o l′ ≡ framed t h l

@@ -1,6 +1,6 @@
 // The host record, and the calls on it: microframe, MIDI and serial send, frames given and taken, device access.
 ghost use mathlib.Core.Path.{_≡_};
-ghost use mathlib.Core.List.{List, _++_};
+ghost use mathlib.Core.List.{_++_};
 ghost use Prim.Native.Nat.{ℕ, _+_, _-_, _*_, _≤_};
 ghost use lib.ListN.{length, take, drop, replicate};
 ghost use lib.Dec.{leb};
@@ -10,11 +10,12 @@ ghost use Rattle.bounds.specs.Bounds.{inBounds};
 ghost use Rattle.model.specs.Microframe.{streaming as Microframe·streaming};
 ghost use Rattle.usbhost.specs.Calls.{unless, sendingLength, midiSent, serialSent, given, givenRing, giveNumber, takenFrame, takeNumber, deviceRead, deviceWritten, writtenPage, accessNumber};
 ghost use Rattle.usbhost.specs.Promises.{bare, MidiPromise, SerialPromise, GivePromise, TakePromise, ReadPromise, WritePromise, FramePromise};
-ghost use Rattle.usbhost.specs.Frame.{lengthsOk, boundsOk, frameNumber, lent, lentIn, framed, frameAnswer};
+ghost use Rattle.usbhost.specs.Frame.{lengthsOk, boundsOk, frameNumber, framed, frameAnswer};
 ghost use Rattle.bus.specs.Memory.{shown};
-ghost use Rattle.record.specs.Record.{withAnswer};
+ghost use Rattle.record.specs.Record.{withAnswer, counterOf, «in_frames», «out_frames»};
+ghost use Rattle.record.specs.World.{Own, own, ownSetups, lent};
 ghost use Rattle.record.specs.declared.Settings.{Settings as Record·Settings};
-ghost use Rattle.usbhost.specs.Host.{stateOf, hostOf, noSettings, newHost, created};
+ghost use Rattle.usbhost.specs.Host.{stateOf, hostOf, hostWith, noSettings, newHost, created};
 use gptimers::Timer;
 use gptimers::Timers;
 use midi::Packer;
@@ -29,7 +30,6 @@ use record::Settings;
 use record::Span;
 use record::Stage;
 use record::State;
-use record::Stats;
 use usbdev::Value;
 
 // The host record (usbhost.rs 205-288). Its fields are read by calls and written by no one outside.
@@ -39,7 +39,7 @@ pub struct Host {
     audio: Audio,
     control: Control,
     timers: Timers,
-    stats: Stats,
+    stats: [u64; record::COUNTERS],
     lengths: Lengths,
     packer: Packer,
     settings: Settings,
@@ -192,27 +192,6 @@ pub fn no_settings() -> Settings
     }
 }
 
-// Counters that have counted nothing.
-fn no_stats() -> Stats
-    ensures { λ r. ⌜ r ≡ newHost noSettings .stats ⌝ }
-{
-    Stats {
-        microframes: 0,
-        in_transfers: 0,
-        out_transfers: 0,
-        in_frames: 0,
-        out_frames: 0,
-        bad_blocks: 0,
-        midi_dtds: 0,
-        midi_asleep: 0,
-        out_underruns: 0,
-        midi_packets_out: 0,
-        vendor_in_bytes: 0,
-        restarts: 0,
-        enumerations: 0,
-    }
-}
-
 // An audio stream with no credit and empty rings, in blocks of the usual length.
 fn new_audio() -> Audio
     ensures { λ r. ⌜ r ≡ newHost noSettings .audio ⌝ }
@@ -248,7 +227,6 @@ pub fn new_state() -> State
 {
     let port = new_port();
     let audio = new_audio();
-    let stats = no_stats();
     State {
         phase: Phase::Idle,
         port,
@@ -265,7 +243,7 @@ pub fn new_state() -> State
             zero: Timer::none(),
             one: Timer::none(),
         },
-        stats,
+        stats: [0; record::COUNTERS],
         lengths: Lengths {
             setups: 0,
             midi: 0,
@@ -291,7 +269,7 @@ fn host_of(
     serial: [u8; 4096],
     device: [u8; 64],
 ) -> Host
-    ensures { λ r. ⌜ r ≡ hostOf s c p setups midi serial device ⌝ }
+    ensures { λ r. ⌜ r ≡ hostOf s c p (own setups midi serial device) ⌝ }
 {
     let phase = s.phase;
     let port = s.port;
@@ -519,7 +497,7 @@ fn frame_bounds(
     config: usize,
     sending: usize,
 ) -> bool
-    ensures { λ r. ⌜ ((c : Record·Settings) (midi serial device : List ℕ) → r ≡ boundsOk (hostOf s c p (now (setups .entry)) midi serial device) reply config sending) ⌝ }
+    ensures { λ r. ⌜ ((c : Record·Settings) (o : Own) → r ≡ boundsOk (hostOf s c p (ownSetups o (now (setups .entry)))) reply config sending) ⌝ }
 {
     let received = s.audio.received;
     let ring = s.audio.sending;
@@ -598,7 +576,7 @@ pub fn run_microframe(
     sending: &[u32],
     time: u64,
 ) -> Stored
-    ensures { λ r. ⌜ FramePromise time (hostOf s c p (now (setups .entry)) (now (midi .entry)) (now (serial .entry)) (now (device .entry))) (lent (shown (dynamic .entry) (sram .entry) (page .entry)) (now (reply .entry)) (now (config .entry)) (now (receive .entry)) (now (received .entry)) (now (sending .entry))) r (now (setups .exit)) (now (midi .exit)) (now (serial .exit)) (now (device .exit)) (lent (shown (dynamic .exit) (sram .exit) (page .exit)) (now (reply .exit)) (now (config .exit)) (now (receive .exit)) (now (received .exit)) (now (sending .entry))) ⌝ }
+    ensures { λ r. ⌜ FramePromise time (hostOf s c p (own (now (setups .entry)) (now (midi .entry)) (now (serial .entry)) (now (device .entry)))) (lent (shown (dynamic .entry) (sram .entry) (page .entry)) (now (reply .entry)) (now (config .entry)) (now (receive .entry)) (now (received .entry)) (now (sending .entry))) r (own (now (setups .exit)) (now (midi .exit)) (now (serial .exit)) (now (device .exit))) (lent (shown (dynamic .exit) (sram .exit) (page .exit)) (now (reply .exit)) (now (config .exit)) (now (receive .exit)) (now (received .exit)) (now (sending .entry))) ⌝ }
 {
     let spans = c.spans;
     let fresh = unanswered(s);
@@ -777,10 +755,25 @@ impl Host {
         }
     }
 
-    pub fn stats(self) -> Stats
+    // The counters, each at its place.
+    pub fn stats(self) -> [u64; record::COUNTERS]
         ensures { λ r. ⌜ r ≡ self .stats ⌝ }
     {
         self.stats
+    }
+
+    // Audio frames received.
+    pub fn in_frames(self) -> u64
+        ensures { λ r. ⌜ r ≡ counterOf «in_frames» (self .stats) ⌝ }
+    {
+        self.stats[record::IN_FRAMES]
+    }
+
+    // Audio frames sent.
+    pub fn out_frames(self) -> u64
+        ensures { λ r. ⌜ r ≡ counterOf «out_frames» (self .stats) ⌝ }
+    {
+        self.stats[record::OUT_FRAMES]
     }
 
     // Credit of the audio stream.
@@ -826,7 +819,7 @@ impl Host {
 
     // The record with another state.
     fn with_state(self, s: State) -> Host
-        ensures { λ r. ⌜ r ≡ hostOf s (self .settings) (self .packer) (self .setups) (self .midi) (self .serial) (self .device) ⌝ }
+        ensures { λ r. ⌜ r ≡ hostWith self s ⌝ }
     {
         let settings = self.settings;
         let packer = self.packer;
@@ -850,7 +843,7 @@ impl Host {
         received: &mut [u32],
         sending: &[u32],
     ) -> Framed
-        ensures { λ r. ⌜ (r ≡ frameAnswer time self (lent (shown (dynamic .entry) (sram .entry) (page .entry)) (now (reply .entry)) (now (config .entry)) (now (receive .entry)) (now (received .entry)) (now (sending .entry)))) × (lent (shown (dynamic .exit) (sram .exit) (page .exit)) (now (reply .exit)) (now (config .exit)) (now (receive .exit)) (now (received .exit)) (now (sending .entry)) ≡ lentIn (framed time self (lent (shown (dynamic .entry) (sram .entry) (page .entry)) (now (reply .entry)) (now (config .entry)) (now (receive .entry)) (now (received .entry)) (now (sending .entry))))) ⌝ }
+        ensures { λ r. ⌜ (r ≡ frameAnswer time self (lent (shown (dynamic .entry) (sram .entry) (page .entry)) (now (reply .entry)) (now (config .entry)) (now (receive .entry)) (now (received .entry)) (now (sending .entry)))) × (lent (shown (dynamic .exit) (sram .exit) (page .exit)) (now (reply .exit)) (now (config .exit)) (now (receive .exit)) (now (received .exit)) (now (sending .entry)) ≡ framed time self (lent (shown (dynamic .entry) (sram .entry) (page .entry)) (now (reply .entry)) (now (config .entry)) (now (receive .entry)) (now (received .entry)) (now (sending .entry))) .lent) ⌝ }
     {
         let s = self.state();
         let settings = self.settings;

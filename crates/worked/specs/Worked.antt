@@ -43,19 +43,19 @@ rewritten off old v = wordAt (written (registers (pageWith off old) false) off 4
 
 -- FRINDEX after a start of frame (`startsFrame`), from a value
 abbrev pub frindexAfter : World → ℕ → ℕ
-frindexAfter w v = wordAt (left startsFrame (atPage w (w .state) (pageWith FRINDEX v)) .memory .page) FRINDEX
+frindexAfter w v = wordAt (left startsFrame (atPage w (w .state) (pageWith FRINDEX v)) .lent .memory .page) FRINDEX
 
 -- a descriptor at 40000100 with a token, one data page behind it, named by the queue head of endpoint 1 towards the device, which is primed
 abbrev pub primedWith : World → ℕ → World
 primedWith w token =
     atBus w (w .state)
-    (memory (wordPut (wordPut (wordPut (replicate 4096 0) 0x88 0x4000_0100) 0x104 token) 0x108 0x4000_0200) (w .memory .sram)
+    (memory (wordPut (wordPut (wordPut (replicate 4096 0) 0x88 0x4000_0100) 0x104 token) 0x108 0x4000_0200) (w .lent .memory .sram)
     (wordPut (pageWith EPLISTADDR 0x4000_0000) EPSR 2))
 
 -- its token after MIDI output (`drainsMidi`) has sent a packet of four bytes
 abbrev pub tokenSent : World → ℕ → ℕ
 tokenSent w token =
-    tokenOf 0x4000_0100 (left (drainsMidi 4) (withMidiQueue (primedWith w token) (0x09 ∷ 0x90 ∷ 0x3C ∷ 0x40 ∷ [])) .memory)
+    tokenOf 0x4000_0100 (left (drainsMidi 4) (withMidiQueue (primedWith w token) (0x09 ∷ 0x90 ∷ 0x3C ∷ 0x40 ∷ [])) .lent .memory)
 
 -- timer 0 not loaded, with the load 1,000, running and repeating (control 81000000)
 abbrev pub repeating : World → World
@@ -72,7 +72,7 @@ abbrev pub count : World → ℕ → ℤ
 count w n = signed (afterTicks n (repeating w) .state .timers .zero .count)
 
 abbrev pub raised : World → ℕ → Bool
-raised w n = any (wordAt (afterTicks n (repeating w) .memory .page) USBSTS) (2 ^ 24)
+raised w n = any (wordAt (afterTicks n (repeating w) .lent .memory .page) USBSTS) (2 ^ 24)
 
 -- the last example: an interface and its endpoint
 abbrev pub descriptors : List ℕ

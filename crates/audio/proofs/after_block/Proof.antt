@@ -19,25 +19,25 @@ cast-wrapping-add-u16 c = search needs
 wrapping-add-u16-requires : tie.Need-wrapping-add-u16-requires
 wrapping-add-u16-requires c κs = search needs
 
-wrapping-add-u64-requires : tie.Need-wrapping-add-u64-requires
-wrapping-add-u64-requires c κs = search needs
-
-wrapping-add-u64-requires-2 : tie.Need-wrapping-add-u64-requires-2
-wrapping-add-u64-requires-2 c κs = search needs
-
-wrapping-add-u64-requires-3 : tie.Need-wrapping-add-u64-requires-3
-wrapping-add-u64-requires-3 c κs = search needs
-
 sub-credit : tie.Need-sub-credit
 sub-credit c = search needs
 
 sub-len : tie.Need-sub-len
 sub-len c = search needs
 
+count-requires : tie.Need-count-requires
+count-requires c κs = search needs
+
+count-requires-2 : tie.Need-count-requires-2
+count-requires-2 c κs = search needs
+
+count-requires-3 : tie.Need-count-requires-3
+count-requires-3 c κs = search needs
+
 returns : tie.Need-returns
 returns c =
-    let a = c .before .before .before .before .before .before .before .before .before .before .before .before .before .before .before .before .args in
-    sent-as (a .s) (a .capacity) _ _ _ _ _ _ (c .before .before .before .before .before .before .before .before .before .before .before .before .before .before .fewer .ensures) (c .before .before .before .before .before .before .before .before .before .before .before .before .before .place .ensures) (c .before .before .before .before .before .before .before .before .before .before .before .before .wrapping-add-u16 .ensures) (c .before .before .before .before .before .before .before .before .before .before .before .wrapping-add-u64 .ensures) (c .before .before .before .before .before .before .before .before .before .before .wrapping-add-u642 .ensures) (c .before .before .before .before .before .before .before .before .before .wrapping-add-u643 .ensures)
+    let a = c .before .before .before .before .before .before .before .before .before .before .before .before .before .args in
+    sent-as (a .s) (a .capacity) _ _ _ (c .before .before .before .before .before .before .before .before .before .before .before .fewer .ensures) (c .before .before .before .before .before .before .before .before .before .before .place .ensures) (c .before .before .before .before .before .before .before .before .before .wrapping-add-u16 .ensures) (c .before .before .before .before .before .before .count .ensures) (c .before .before .before .before .before .count2 .ensures) (c .before .before .before .before .count3 .ensures)
 
 pub after-block-spec : {M : Type 1} → statement M
 after-block-spec =
@@ -48,9 +48,9 @@ after-block-spec =
     place-requires
     cast-wrapping-add-u16
     wrapping-add-u16-requires
-    wrapping-add-u64-requires
-    wrapping-add-u64-requires-2
-    wrapping-add-u64-requires-3
     sub-credit
     sub-len
+    count-requires
+    count-requires-2
+    count-requires-3
     returns)

@@ -25,7 +25,7 @@ decoded-of-requires c κs = search needs
 
 decode-run-requires : tie.Need-decode-run-requires
 decode-run-requires c κs =
-    (c .before .before .before .before .before .before .before .before .before .before .before .before .before .before .before .before .pre .0, (few-bytes (c .before .before .before .before .before .before .before .before .before .before .before .before .before .before .before .before .args .tok) _ (c .before .before .before .before .before .before .before .before .before .before .before .total .ensures), (subst (λ (x : Decoded). InRing (x .ring)) (sym (c .before .before .before .before .before .decoded-of .ensures)) (c .before .before .before .before .before .before .before .before .before .before .before .before .before .before .before .before .pre .1 .0 .0), c .before .before .before .before .before .before .before .before .before .before .before .before .before .before .before .before .pre .1 .0 .1)))
+    (c .before .before .before .before .before .before .before .before .before .before .before .before .before .before .before .before .pre .0, (few-bytes (c .before .before .before .before .before .before .before .before .before .before .before .before .before .before .before .before .args .tok) _ (c .before .before .before .before .before .before .before .before .before .before .before .total .ensures), (subst (λ (x : Decoded). InRing (x .ring)) (sym (c .before .before .before .before .before .decoded-of .ensures .0)) (c .before .before .before .before .before .before .before .before .before .before .before .before .before .before .before .before .pre .1 .0 .0), c .before .before .before .before .before .before .before .before .before .before .before .before .before .before .before .before .pre .1 .0 .1)))
 
 take-one-requires : tie.Need-take-one-requires
 take-one-requires c κs = c .before .before .before .before .before .before .before .before .before .before .before .before .before .before .before .before .before .before .before .before .before .before .pre .0
@@ -55,7 +55,7 @@ returns : tie.Need-returns
 returns c =
     let a = c .before .before .before .before .before .before .before .before .before .before .before .before .before .before .before .before .before .before .before .before .before .before .before .before .before .before .before .before .before .before .before .before .before .args in
     let m = shown (a .dynamic) (a .sram) (a .page) in
-    input-steps (a .s) m _ (a .received .now) _ (a .qh) (a .td) (a .tok) _ _ _ _ _ (c .before .before .before .before .before .before .before .before .before .before .before .before .before .before .before .before .before .before .before .before .before .before .before .before .before .before .before .before .before .before .before .before .before .pre .0) (c .before .before .before .before .before .before .before .before .before .before .before .before .before .before .before .before .before .before .before .before .before .before .before .before .before .before .before .before .before .before .before .before .before .pre .1 .1) (c .before .before .before .before .before .before .before .before .before .before .before .before .before .before .before .before .before .before .before .before .before .before .before .before .before .before .before .before .total .ensures) _ (c .before .before .before .before .before .before .before .before .before .before .before .before .before .before .before .before .before .before .before .before .before .before .before .before .clear .ensures) (c .before .before .before .before .before .before .before .before .before .before .before .before .before .before .before .before .before .before .before .before .before .before .before .pointers-for .ensures) _ (c .before .before .before .before .before .before .before .before .before .before .before .before .before .before .before .before .before .before .before .before .before .before .decoded-of .ensures) (c .before .before .before .before .before .before .before .before .before .before .before .before .before .before .before .before .decode-run .ensures) (c .before .before .before .before .before .before .before .before .before .before .take-one .ensures) refl _ _ _ (c .before .before .before .after-run .ensures) (c .before .count-in .ensures) (c .with-decoded .ensures)
+    input-steps (a .s) m _ (a .received .now) _ (a .qh) (a .td) (a .tok) _ _ _ _ _ (c .before .before .before .before .before .before .before .before .before .before .before .before .before .before .before .before .before .before .before .before .before .before .before .before .before .before .before .before .before .before .before .before .before .pre .0) (c .before .before .before .before .before .before .before .before .before .before .before .before .before .before .before .before .before .before .before .before .before .before .before .before .before .before .before .before .before .before .before .before .before .pre .1 .1) (c .before .before .before .before .before .before .before .before .before .before .before .before .before .before .before .before .before .before .before .before .before .before .before .before .before .before .before .before .total .ensures) _ (c .before .before .before .before .before .before .before .before .before .before .before .before .before .before .before .before .before .before .before .before .before .before .before .before .clear .ensures) (c .before .before .before .before .before .before .before .before .before .before .before .before .before .before .before .before .before .before .before .before .before .before .before .pointers-for .ensures) _ (c .before .before .before .before .before .before .before .before .before .before .before .before .before .before .before .before .before .before .before .before .before .before .decoded-of .ensures .0) (c .before .before .before .before .before .before .before .before .before .before .before .before .before .before .before .before .decode-run .ensures) (c .before .before .before .before .before .before .before .before .before .before .take-one .ensures) refl (c .before .before .before .before .before .before .before .before .before .before .before .before .before .before .before .before .before .before .before .before .before .before .decoded-of .ensures .1) _ _ _ (c .before .before .before .after-run .ensures) (c .before .count-in .ensures) (c .with-decoded .ensures)
 
 pub take-blocks-spec : {M : Type 1} → statement M
 take-blocks-spec =

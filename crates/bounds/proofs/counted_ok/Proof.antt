@@ -4,6 +4,9 @@ use borrow.Author.Needs.{needs}
 use Rattle.bounds.proofs.counted_ok.Statement.{statement}
 use Rattle.bounds.proofs.counted_ok.Tie as tie
 
+counter-requires : tie.Need-counter-requires
+counter-requires c κs = search needs
+
 counts-ok-requires : tie.Need-counts-ok-requires
 counts-ok-requires c κs = search needs
 
@@ -17,12 +20,13 @@ timers-ok-requires : tie.Need-timers-ok-requires
 timers-ok-requires c κs = search needs
 
 returns : tie.Need-returns
-returns c = rw (c .before .before .before .counts-ok .ensures, c .before .before .counters-ok .ensures, c .before .credit-ok .ensures, c .timers-ok .ensures) refl
+returns c = rw (c .before .before .before .counts-ok .ensures, c .before .before .counters-ok .ensures, c .before .credit-ok .ensures, c .timers-ok .ensures, c .before .before .before .before .counter .ensures) refl
 
 pub counted-ok-spec : {M : Type 1} → statement M
 counted-ok-spec =
     tie.close
     (tie.spec
+    counter-requires
     counts-ok-requires
     counters-ok-requires
     credit-ok-requires

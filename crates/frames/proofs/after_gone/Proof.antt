@@ -2,7 +2,7 @@
 use native.Mathlib.Omega.{arith}
 use Rattle.bus.specs.Memory.{memory}
 use Rattle.model.specs.Phases.{within}
-use Rattle.frames.specs.Promises.{areas}
+use Rattle.record.specs.World.{own, lent}
 use Rattle.frames.proofs.Kept.{going-suspends}
 use Rattle.frames.proofs.Steps.{sized-page, gone-sleeps, gone-goes}
 use borrow.Author.Needs.{needs}
@@ -13,7 +13,7 @@ asleep-requires : tie.Need-asleep-requires
 asleep-requires c κs = search needs
 
 returns : tie.Need-returns
-returns c = let a = c .before .before .before .before .before .before .before .before .before .before .args in gone-sleeps (a .c) (a .time) (a .running) (a .s) (areas (a .setups .now) (a .midi .now) (a .serial .now) (a .device .now) (a .reply .now) (a .config .now) (a .receive .now) (a .received .now)) (a .sending .now) (memory (a .dynamic .now) (a .sram .now) (a .page .now)) (a .gone) (within (a .c .suspend) (a .time)) (c .before .if1 .taken) (c .before .before .before .before .before .before .before .before .before .before .pre .0) _ (c .asleep .ensures)
+returns c = let a = c .before .before .before .before .before .before .before .before .before .before .args in gone-sleeps (a .c) (a .time) (a .running) (a .s) (own (a .setups .now) (a .midi .now) (a .serial .now) (a .device .now)) (lent (memory (a .dynamic .now) (a .sram .now) (a .page .now)) (a .reply .now) (a .config .now) (a .receive .now) (a .received .now) (a .sending .now)) (a .gone) (within (a .c .suspend) (a .time)) (c .before .if1 .taken) (c .before .before .before .before .before .before .before .before .before .before .pre .0) _ (c .asleep .ensures)
 
 in-span-requires : tie.Need-in-span-requires
 in-span-requires c κs = search needs
@@ -46,7 +46,7 @@ same-length-7 : tie.Need-same-length-7
 same-length-7 c = search needs
 
 returns-2 : tie.Need-returns-2
-returns-2 c = let a = c .before .before .before .before .before .before .before .before .before .before .before .before .before .before .before .before .before .before .before .before .before .before .before .before .before .before .before .before .before .before .before .before .before .before .before .before .before .before .before .before .before .args in gone-goes (a .c) (a .time) (a .running) (a .s) (areas (a .setups .now) (a .midi .now) (a .serial .now) (a .device .now) (a .reply .now) (a .config .now) (a .receive .now) (a .received .now)) (a .sending .now) (memory (a .dynamic .now) (a .sram .now) (a .page .now)) _ (a .gone) _ (within (a .c .suspend) (a .time)) (c .before .before .before .before .before .before .before .before .before .before .before .before .before .before .before .before .before .before .before .before .before .before .before .before .before .before .before .before .before .before .before .before .if1 .left) (c .before .before .before .before .before .before .before .before .before .before .before .before .before .before .before .before .before .before .before .before .before .before .before .before .before .before .before .before .before .before .in-span .ensures) _ _ _ _ (c .before .before .before .before .before .before .before .before .before .before .before .before .before .before .before .before .before .before .before .before .before .before .before .before .before .before .before .before .suspend-step .ensures) (c .before .before .before .before .before .before .before .before .before .before .before .before .before .before .after-suspend .ensures)
+returns-2 c = let a = c .before .before .before .before .before .before .before .before .before .before .before .before .before .before .before .before .before .before .before .before .before .before .before .before .before .before .before .before .before .before .before .before .before .before .before .before .before .before .before .before .before .args in gone-goes (a .c) (a .time) (a .running) (a .s) (own (a .setups .now) (a .midi .now) (a .serial .now) (a .device .now)) (lent (memory (a .dynamic .now) (a .sram .now) (a .page .now)) (a .reply .now) (a .config .now) (a .receive .now) (a .received .now) (a .sending .now)) (a .gone) _ (within (a .c .suspend) (a .time)) (c .before .before .before .before .before .before .before .before .before .before .before .before .before .before .before .before .before .before .before .before .before .before .before .before .before .before .before .before .before .before .before .before .if1 .left) (c .before .before .before .before .before .before .before .before .before .before .before .before .before .before .before .before .before .before .before .before .before .before .before .before .before .before .before .before .before .before .in-span .ensures) _ _ _ _ _ (c .before .before .before .before .before .before .before .before .before .before .before .before .before .before .before .before .before .before .before .before .before .before .before .before .before .before .before .before .suspend-step .ensures) (c .before .before .before .before .before .before .before .before .before .before .before .before .before .before .after-suspend .ensures)
 
 pub after-gone-spec : {M : Type 1} → statement M
 after-gone-spec =

@@ -1,6 +1,6 @@
 -- `frames::after_suspend` meets its contract.
 use Rattle.bus.specs.Memory.{memory}
-use Rattle.frames.specs.Promises.{areas}
+use Rattle.record.specs.World.{own, lent}
 use Rattle.frames.proofs.Kept.{going-leaves}
 use Rattle.frames.proofs.Steps.{suspended-sleeps, suspended-goes}
 use borrow.Author.Needs.{needs}
@@ -11,7 +11,7 @@ asleep-requires : tie.Need-asleep-requires
 asleep-requires c κs = search needs
 
 returns : tie.Need-returns
-returns c = let a = c .before .before .before .before .before .before .before .before .before .before .args in suspended-sleeps (a .c) (a .time) (a .running) (a .s) (areas (a .setups .now) (a .midi .now) (a .serial .now) (a .device .now) (a .reply .now) (a .config .now) (a .receive .now) (a .received .now)) (a .sending .now) (memory (a .dynamic .now) (a .sram .now) (a .page .now)) (a .asleep) (c .before .if1 .taken) (c .before .before .before .before .before .before .before .before .before .before .pre .0) _ (c .asleep .ensures)
+returns c = let a = c .before .before .before .before .before .before .before .before .before .before .args in suspended-sleeps (a .c) (a .time) (a .running) (a .s) (own (a .setups .now) (a .midi .now) (a .serial .now) (a .device .now)) (lent (memory (a .dynamic .now) (a .sram .now) (a .page .now)) (a .reply .now) (a .config .now) (a .receive .now) (a .received .now) (a .sending .now)) (a .asleep) (c .before .if1 .taken) (c .before .before .before .before .before .before .before .before .before .before .pre .0) _ (c .asleep .ensures)
 
 left-step-requires : tie.Need-left-step-requires
 left-step-requires c κs = search needs
@@ -41,7 +41,7 @@ same-length-7 : tie.Need-same-length-7
 same-length-7 c = search needs
 
 returns-2 : tie.Need-returns-2
-returns-2 c = let a = c .before .before .before .before .before .before .before .before .before .before .before .before .before .before .before .before .before .before .before .before .before .before .before .before .before .before .before .before .before .before .before .before .before .before .before .before .args in suspended-goes (a .c) (a .time) (a .running) (a .s) (areas (a .setups .now) (a .midi .now) (a .serial .now) (a .device .now) (a .reply .now) (a .config .now) (a .receive .now) (a .received .now)) (a .sending .now) (memory (a .dynamic .now) (a .sram .now) (a .page .now)) _ (a .asleep) (c .before .before .before .before .before .before .before .before .before .before .before .before .before .before .before .before .before .before .before .before .before .before .before .before .before .before .before .if1 .left) _ _ _ (c .before .before .before .before .before .before .before .before .before .before .before .before .before .before .before .before .before .before .before .before .before .before .before .before .before .before .left-step .ensures) (c .before .before .before .before .before .before .before .before .before .before .before .before .before .before .by-phase .ensures)
+returns-2 c = let a = c .before .before .before .before .before .before .before .before .before .before .before .before .before .before .before .before .before .before .before .before .before .before .before .before .before .before .before .before .before .before .before .before .before .before .before .before .args in suspended-goes (a .c) (a .time) (a .running) (a .s) (own (a .setups .now) (a .midi .now) (a .serial .now) (a .device .now)) (lent (memory (a .dynamic .now) (a .sram .now) (a .page .now)) (a .reply .now) (a .config .now) (a .receive .now) (a .received .now) (a .sending .now)) (a .asleep) (c .before .before .before .before .before .before .before .before .before .before .before .before .before .before .before .before .before .before .before .before .before .before .before .before .before .before .before .if1 .left) _ _ _ _ (c .before .before .before .before .before .before .before .before .before .before .before .before .before .before .before .before .before .before .before .before .before .before .before .before .before .before .left-step .ensures) (c .before .before .before .before .before .before .before .before .before .before .before .before .before .before .by-phase .ensures)
 
 pub after-suspend-spec : {M : Type 1} → statement M
 after-suspend-spec =

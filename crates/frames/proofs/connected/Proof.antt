@@ -2,7 +2,7 @@
 use native.Mathlib.Omega.{arith}
 use borrow.Author.Tests.{not-true, not-false}
 use Rattle.bus.specs.Memory.{memory}
-use Rattle.frames.specs.Promises.{areas}
+use Rattle.record.specs.World.{own, lent}
 use Rattle.frames.proofs.Kept.{going-frame}
 use Rattle.frames.proofs.Steps.{sized-page, bounded-of, flows-control, talks-off, talks-goes}
 use borrow.Author.Needs.{needs}
@@ -10,16 +10,16 @@ use Rattle.frames.proofs.connected.Statement.{statement}
 use Rattle.frames.proofs.connected.Tie as tie
 
 returns : tie.Need-returns
-returns c = let a = c .before .before .before .before .before .before .before .before .before .args in talks-off (a .c) (a .time) (a .s) (memory (a .dynamic .now) (a .sram .now) (a .page .now)) (areas (a .setups .now) (a .midi .now) (a .serial .now) (a .device .now) (a .reply .now) (a .config .now) (a .receive .now) (a .received .now)) (a .sending .now) (a .running) (not-true (a .running) (c .if1 .taken)) (c .before .before .before .before .before .before .before .before .before .pre .0)
+returns c = let a = c .before .before .before .before .before .before .before .before .before .args in talks-off (a .c) (a .time) (a .s) (own (a .setups .now) (a .midi .now) (a .serial .now) (a .device .now)) (lent (memory (a .dynamic .now) (a .sram .now) (a .page .now)) (a .reply .now) (a .config .now) (a .receive .now) (a .received .now) (a .sending .now)) (a .running) (not-true (a .running) (c .if1 .taken)) (c .before .before .before .before .before .before .before .before .before .pre .0)
 
 start-of-frame-requires : tie.Need-start-of-frame-requires
 start-of-frame-requires c κs = search needs
 
 control-requires : tie.Need-control-requires
-control-requires c κs = let a = c .before .before .before .before .before .before .before .before .before .before .before .before .before .before .before .before .before .before .before .before .args in let g = going-frame (a .c) (a .sending .now) _ _ _ _ (c .before .before .before .before .before .before .before .before .before .start-of-frame .ensures) (c .before .before .before .before .before .before .before .before .before .before .before .before .before .before .before .before .before .before .before .before .pre .1 .1) in (sized-page _ _ _ _ (c .before .before .before .before .before .before .before .before .before .before .before .before .before .before .before .before .before .before .before .before .pre .0) (omega (arith, c .before .before .before .before .before .before .before .before .page .given, c .before .before .before .before .before .before .before .before .before .before .before .before .before .before .before .before .before .before .before .before .pre .0 .page-length)), (bounded-of _ (g .asks), (c .before .before .before .before .before .before .before .before .before .before .before .before .before .before .before .before .before .before .before .before .pre .1 .0 .reply, c .before .before .before .before .before .before .before .before .before .before .before .before .before .before .before .before .before .before .before .before .pre .1 .0 .config)))
+control-requires c κs = let a = c .before .before .before .before .before .before .before .before .before .before .before .before .before .before .before .before .before .before .before .before .args in let g = going-frame (a .c) (a .sending .now) _ _ _ _ (c .before .before .before .before .before .before .before .before .before .start-of-frame .ensures) (c .before .before .before .before .before .before .before .before .before .before .before .before .before .before .before .before .before .before .before .before .pre .1 .1) in (sized-page _ _ _ _ (c .before .before .before .before .before .before .before .before .before .before .before .before .before .before .before .before .before .before .before .before .pre .0) (omega (arith, c .before .before .before .before .before .before .before .before .page .given, c .before .before .before .before .before .before .before .before .before .before .before .before .before .before .before .before .before .before .before .before .pre .0 .page-length)), (bounded-of _ (g .asks), (c .before .before .before .before .before .before .before .before .before .before .before .before .before .before .before .before .before .before .before .before .pre .1 .0 .reply-long, c .before .before .before .before .before .before .before .before .before .before .before .before .before .before .before .before .before .before .before .before .pre .1 .0 .config-long)))
 
 streaming-requires : tie.Need-streaming-requires
-streaming-requires c κs = let a = c .before .before .before .before .before .before .before .before .before .before .before .before .before .before .before .before .before .before .before .before .before .before .before .before .before .before .before .before .before .before .before .before .before .before .before .before .before .before .args in let g = going-frame (a .c) (a .sending .now) _ _ _ _ (c .before .before .before .before .before .before .before .before .before .before .before .before .before .before .before .before .before .before .before .before .before .before .before .before .before .before .before .start-of-frame .ensures) (c .before .before .before .before .before .before .before .before .before .before .before .before .before .before .before .before .before .before .before .before .before .before .before .before .before .before .before .before .before .before .before .before .before .before .before .before .before .before .pre .1 .1) in (c .before .before .before .before .before .before .before .before .before .before .before .before .before .before .before .before .before .control .ensures .sized, ((c .before .before .before .before .before .before .before .before .before .before .before .before .before .before .before .before .before .before .before .before .before .before .before .before .before .before .before .before .before .before .before .before .before .before .before .before .before .before .pre .1 .0 .receive, c .before .before .before .before .before .before .before .before .before .before .before .before .before .before .before .before .before .before .before .before .before .before .before .before .before .before .before .before .before .before .before .before .before .before .before .before .before .before .pre .1 .0 .received), flows-control (a .c) (a .sending .now) (a .c .«device_stack») _ _ _ _ _ _ _ _ _ _ _ _ (c .before .before .before .before .before .before .before .before .before .before .before .before .before .before .before .before .before .control .ensures) (g .flows)))
+streaming-requires c κs = let a = c .before .before .before .before .before .before .before .before .before .before .before .before .before .before .before .before .before .before .before .before .before .before .before .before .before .before .before .before .before .before .before .before .before .before .before .before .before .before .args in let g = going-frame (a .c) (a .sending .now) _ _ _ _ (c .before .before .before .before .before .before .before .before .before .before .before .before .before .before .before .before .before .before .before .before .before .before .before .before .before .before .before .start-of-frame .ensures) (c .before .before .before .before .before .before .before .before .before .before .before .before .before .before .before .before .before .before .before .before .before .before .before .before .before .before .before .before .before .before .before .before .before .before .before .before .before .before .pre .1 .1) in (c .before .before .before .before .before .before .before .before .before .before .before .before .before .before .before .before .before .control .ensures .sized, ((c .before .before .before .before .before .before .before .before .before .before .before .before .before .before .before .before .before .before .before .before .before .before .before .before .before .before .before .before .before .before .before .before .before .before .before .before .before .before .pre .1 .0 .receive-long, c .before .before .before .before .before .before .before .before .before .before .before .before .before .before .before .before .before .before .before .before .before .before .before .before .before .before .before .before .before .before .before .before .before .before .before .before .before .before .pre .1 .0 .received-whole), flows-control (a .c) (a .sending .now) (a .c .«device_stack») _ _ _ _ _ _ _ _ _ _ _ _ (c .before .before .before .before .before .before .before .before .before .before .before .before .before .before .before .before .before .control .ensures) (g .flows)))
 
 same-length : tie.Need-same-length
 same-length c = omega (arith, c .before .before .before .before .before .before .before .before .before .before .before .before .before .before .before .before .before .before .before .before .before .before .before .before .before .before .before .dynamic .given, c .before .before .before .before .before .before .before .before .before .dynamic2 .given)
@@ -43,7 +43,7 @@ same-length-7 : tie.Need-same-length-7
 same-length-7 c = search needs
 
 returns-2 : tie.Need-returns-2
-returns-2 c = let a = c .before .before .before .before .before .before .before .before .before .before .before .before .before .before .before .before .before .before .before .before .before .before .before .before .before .before .before .before .before .before .before .before .before .before .before .before .before .before .before .before .before .before .before .before .before .before .before .before .before .args in talks-goes (a .c) (a .time) (a .s) (memory (a .dynamic .now) (a .sram .now) (a .page .now)) (areas (a .setups .now) (a .midi .now) (a .serial .now) (a .device .now) (a .reply .now) (a .config .now) (a .receive .now) (a .received .now)) (a .sending .now) (a .running) (not-false (a .running) (c .before .before .before .before .before .before .before .before .before .before .before .before .before .before .before .before .before .before .before .before .before .before .before .before .before .before .before .before .before .before .before .before .before .before .before .before .before .before .before .before .if1 .left)) _ _ (c .before .before .before .before .before .before .before .before .before .before .before .before .before .before .before .before .before .before .before .before .before .before .before .before .before .before .before .before .before .before .before .before .before .before .before .before .before .before .start-of-frame .ensures) _ _ _ _ _ _ (c .before .before .before .before .before .before .before .before .before .before .before .before .before .before .before .before .before .before .before .before .before .before .before .before .before .before .before .before .control .ensures) _ _ _ _ _ _ (c .before .before .before .before .before .before .before .before .before .before .streaming .ensures)
+returns-2 c = let a = c .before .before .before .before .before .before .before .before .before .before .before .before .before .before .before .before .before .before .before .before .before .before .before .before .before .before .before .before .before .before .before .before .before .before .before .before .before .before .before .before .before .before .before .before .before .before .before .before .before .args in talks-goes (a .c) (a .time) (a .s) (own (a .setups .now) (a .midi .now) (a .serial .now) (a .device .now)) (lent (memory (a .dynamic .now) (a .sram .now) (a .page .now)) (a .reply .now) (a .config .now) (a .receive .now) (a .received .now) (a .sending .now)) (a .running) (not-false (a .running) (c .before .before .before .before .before .before .before .before .before .before .before .before .before .before .before .before .before .before .before .before .before .before .before .before .before .before .before .before .before .before .before .before .before .before .before .before .before .before .before .before .if1 .left)) _ _ (c .before .before .before .before .before .before .before .before .before .before .before .before .before .before .before .before .before .before .before .before .before .before .before .before .before .before .before .before .before .before .before .before .before .before .before .before .before .before .start-of-frame .ensures) _ _ _ _ _ _ (c .before .before .before .before .before .before .before .before .before .before .before .before .before .before .before .before .before .before .before .before .before .before .before .before .before .before .before .before .control .ensures) _ _ _ _ _ _ (c .before .before .before .before .before .before .before .before .before .before .streaming .ensures)
 
 pub connected-spec : {M : Type 1} → statement M
 connected-spec =

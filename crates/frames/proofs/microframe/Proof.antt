@@ -4,7 +4,7 @@ use Prim.Native.Nat.{ℕ}
 use native.Mathlib.Omega.{arith}
 use Rattle.bits.specs.Word.{any}
 use Rattle.bus.specs.Memory.{memory}
-use Rattle.frames.specs.Promises.{areas}
+use Rattle.record.specs.World.{own, lent}
 use Rattle.frames.proofs.Kept.{going-opens}
 use Rattle.frames.proofs.Steps.{sized-page, whole-frame}
 use borrow.Author.Needs.{needs}
@@ -48,7 +48,7 @@ same-length-7 : tie.Need-same-length-7
 same-length-7 c = search needs
 
 returns : tie.Need-returns
-returns c = let a = c .before .before .before .before .before .before .before .before .before .before .before .before .before .before .before .before .before .before .before .before .before .before .before .before .before .before .before .before .before .before .before .before .before .before .before .before .before .before .before .before .before .before .args in whole-frame (a .c) (a .time) (a .s) (memory (a .dynamic .now) (a .sram .now) (a .page .now)) (areas (a .setups .now) (a .midi .now) (a .serial .now) (a .device .now) (a .reply .now) (a .config .now) (a .receive .now) (a .received .now)) (a .sending .now) _ _ (c .before .before .before .before .before .before .before .before .before .before .before .before .before .before .before .before .before .before .before .before .before .before .before .before .before .before .before .before .before .before .before .any .ensures ∙ ap (λ (x : ℕ). any x 1) (c .before .before .before .before .before .before .before .before .before .before .before .before .before .before .before .before .before .before .before .before .before .before .before .before .before .before .before .before .before .before .before .before .word-at .ensures)) (c .before .before .before .before .before .before .before .before .before .before .before .before .before .before .before .before .before .before .before .before .before .before .before .before .before .before .before .before .before .before .in-gone .ensures) _ _ _ _ _ (c .before .before .before .before .before .before .before .before .before .before .before .before .before .before .before .before .before .before .before .before .before .before .before .before .before .before .before .before .opened .ensures) (c .before .before .before .before .before .before .before .before .before .before .before .before .before .before .after-gone .ensures)
+returns c = let a = c .before .before .before .before .before .before .before .before .before .before .before .before .before .before .before .before .before .before .before .before .before .before .before .before .before .before .before .before .before .before .before .before .before .before .before .before .before .before .before .before .before .before .args in whole-frame (a .c) (a .time) (a .s) (own (a .setups .now) (a .midi .now) (a .serial .now) (a .device .now)) (lent (memory (a .dynamic .now) (a .sram .now) (a .page .now)) (a .reply .now) (a .config .now) (a .receive .now) (a .received .now) (a .sending .now)) _ _ (c .before .before .before .before .before .before .before .before .before .before .before .before .before .before .before .before .before .before .before .before .before .before .before .before .before .before .before .before .before .before .before .any .ensures ∙ ap (λ (x : ℕ). any x 1) (c .before .before .before .before .before .before .before .before .before .before .before .before .before .before .before .before .before .before .before .before .before .before .before .before .before .before .before .before .before .before .before .before .word-at .ensures)) (c .before .before .before .before .before .before .before .before .before .before .before .before .before .before .before .before .before .before .before .before .before .before .before .before .before .before .before .before .before .before .in-gone .ensures) _ _ _ _ _ (c .before .before .before .before .before .before .before .before .before .before .before .before .before .before .before .before .before .before .before .before .before .before .before .before .before .before .before .before .opened .ensures) (c .before .before .before .before .before .before .before .before .before .before .before .before .before .before .after-gone .ensures)
 
 pub microframe-spec : {M : Type 1} → statement M
 microframe-spec =

@@ -13,11 +13,11 @@ returns c = let a = c .before .before .before .before .before .before .args in m
 in-span-requires : tie.Need-in-span-requires
 in-span-requires c κs = search needs
 
-midi-asleep-requires : tie.Need-midi-asleep-requires
-midi-asleep-requires c κs = search needs
+count-requires : tie.Need-count-requires
+count-requires c κs = search needs
 
 returns-2 : tie.Need-returns-2
-returns-2 c = let a = c .before .before .before .before .before .before .before .before .before .before .args in midi-sleeps (a .c) (a .time) (a .s) (memory (a .dynamic .now) (a .sram .now) (a .page .now)) (a .receive .now) (not-false (a .c .«midi_in») (c .before .before .before .before .if1 .left)) (sym (c .before .before .in-span .ensures) ∙ c .before .if2 .taken) _ (c .midi-asleep .ensures .0) (c .midi-asleep .ensures .1) (c .before .before .before .before .before .before .before .before .before .before .pre .0)
+returns-2 c = let a = c .before .before .before .before .before .before .before .before .before .before .args in midi-sleeps (a .c) (a .time) (a .s) (memory (a .dynamic .now) (a .sram .now) (a .page .now)) (a .receive .now) (not-false (a .c .«midi_in») (c .before .before .before .before .if1 .left)) (sym (c .before .before .in-span .ensures) ∙ c .before .if2 .taken) _ (c .count .ensures) (c .before .before .before .before .before .before .before .before .before .before .pre .0)
 
 midi-step-requires : tie.Need-midi-step-requires
 midi-step-requires c κs = search needs
@@ -43,7 +43,7 @@ midi-in-spec =
     (tie.spec
     returns
     in-span-requires
-    midi-asleep-requires
+    count-requires
     returns-2
     midi-step-requires
     same-length

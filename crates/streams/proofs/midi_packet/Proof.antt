@@ -35,8 +35,8 @@ drain-requires c κs = search needs
 after-run-requires : tie.Need-after-run-requires
 after-run-requires c κs = search needs
 
-count-packets-requires : tie.Need-count-packets-requires
-count-packets-requires c κs = search needs
+count-requires : tie.Need-count-requires
+count-requires c κs = search needs
 
 sub-rest : tie.Need-sub-rest
 sub-rest c =
@@ -60,7 +60,7 @@ returns c =
     let sent = c .before .before .before .before .before .before .before .before .before .before .before .before .before in
     let start = sent .before .before .before .before .before .before .before .before .before .before in
     let run = runs-active (endpoint 1 false) _ (shown (start .args .dynamic) (start .args .sram) (start .args .page)) (start .args .s .port .line) (start .pre .0) (single 1 false (omega arith)) _ _ _ (start .pre .1 .1) _ refl (sent .send-one .ensures 1) in
-    midi-sent (start .args .s) (shown (start .args .dynamic) (start .args .sram) (start .args .page)) _ (start .args .midi .now) _ _ run _ (c .before .before .after-run .ensures) _ (c .before .count-packets .ensures) _ (c .before .before .before .before .before .before .before .before .before .before .before .before .before .before .before .before .before .before .packet-of .ensures) refl (c .before .before .before .before .before .drain .ensures)
+    midi-sent (start .args .s) (shown (start .args .dynamic) (start .args .sram) (start .args .page)) _ (start .args .midi .now) _ _ run _ (c .before .before .after-run .ensures) _ (c .before .count .ensures) _ (c .before .before .before .before .before .before .before .before .before .before .before .before .before .before .before .before .before .before .packet-of .ensures) refl (c .before .before .before .before .before .drain .ensures)
 
 pub midi-packet-spec : {M : Type 1} → statement M
 midi-packet-spec =
@@ -73,7 +73,7 @@ midi-packet-spec =
     send-one-requires
     drain-requires
     after-run-requires
-    count-packets-requires
+    count-requires
     sub-rest
     same-length
     same-length-2

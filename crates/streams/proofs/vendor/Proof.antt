@@ -11,8 +11,11 @@ run-count-requires c κs = search needs
 after-run-requires : tie.Need-after-run-requires
 after-run-requires c κs = search needs
 
-count-vendor-requires : tie.Need-count-vendor-requires
-count-vendor-requires c κs = search needs
+cast-count : tie.Need-cast-count
+cast-count c = search needs
+
+count-requires : tie.Need-count-requires
+count-requires c κs = search needs
 
 same-length : tie.Need-same-length
 same-length c = search needs
@@ -25,12 +28,12 @@ same-length-3 c = search needs
 
 returns : tie.Need-returns
 returns c =
-    let ran = c .before .before .before .before .before .before .before .before in
+    let ran = c .before .before .before .before .before .before .before .before .before in
     let start = ran .before .before .before .before .before .before .before in (
-      vendor-steps (start .args .s) (shown (start .args .dynamic) (start .args .sram) (start .args .page)) _ (ran .run-count .result) (ran .run-count .ensures) _ (c .before .after-run .ensures)
-          (c .count-vendor .ensures),
-      vendor-few (start .args .s) (shown (start .args .dynamic) (start .args .sram) (start .args .page)) _ (ran .run-count .result) (ran .run-count .ensures) _ (c .before .after-run .ensures)
-          (c .count-vendor .ensures),
+      vendor-steps (start .args .s) (shown (start .args .dynamic) (start .args .sram) (start .args .page)) _ (ran .run-count .result) (ran .run-count .ensures) _ (c .before .before .after-run .ensures)
+          (c .count .ensures),
+      vendor-few (start .args .s) (shown (start .args .dynamic) (start .args .sram) (start .args .page)) _ (ran .run-count .result) (ran .run-count .ensures) _ (c .before .before .after-run .ensures)
+          (c .count .ensures),
     )
 
 pub vendor-spec : {M : Type 1} → statement M
@@ -39,7 +42,8 @@ vendor-spec =
     (tie.spec
     run-count-requires
     after-run-requires
-    count-vendor-requires
+    cast-count
+    count-requires
     same-length
     same-length-2
     same-length-3

@@ -53,7 +53,8 @@ use denote.Signature.{plain, shrSliceOf}
 use Rattle.bus.specs.Memory.{memory}
 use Rattle.usbhost.specs.declared.Host.{Host}
 use Rattle.usbhost.specs.declared.Framed.{Framed}
-use Rattle.usbhost.specs.Frame.{Lent, lent, lentIn, framed, frameAnswer}
+use Rattle.usbhost.specs.Frame.{framed, frameAnswer}
+use Rattle.record.specs.World.{Lent, lent}
 use Rattle.usbhost.proofs.Host as T
 use Rattle.usbhost.proofs.Host.Laws as T′
 use Rattle.usbhost.proofs.Framed as D
@@ -124,7 +125,7 @@ answer d = record { refusal = d .refusal; received = d .received; dropped = d .d
 
 -- what the call by value ensures, of what it answers and of the slices at exit
 abbrev Ensured : ℕ → Host → Lent → Framed → Lent → Type 0
-Ensured v h l d m = (d ≡ frameAnswer v h l) × (m ≡ lentIn (framed v h l))
+Ensured v h l d m = (d ≡ frameAnswer v h l) × (m ≡ framed v h l .lent)
 
 -- locals that are full, with their values, are freed at a return
 abbrev cells : {M : Type 1} {𝓤 : URA M} → List (Ty × (ℕ × Val)) → List (Item 𝓤) → List (Item 𝓤)

@@ -7,6 +7,7 @@ use Rattle.bounds.specs.Bounds.{inBounds}
 use Rattle.usbhost.specs.Host.{noSettings}
 use Rattle.usbhost.specs.Calls.{accessNumber}
 use Rattle.usbhost.specs.Promises.{withSpans}
+use Rattle.record.specs.World.{own}
 use Rattle.usbhost.proofs.Laws.{same-bounds, access-by}
 use borrow.Author.Needs.{needs}
 use Rattle.usbhost.proofs.access_number.Statement.{statement}
@@ -34,7 +35,7 @@ returns : tie.Need-returns
 unfolding accessNumber reading refusal
 returns c =
     let a = c .before .before .before .before .before .before .before .before .args in
-    let bounded = same-bounds (a .s) (withSpans noSettings (a .spans)) (a .p) (a .setups .now) [] [] [] in
+    let bounded = same-bounds (a .s) (withSpans noSettings (a .spans)) (a .p) (own (a .setups .now) [] [] []) in
     let n = length (a .page .now) in
     rw (c .first-of4 .ensures, c .before .first-of3 .ensures, c .before .before .first-of2 .ensures, c .before .before .before .before .first-of .ensures, c .before .before .before .before .before .in-bounds .ensures, c .before .before .before .before .before .before .read .ensures, bounded)
     (access-by (eqb n 4096) (leb (a .spans) 16) (fits (a .off) (a .size)) (inBounds (a .s) (a .p) (a .setups .now)))

@@ -1,5 +1,6 @@
 -- `usbhost::frame_bounds` meets its contract.
 use Rattle.usbhost.proofs.Laws.{frame-bounds}
+use Rattle.record.specs.World.{ownSetups}
 use borrow.Author.Needs.{needs}
 use Rattle.usbhost.proofs.frame_bounds.Statement.{statement}
 use Rattle.usbhost.proofs.frame_bounds.Tie as tie
@@ -17,9 +18,9 @@ ring-ok-requires-2 : tie.Need-ring-ok-requires-2
 ring-ok-requires-2 c κs = search needs
 
 returns : tie.Need-returns
-returns c settings midi serial device =
+returns c settings o =
     let a = c .before .before .before .before .before .before .args in
-    rw (c .ring-ok2 .ensures, c .before .ring-ok .ensures, c .before .before .areas-ok .ensures, c .before .before .before .in-bounds .ensures) (frame-bounds (a .s) settings (a .p) (a .setups .now) midi serial device (a .reply) (a .config) (a .sending))
+    rw (c .ring-ok2 .ensures, c .before .ring-ok .ensures, c .before .before .areas-ok .ensures, c .before .before .before .in-bounds .ensures) (frame-bounds (a .s) settings (a .p) (ownSetups o (a .setups .now)) (a .reply) (a .config) (a .sending))
 
 pub frame-bounds-spec : {M : Type 1} → statement M
 frame-bounds-spec =

@@ -4,6 +4,7 @@ use mathlib.Core.List.{[]}
 use Rattle.usbhost.specs.Host.{noSettings}
 use Rattle.usbhost.specs.Frame.{frameNumber}
 use Rattle.usbhost.specs.Promises.{withSpans}
+use Rattle.record.specs.World.{own}
 use borrow.Author.Needs.{needs}
 use Rattle.usbhost.proofs.microframe_number.Statement.{statement}
 use Rattle.usbhost.proofs.microframe_number.Tie as tie
@@ -24,7 +25,7 @@ returns : tie.Need-returns
 unfolding frameNumber
 returns c =
     let a = c .before .before .before .before .before .before .before .before .before .before .before .before .before .args in
-    rw (c .frame-number .ensures, c .before .before .frame-bounds .ensures (withSpans noSettings (a .spans)) [] [] [], c .before .before .before .lengths-ok .ensures, c .before .before .before .before .sized .ensures) refl
+    rw (c .frame-number .ensures, c .before .before .frame-bounds .ensures (withSpans noSettings (a .spans)) (own [] [] [] []), c .before .before .before .lengths-ok .ensures, c .before .before .before .before .sized .ensures) refl
 
 pub microframe-number-spec : {M : Type 1} → statement M
 microframe-number-spec =

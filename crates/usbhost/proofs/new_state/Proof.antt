@@ -10,9 +10,6 @@ new-port-requires c κs = search needs
 new-audio-requires : tie.Need-new-audio-requires
 new-audio-requires c κs = search needs
 
-no-stats-requires : tie.Need-no-stats-requires
-no-stats-requires c κs = search needs
-
 none-requires : tie.Need-none-requires
 none-requires c κs = search needs
 
@@ -22,8 +19,8 @@ none-requires-2 c κs = search needs
 returns : tie.Need-returns
 unfolding newHost
 returns c =
-    rw (c .none2 .ensures, c .before .none .ensures, c .before .before .no-stats .ensures, c .before .before .before .new-audio .ensures, c .before .before .before .before .new-port .ensures)
+    rw (c .none2 .ensures, c .before .none .ensures, c .before .before .new-audio .ensures, c .before .before .before .new-port .ensures)
 
 pub new-state-spec : {M : Type 1} → statement M
 new-state-spec =
-    tie.close (tie.spec new-port-requires new-audio-requires no-stats-requires none-requires none-requires-2 returns)
+    tie.close (tie.spec new-port-requires new-audio-requires none-requires none-requires-2 returns)

@@ -1,6 +1,6 @@
 -- `usbhost::run_microframe` meets its contract.
 use Rattle.bus.specs.Memory.{memory}
-use Rattle.usbhost.specs.Frame.{lent}
+use Rattle.record.specs.World.{own, lent}
 use Rattle.usbhost.proofs.Frame.{parts-stop, parts-ask, parts-go}
 use borrow.Author.Needs.{needs}
 use Rattle.usbhost.proofs.run_microframe.Statement.{statement}
@@ -36,12 +36,12 @@ same-length-7 c = search needs
 returns : tie.Need-returns
 returns c =
     let a = c .before .before .before .before .before .before .before .before .before .before .before .before .before .before .before .before .before .before .before .args in
-    parts-stop (a .time) (a .s) (a .c) (a .p) (a .setups .now) (a .midi .now) (a .serial .now) (a .device .now) (lent (memory (a .dynamic .now) (a .sram .now) (a .page .now)) (a .reply .now) (a .config .now) (a .receive .now) (a .received .now) (a .sending .now)) (c .before .before .before .before .before .before .before .before .before .before .unanswered .ensures) (c .before .microframe-number .ensures) (c .if1 .taken)
+    parts-stop (a .time) (a .s) (a .c) (a .p) (own (a .setups .now) (a .midi .now) (a .serial .now) (a .device .now)) (lent (memory (a .dynamic .now) (a .sram .now) (a .page .now)) (a .reply .now) (a .config .now) (a .receive .now) (a .received .now) (a .sending .now)) (c .before .before .before .before .before .before .before .before .before .before .unanswered .ensures) (c .before .microframe-number .ensures) (c .if1 .taken)
 
 microframe-requires : tie.Need-microframe-requires
 microframe-requires c κs =
     let a = c .before .before .before .before .before .before .before .before .before .before .before .before .before .before .before .before .before .before .before .before .before .before .before .before .before .before .before .before .before .before .args in
-    parts-ask (a .time) (a .s) (a .c) (a .p) (a .setups .now) (a .midi .now) (a .serial .now) (a .device .now) (lent (memory (a .dynamic .now) (a .sram .now) (a .page .now)) (a .reply .now) (a .config .now) (a .receive .now) (a .received .now) (a .sending .now)) (c .before .before .before .before .before .before .before .before .before .before .before .before .before .before .before .before .before .before .before .before .before .unanswered .ensures) (c .before .before .before .before .before .before .before .before .before .before .before .before .microframe-number .ensures) (c .before .before .before .before .before .before .before .before .before .before .before .if1 .left)
+    parts-ask (a .time) (a .s) (a .c) (a .p) (own (a .setups .now) (a .midi .now) (a .serial .now) (a .device .now)) (lent (memory (a .dynamic .now) (a .sram .now) (a .page .now)) (a .reply .now) (a .config .now) (a .receive .now) (a .received .now) (a .sending .now)) (c .before .before .before .before .before .before .before .before .before .before .before .before .before .before .before .before .before .before .before .before .before .unanswered .ensures) (c .before .before .before .before .before .before .before .before .before .before .before .before .microframe-number .ensures) (c .before .before .before .before .before .before .before .before .before .before .before .if1 .left)
 
 same-length-8 : tie.Need-same-length-8
 same-length-8 c = search needs
@@ -67,7 +67,7 @@ same-length-14 c = search needs
 returns-2 : tie.Need-returns-2
 returns-2 c =
     let a = c .before .before .before .before .before .before .before .before .before .before .before .before .before .before .before .before .before .before .before .before .before .before .before .before .before .before .before .before .before .before .before .before .before .before .before .before .before .before .before .before .before .before .before .before .before .args in
-    parts-go (a .time) (a .s) (a .c) (a .p) (a .setups .now) (a .midi .now) (a .serial .now) (a .device .now) (lent (memory (a .dynamic .now) (a .sram .now) (a .page .now)) (a .reply .now) (a .config .now) (a .receive .now) (a .received .now) (a .sending .now)) (c .before .before .before .before .before .before .before .before .before .before .before .before .before .before .before .before .before .before .before .before .before .before .before .before .before .before .before .before .before .before .before .before .before .before .before .before .unanswered .ensures) (c .before .before .before .before .before .before .before .before .before .before .before .before .before .before .before .before .before .before .before .before .before .before .before .before .before .before .before .microframe-number .ensures) (c .before .before .before .before .before .before .before .before .before .before .before .before .before .before .before .before .before .before .before .before .before .before .before .before .before .before .if1 .left) _ _ _ _ _ _ _ _ _ _ (c .before .before .before .before .before .before .before .before .before .before .before .before .before .before .microframe .ensures)
+    parts-go (a .time) (a .s) (a .c) (a .p) (own (a .setups .now) (a .midi .now) (a .serial .now) (a .device .now)) (lent (memory (a .dynamic .now) (a .sram .now) (a .page .now)) (a .reply .now) (a .config .now) (a .receive .now) (a .received .now) (a .sending .now)) (c .before .before .before .before .before .before .before .before .before .before .before .before .before .before .before .before .before .before .before .before .before .before .before .before .before .before .before .before .before .before .before .before .before .before .before .before .unanswered .ensures) (c .before .before .before .before .before .before .before .before .before .before .before .before .before .before .before .before .before .before .before .before .before .before .before .before .before .before .before .microframe-number .ensures) (c .before .before .before .before .before .before .before .before .before .before .before .before .before .before .before .before .before .before .before .before .before .before .before .before .before .before .if1 .left) _ _ _ (c .before .before .before .before .before .before .before .before .before .before .before .before .before .before .microframe .ensures)
 
 pub run-microframe-spec : {M : Type 1} → statement M
 run-microframe-spec =

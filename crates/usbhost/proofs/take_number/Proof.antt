@@ -3,6 +3,7 @@ use mathlib.Core.List.{[]}
 use Rattle.usbhost.specs.Host.{noSettings}
 use Rattle.usbhost.specs.Calls.{takeNumber}
 use Rattle.usbhost.specs.Promises.{withSpans}
+use Rattle.record.specs.World.{own}
 use Rattle.usbhost.proofs.Laws.{same-bounds}
 use borrow.Author.Needs.{needs}
 use Rattle.usbhost.proofs.take_number.Statement.{statement}
@@ -27,7 +28,7 @@ returns : tie.Need-returns
 unfolding takeNumber
 returns c =
     let a = c .before .before .before .before .before .before .before .args in
-    let bounded = same-bounds (a .s) (withSpans noSettings (a .spans)) (a .p) (a .setups .now) [] [] [] in
+    let bounded = same-bounds (a .s) (withSpans noSettings (a .spans)) (a .p) (own (a .setups .now) [] [] []) in
     rw (c .first-of3 .ensures, c .before .first-of2 .ensures, c .before .before .first-of .ensures, c .before .before .before .ring-ok .ensures, c .before .before .before .before .in-bounds .ensures, bounded)
 
 pub take-number-spec : {M : Type 1} → statement M

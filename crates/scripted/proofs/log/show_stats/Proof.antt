@@ -1,66 +1,50 @@
--- `scripted::log::show_stats` meets its contract. Thirteen fields take at most 17 bytes each.
-use native.Mathlib.Omega.{arith}
+-- `scripted::log::show_stats` meets its contract.
+use Prim.Native.Nat.{_+_, _-_, _*_, _≤_}
 use borrow.Author.Needs.{needs}
 use Rattle.scripted.proofs.log.show_stats.Statement.{statement}
 use Rattle.scripted.proofs.log.show_stats.Tie as tie
 
-field-requires : tie.Need-field-requires
+abbrev Inv-loop : tie.InvT-loop
+Inv-loop out₀ at state end₀ k₀ out end k = (k ≤ 13) × (end ≤ at + 17 * k)
+
+abbrev μ-loop : tie.MeasureT-loop
+μ-loop out₀ at state end₀ k₀ out end k = 13 - k
+
+loop-holds : tie.Need-loop-holds Inv-loop μ-loop
+loop-holds c = search needs
+
+mul-field : tie.Need-mul-field Inv-loop μ-loop
+mul-field c = search needs
+
+element-copy-out-field : tie.Need-element-copy-out-field Inv-loop μ-loop
+element-copy-out-field c = search needs
+
+field-requires : tie.Need-field-requires Inv-loop μ-loop
 field-requires c κs = search needs
 
-field-requires-2 : tie.Need-field-requires-2
-field-requires-2 c κs = search needs
+add-k : tie.Need-add-k Inv-loop μ-loop
+add-k c = search needs
 
-field-requires-3 : tie.Need-field-requires-3
-field-requires-3 c κs = search needs
+loop-less : tie.Need-loop-less Inv-loop μ-loop
+loop-less c = search needs
 
-field-requires-4 : tie.Need-field-requires-4
-field-requires-4 c κs = search needs
+loop-again : tie.Need-loop-again Inv-loop μ-loop
+loop-again c = search needs
 
-field-requires-5 : tie.Need-field-requires-5
-field-requires-5 c κs = search needs
-
-field-requires-6 : tie.Need-field-requires-6
-field-requires-6 c κs = search needs
-
-field-requires-7 : tie.Need-field-requires-7
-field-requires-7 c κs = search needs
-
-field-requires-8 : tie.Need-field-requires-8
-field-requires-8 c κs = search needs
-
-field-requires-9 : tie.Need-field-requires-9
-field-requires-9 c κs = search needs
-
-field-requires-10 : tie.Need-field-requires-10
-field-requires-10 c κs = search needs
-
-field-requires-11 : tie.Need-field-requires-11
-field-requires-11 c κs = search needs
-
-field-requires-12 : tie.Need-field-requires-12
-field-requires-12 c κs = search needs
-
-field-requires-13 : tie.Need-field-requires-13
-field-requires-13 c κs = search needs
-
-returns : tie.Need-returns
-returns c = omega (arith, c .before .before .before .before .before .before .before .before .before .before .before .before .before .before .before .before .before .before .before .before .before .before .before .before .field .ensures, c .before .before .before .before .before .before .before .before .before .before .before .before .before .before .before .before .before .before .before .before .before .before .field2 .ensures, c .before .before .before .before .before .before .before .before .before .before .before .before .before .before .before .before .before .before .before .before .field3 .ensures, c .before .before .before .before .before .before .before .before .before .before .before .before .before .before .before .before .before .before .field4 .ensures, c .before .before .before .before .before .before .before .before .before .before .before .before .before .before .before .before .field5 .ensures, c .before .before .before .before .before .before .before .before .before .before .before .before .before .before .field6 .ensures, c .before .before .before .before .before .before .before .before .before .before .before .before .field7 .ensures, c .before .before .before .before .before .before .before .before .before .before .field8 .ensures, c .before .before .before .before .before .before .before .before .field9 .ensures, c .before .before .before .before .before .before .field10 .ensures, c .before .before .before .before .field11 .ensures, c .before .before .field12 .ensures, c .field13 .ensures)
+returns : tie.Need-returns Inv-loop μ-loop
+returns c = search needs
 
 pub show-stats-spec : {M : Type 1} → statement M
 show-stats-spec =
     tie.close
     (tie.spec
+    Inv-loop
+    μ-loop
+    loop-holds
+    mul-field
+    element-copy-out-field
     field-requires
-    field-requires-2
-    field-requires-3
-    field-requires-4
-    field-requires-5
-    field-requires-6
-    field-requires-7
-    field-requires-8
-    field-requires-9
-    field-requires-10
-    field-requires-11
-    field-requires-12
-    field-requires-13
+    add-k
+    loop-less
+    loop-again
     returns)

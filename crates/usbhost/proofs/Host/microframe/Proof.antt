@@ -1,7 +1,7 @@
 -- `usbhost::Host::microframe` meets its contract.
 use native.Mathlib.Omega.{arith}
 use Rattle.bus.specs.Memory.{memory}
-use Rattle.usbhost.specs.Frame.{lent}
+use Rattle.record.specs.World.{lent}
 use Rattle.usbhost.proofs.Frame.{frame-entry}
 use borrow.Author.Needs.{needs}
 use Rattle.usbhost.proofs.Host.microframe.Statement.{statement}
@@ -40,7 +40,7 @@ same-length-7 c = search needs
 returns : tie.Need-returns
 returns c =
     let a = c .before .before .before .before .before .before .before .before .before .before .before .before .before .before .before .before .before .before .before .before .before .before .before .before .before .before .before .before .before .before .before .before .before .before .before .before .before .before .before .before .before .before .before .before .args in
-    frame-entry (a .time) (a .self) (lent (memory (a .dynamic .now) (a .sram .now) (a .page .now)) (a .reply .now) (a .config .now) (a .receive .now) (a .received .now) (a .sending .now)) (c .before .before .before .before .before .before .before .before .before .before .before .before .before .before .before .before .before .before .before .before .before .before .before .before .before .before .before .before .before .before .before .before .before .before .before .state .ensures) (c .before .before .before .before .before .before .before .before .before .before .before .before .before .before .before .before .before .run-microframe .result) _ _ _ _ _ (c .before .before .before .before .before .before .before .before .before .before .before .before .before .before .before .before .before .run-microframe .ensures) (c .host-of .ensures)
+    frame-entry (a .time) (a .self) (lent (memory (a .dynamic .now) (a .sram .now) (a .page .now)) (a .reply .now) (a .config .now) (a .receive .now) (a .received .now) (a .sending .now)) (c .before .before .before .before .before .before .before .before .before .before .before .before .before .before .before .before .before .before .before .before .before .before .before .before .before .before .before .before .before .before .before .before .before .before .before .state .ensures) (c .before .before .before .before .before .before .before .before .before .before .before .before .before .before .before .before .before .run-microframe .result) _ _ (c .before .before .before .before .before .before .before .before .before .before .before .before .before .before .before .before .before .run-microframe .ensures) (c .host-of .ensures)
 
 pub microframe-spec : {M : Type 1} → statement M
 microframe-spec =
