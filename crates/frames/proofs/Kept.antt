@@ -21,7 +21,8 @@ use Rattle.record.specs.Change.{bus, count, uf, phase, started, gone, suspended
 use Rattle.record.specs.Did.{Alone, Paged}
 use Rattle.model.specs.Phases.{counts, ticks, dropsRequest, forgets, returns, cable, suspends, enters, departs, leaves, startsFrame}
 use Rattle.model.specs.Microframe.{opens}
-use Rattle.kept.proofs.Holding.{Holds, holds-then, holds-if, holds-nothing, holds-one, holds-here}
+use Rattle.model.proofs.Holding.{Holds}
+use Rattle.model.proofs.Walk.{Forgotten, walk-counts, walk-ticks, walk-cable, walk-returns, walk-opens, walk-suspends, walk-leaves, walk-enters, walk-frame}
 use Rattle.framing.proofs.Steps.{some}
 use Rattle.framing.specs.Promises.{Rings}
 use Rattle.frames.specs.Promises.{Asks, Going}
@@ -131,73 +132,39 @@ module _ (w : World) (h : On w) where
 
 -- ---- steps
 
-after-stores : (ss : List Store) (w : World) → On w → On (replay apply (map bus ss) w)
-after-stores [] w h = h
-after-stores (s ∷ ss) w h = after-stores ss (apply (bus s) w) (on-store w h s)
+stored : (s : Store) (w : World) → On w → On (apply (bus s) w)
+stored s w h = on-store w h s
 
-on-page : (f : PageStep) → Holds On (onPage f)
-unfolding onPage
-on-page f w h = after-stores (lifted f (busOf w)) w h
-
-on-if : (t : World → Bool) (f g : Step) → Holds On f → Holds On g → Holds On (if t f g)
-on-if t f g p q = holds-if On t f g (λ w e h. p w h) (λ w e h. q w h)
-
-on-here : (f : World → Step) → ((v : World) → Holds On (f v)) → Holds On (here f)
-on-here f p = holds-here On f (λ v h. p v v h)
-
-ruleset form = (holds-then, on-if, holds-nothing, holds-one, on-here, on-page)
+forgotten : Forgotten On
+forgotten =
+    record {
+      clears = λ w h. on-cleared w h;
+      drops = λ w h. on-off w h;
+      credits = λ w h. on-credit w h 0;
+      budgets = λ w h. on-budget w h 0;
+      forgets = λ w h. on-forgot w h;
+    }
 
 on-counts : Holds On counts
-unfolding counts
-on-counts = search (form, on-count, on-uf)
+on-counts = walk-counts On (λ w h. on-count w h microframes 1) (λ n w h. on-uf w h n)
 
 on-ticks : Holds On ticks
-unfolding ticks
-on-ticks = search (form, on-timers) depth 8
-
-on-drops : Holds On dropsRequest
-unfolding dropsRequest
-on-drops = search (form, on-off)
-
-on-forgets : Holds On forgets
-unfolding forgets
-on-forgets = search (form, on-drops, on-cleared, on-credit, on-budget, on-forgot) depth 8
-
-on-returns : Holds On returns
-unfolding returns
-on-returns = search (form, on-forgets, on-idle, on-count) depth 8
+on-ticks = walk-ticks On stored (λ ts w h. on-timers w h ts)
 
 on-cable : (g : Bool) → Holds On (cable g)
-unfolding cable
-on-cable true = search (form, on-gone) depth 8
-on-cable false = search (form, on-returns, on-gone) depth 8
+on-cable = walk-cable On stored (λ b w h. on-gone w h b) (walk-returns On forgotten (λ w h. on-idle w h) (λ w h. on-count w h restarts 1))
 
 on-opens : (c : Settings) (g : Bool) → Holds On (opens c g)
-unfolding opens
-on-opens c g = search (form, on-counts, on-ticks, on-cable) depth 8
+on-opens = walk-opens On on-counts on-ticks on-cable
 
 on-suspends : (s : Bool) → Holds On (suspends s)
-unfolding suspends
-on-suspends true = search (form, on-suspended) depth 8
-on-suspends false = search (form, on-suspended) depth 8
-
-on-enters : Holds On (enters Vbus)
-unfolding enters
-on-enters = search (form, on-vbus, on-start) depth 8
-
-on-departs : Holds On departs
-unfolding departs
-on-departs = search (form, on-enters, on-forgets, on-running) depth 8
+on-suspends = walk-suspends On stored (λ b w h. on-suspended w h b)
 
 on-leaves : (stack rs : Bool) → Holds On (leaves stack rs)
-unfolding leaves
-on-leaves false rs = holds-nothing On
-on-leaves true true = search (form, on-running)
-on-leaves true false = search (form, on-departs)
+on-leaves = walk-leaves On forgotten (walk-enters On Vbus (λ w h. on-vbus w h) (λ w h. on-start w h _)) (λ b w h. on-running w h b)
 
 on-frame : Holds On startsFrame
-unfolding startsFrame
-on-frame = search form
+on-frame = walk-frame On stored
 
 -- ---- from what a function promises to what the next one asks
 

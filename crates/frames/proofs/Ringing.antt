@@ -18,7 +18,8 @@ use Rattle.record.specs.Change.{budget, apply, popped, ringedPlace, takenFrom, 
 use Rattle.model.specs.Control.{controls}
 use Rattle.blocks.proofs.Laws.{ring-inside}
 use Rattle.audio.specs.Promises.{InSending}
-use Rattle.kept.proofs.Every.{Each, adds-any, clears-any, from-controls}
+use Rattle.model.proofs.Walk.{adds-any, clears-any}
+use Rattle.kept.proofs.Every.{Each, from-controls}
 use Rattle.framing.specs.Promises.{Rings}
 
 abbrev Ringed : World → Type 0

@@ -14,8 +14,9 @@ use Rattle.record.specs.Change.{count, started, timers, popped, apply, left, on
 use Rattle.model.specs.Phases.{now, counts, ticks}
 use Rattle.model.specs.Microframe.{microframe}
 use Rattle.bounds.specs.Bounds.{MOST, countsOk}
-use Rattle.kept.proofs.Holding.{Holds, holds-then, holds-one}
-use Rattle.kept.proofs.Every.{isOther, other-same, Each, on-page, on-here, adds-any, clears-any, every-microframe}
+use Rattle.model.proofs.Holding.{Holds}
+use Rattle.model.proofs.Walk.{isOther, other-same, adds-any, clears-any, walk-ticks}
+use Rattle.kept.proofs.Every.{Each, every-microframe}
 
 -- both counts are n, and the phase began no later
 pub record Counted (n : ℕ) (made number start : ℕ) : Type 0 where
@@ -90,12 +91,8 @@ module _ (n : ℕ) where
       }
 
   ticks-kept : Holds CountedOk ticks
-  unfolding ticks
-  ticks-kept =
-      on-here CountedOk _ (λ v. holds-then CountedOk _ _ (holds-one CountedOk _ (λ w h. set-timers _ w h)) (on-page CountedOk (counted-each .early) _))
-    where
-      set-timers : (ts : Rattle.gptimers.specs.declared.Timers.Timers) (w : World) → CountedOk w → CountedOk (apply (timers ts) w)
-      set-timers ts w h = unfold apply in h
+  unfolding apply
+  ticks-kept = walk-ticks CountedOk (λ x w h. h) (λ ts w h. h)
 
   pops-kept : (w : World) → CountedOk w → CountedOk (apply popped w)
   unfolding apply

@@ -11,6 +11,7 @@ use Rattle.bits.proofs.Tests.{false-true}
 use Rattle.bits.specs.Pick.{pick}
 use Rattle.bus.specs.Steps.{andThen, replay, exec-then}
 use Rattle.bus.proofs.Sizes.{and-true}
+use Rattle.usbdev.specs.Registers.{PageStep}
 use Rattle.dtd.specs.Dtd.{Endpoint, endpoint, Run, runDtds}
 use Rattle.record.specs.declared.Phase.{Phase}
 use Rattle.record.specs.declared.Phase.the-variants.{Idle, Vbus, Reset, Enumerate, Stream}
@@ -18,18 +19,17 @@ use Rattle.record.specs.declared.Settings.{Settings}
 use Rattle.record.specs.Record.{Stats, wrapped, Counter, place, counterAt, counterOf, counted, raised, microframes, «in_transfers», «out_transfers», «in_frames», «out_frames», «bad_blocks», «midi_dtds», «midi_asleep», «out_underruns», «midi_packets_out», «vendor_in_bytes», restarts, enumerations}
 use Rattle.record.proofs.Counters.{raised-same, raised-other}
 use Rattle.record.specs.World.{World, busOf}
-use Rattle.record.specs.Change.{Change, count, phase, apply, Step, left, _then_, nothing, if, when, one, here, ranStores, runs, midi}
-use Rattle.model.specs.Phases.{now, counts, ticks, cable, returns, sleeps, suspends, leaves, startsFrame}
+use Rattle.record.specs.Change.{Change, count, phase, budget, onPage, apply, Step, left, _then_, nothing, if, when, one, here, ranStores, runs, midi}
+use Rattle.model.specs.Phases.{now, counts, ticks, cable, returns, sleeps, suspends, enters, leaves, resets, startsFrame}
 use Rattle.model.specs.Control.{stalled, unstalls, stages, posts, configured, controls}
 use Rattle.model.specs.Streams.{naks, reads, readsAt, midiIn, fitting, serialStep, drainsMidi, midiOut, readsVendor}
-use Rattle.model.specs.Audio.{audioIn, addsBudget, overBudget, clearsBudget, blocks, blocksOf, good, keepsGood, keepsBlock, keepsBlocks, keepsRun, inputs, streamIn, sendsBlock, unprimes, streamOut, streams}
+use Rattle.model.specs.Audio.{audioIn, addsBudget, overBudget, clearsBudget, blocks, blocksOf, good, keepsFrames, keepsGood, keepsBlock, keepsBlocks, keepsRun, inputs, streamIn, sendsBlock, unprimes, streamOut, streams}
 use Rattle.model.specs.Microframe.{rsSet, goneAt, asleepAt, others, transfers, enumerates, talks, atPhase, byPhase, opens, frameOf, microframe}
 use Rattle.bounds.specs.Bounds.{MOST, times, noneAbove, countersOk}
 use Rattle.bounds.proofs.Laws.{all-below, counter-below}
-use Rattle.kept.proofs.Holding.{Holds, holds-then, holds-seq, holds-nothing, holds-one}
-use Rattle.kept.proofs.Every.{isOther, other-same, at-if, on-if, after-run}
+use Rattle.model.proofs.Holding.{Holds, holds-then, holds-seq, holds-nothing, holds-one}
+use Rattle.model.proofs.Walk.{isOther, other-same, at-if, on-if, after-run, on-page, adds-any, clears-any, Ran, Requested, Chosen, Forgotten, walk-enters, walk-ticks, walk-suspends, walk-leaves, walk-forgets, walk-idles, walk-powers, walk-resets, walk-frame, walk-unstalls, walk-stages, walk-posts, walk-naks, walk-serves, walk-frames, walk-unprimes}
 use Rattle.kept.proofs.Bytes.{run-bytes}
-use Rattle.kept.proofs.Still.{StatsAre, still-page, still-ticks, still-forgets, still-suspends, still-leaves, still-idles, still-powers, still-resets, still-frame, still-posts, still-unstalls, still-stages, still-naks, still-serves, still-adds, still-clears, still-frames, still-unprimes}
 
 -- ---- a counter that rises by at most n: it does not wrap while there is room for that
 
@@ -116,6 +116,79 @@ raised-count c n r e =
 raised-vendor : (n : ℕ) (r : Stats) → Raised 0 n r (counted «vendor_in_bytes» n r)
 raised-vendor n r = record { microframes = other-same «vendor_in_bytes» n r refl; rises = raised-at (place «vendor_in_bytes») n r }
 
+-- ---- steps that leave the counters: no change that they make is a count
+
+abbrev StatsAre : Stats → World → Type 0
+StatsAre s w = w .state .stats ≡ s
+
+module _ (s : Stats) where
+  abbrev Same : World → Type 0
+  Same = StatsAre s
+
+  still-page : (f : PageStep) → Holds Same (onPage f)
+  unfolding apply
+  still-page f = on-page Same (λ x w h. h) f
+
+  ranStill : Ran Same
+  unfolding apply
+  ranStill = record { stores = λ x w h. h; marks = λ e k n w h. h; loses = λ n w h. h }
+
+  requestedStill : Requested Same
+  unfolding apply
+  requestedStill =
+      record {
+        controls = λ c w h. h;
+        replies = λ n bs w h. h;
+        pushes = λ bs w h. h;
+        queues = λ bs w h. h;
+        devices = λ bs w h. h;
+        configs = λ bs w h. h;
+      }
+
+  forgottenStill : Forgotten Same
+  unfolding apply
+  forgottenStill = record { clears = λ w h. h; drops = λ w h. h; credits = λ w h. h; budgets = λ w h. h; forgets = λ w h. h }
+
+  still-enters : (p : Phase) → Holds Same (enters p)
+  unfolding apply
+  still-enters p = walk-enters Same p (λ w h. h) (λ w h. h)
+
+  still-ticks : Holds Same ticks
+  unfolding apply
+  still-ticks = walk-ticks Same (λ x w h. h) (λ ts w h. h)
+
+  still-suspends : (b : Bool) → Holds Same (suspends b)
+  unfolding apply
+  still-suspends = walk-suspends Same (λ x w h. h) (λ b w h. h)
+
+  still-leaves : (stack rs : Bool) → Holds Same (leaves stack rs)
+  unfolding apply
+  still-leaves = walk-leaves Same forgottenStill (still-enters Vbus) (λ b w h. h)
+
+  still-resets : Holds Same resets
+  unfolding apply
+  still-resets = walk-resets Same (λ x w h. h) still-enters (λ bs w h. h)
+
+  still-posts : Holds Same posts
+  unfolding apply
+  still-posts = walk-posts Same ranStill requestedStill (λ w h. h)
+
+  still-serves : Holds Same serialStep
+  unfolding apply
+  still-serves = walk-serves Same ranStill (λ n w l h. h) (λ bs w h. h)
+
+  still-block : {stack : Bool} → Chosen Same stack
+  unfolding apply
+  still-block e bs w l h = h
+
+  still-budget : (n : ℕ) (w : World) → Same w → Same (apply (budget n) w)
+  unfolding apply
+  still-budget n w h = h
+
+  still-frames : (n : ℕ) (bs : List ℕ) → Holds Same (keepsFrames n bs)
+  unfolding apply
+  still-frames = walk-frames Same (λ f w h. h)
+
 -- ---- what each form of a step raises
 
 record Raises (n m : ℕ) (f : Step) : Type 0 where
@@ -194,7 +267,7 @@ raises-returns : Raises 1 0 returns
 unfolding returns apply
 raises-returns =
     raises-then 0 0 1 0 _ _ (raises-other 0 0 _ (λ w. refl))
-    (raises-then 0 0 1 0 _ _ (raises-still 0 0 _ still-forgets) (raises-one restarts refl 1))
+    (raises-then 0 0 1 0 _ _ (raises-still 0 0 _ (λ s. walk-forgets (StatsAre s) (forgottenStill s))) (raises-one restarts refl 1))
 
 raises-cable : (g : Bool) → Raises 1 0 (cable g)
 unfolding cable apply
@@ -211,12 +284,12 @@ raises-controls : (stack : Bool) → Raises 1 0 (controls stack)
 unfolding controls
 raises-controls stack =
     raises-if 1 0 _ _ _
-    (raises-if 1 0 stalled unstalls (stages stack) (raises-still 1 0 unstalls still-unstalls) (raises-still 1 0 (stages stack) (λ s. still-stages s stack)))
+    (raises-if 1 0 stalled unstalls (stages stack) (raises-still 1 0 unstalls (λ s. walk-unstalls (StatsAre s) (ranStill s) (requestedStill s))) (raises-still 1 0 (stages stack) (λ s. walk-stages (StatsAre s) (ranStill s) (requestedStill s) stack (still-block s))))
     (raises-if 1 0 _ configured posts raises-configured (raises-still 1 0 posts still-posts))
 
 raises-enumerates : (c : Settings) → Raises 1 0 (enumerates c)
 unfolding enumerates
-raises-enumerates c = raises-then 0 0 1 0 _ _ (raises-still 0 0 startsFrame still-frame) (raises-controls (c .«device_stack»))
+raises-enumerates c = raises-then 0 0 1 0 _ _ (raises-still 0 0 startsFrame (λ s. walk-frame (StatsAre s) (ranStill s .stores))) (raises-controls (c .«device_stack»))
 
 -- ---- MIDI and vendor
 
@@ -244,7 +317,7 @@ raises-midi : (asleep : Bool) (every : ℕ) → Raises 8 0 (midiIn asleep every)
 unfolding midiIn
 raises-midi true every = raises-more 1 0 8 0 _ (omega arith) (omega arith) raises-sleeps
 raises-midi false every =
-    raises-then 0 0 8 0 _ _ (raises-still 0 0 naks still-naks)
+    raises-then 0 0 8 0 _ _ (raises-still 0 0 naks (λ s. walk-naks (StatsAre s) (ranStill s .stores)))
     (raises-here 8 0 _ (λ v. raises-more _ 0 8 0 _ (reads-few every (now v)) (omega arith) (raises-reads (readsAt every (now v)))))
 
 raises-drains : (n : ℕ) → Raises (n / 4) 0 (drainsMidi n)
@@ -326,8 +399,8 @@ raises-inputs = raises-runs 631 0 audioIn [] keepsRun (λ w. raises-run (runDtds
 raises-hears : Raises 631 0 streamIn
 unfolding streamIn
 raises-hears =
-    raises-then 0 0 631 0 _ _ (raises-still 0 0 addsBudget still-adds)
-    (raises-if 631 0 overBudget nothing _ (raises-nothing 631 0) (raises-then 0 0 631 0 _ _ (raises-still 0 0 clearsBudget still-clears) raises-inputs))
+    raises-then 0 0 631 0 _ _ (raises-still 0 0 addsBudget (λ s. adds-any (StatsAre s) (still-budget s)))
+    (raises-if 631 0 overBudget nothing _ (raises-nothing 631 0) (raises-then 0 0 631 0 _ _ (raises-still 0 0 clearsBudget (λ s. clears-any (StatsAre s) (still-budget s))) raises-inputs))
 
 raises-sends : (bs : List ℕ) → Raises 15 0 (sendsBlock bs)
 unfolding sendsBlock apply
@@ -342,7 +415,7 @@ raises-outputs : Raises 15 0 streamOut
 unfolding streamOut
 raises-outputs =
     raises-when 15 0 _ _
-    (raises-if 15 0 _ _ unprimes (raises-here 15 0 _ (λ v. raises-sends _)) (raises-still 15 0 unprimes still-unprimes))
+    (raises-if 15 0 _ _ unprimes (raises-here 15 0 _ (λ v. raises-sends _)) (raises-still 15 0 unprimes (λ s. walk-unprimes (StatsAre s) (ranStill s .stores))))
 
 raises-streams : Raises 646 0 streams
 unfolding streams
@@ -361,8 +434,8 @@ unfolding talks
 raises-talks c t rs = raises-when 783 32767 _ _ (raises-then 1 0 782 32767 _ _ (raises-enumerates c) (raises-transfers c t))
 
 raises-at : (c : Settings) (t : ℕ) (rs : Bool) (p : Phase) → Raises 783 32767 (atPhase c t rs p)
-raises-at c t rs Idle = raises-still 783 32767 _ still-idles
-raises-at c t rs Vbus = raises-still 783 32767 _ (λ s. still-powers s rs)
+raises-at c t rs Idle = raises-still 783 32767 _ (λ s. walk-idles (StatsAre s) (ranStill s .stores) (still-enters s))
+raises-at c t rs Vbus = raises-still 783 32767 _ (λ s. walk-powers (StatsAre s) (ranStill s .stores) (still-enters s) rs)
 raises-at c t rs Reset = raises-still 783 32767 _ still-resets
 raises-at c t rs Enumerate = raises-talks c t rs
 raises-at c t rs Stream = raises-talks c t rs

@@ -31,7 +31,7 @@ use Rattle.record.specs.World.{World, busOf}
 use Rattle.record.specs.Change.{apply, onPage}
 use Rattle.record.proofs.Laws.{replay-bus}
 use Rattle.model.specs.Phases.{changing, ticks, suspends, startsFrame}
-use Rattle.kept.proofs.Holding.{Holds, holds-then, holds-if, holds-nothing, holds-one, holds-here}
+use Rattle.model.proofs.Holding.{Holds, holds-then, holds-if, holds-nothing, holds-one, holds-here}
 
 -- ---- words below 2^32
 

@@ -1,4 +1,3 @@
-pub mod Holding
 pub mod Bytes
 pub mod Credit
 pub mod Every
@@ -8,7 +7,6 @@ pub mod Shape
 pub mod Rings
 pub mod Audio
 pub mod Counted
-pub mod Still
 pub mod Counters
 pub mod Asked
 pub mod Unasked

@@ -9,7 +9,8 @@ use Rattle.record.specs.declared.Lengths.{Lengths}
 use Rattle.record.specs.World.{World}
 use Rattle.record.specs.Change.{apply, left}
 use Rattle.model.specs.Microframe.{microframe}
-use Rattle.kept.proofs.Every.{Each, Whole, adds-any, clears-any, whole-microframe}
+use Rattle.model.proofs.Walk.{adds-any, clears-any}
+use Rattle.kept.proofs.Every.{Each, Whole, whole-microframe}
 
 pub record Queues (l : Lengths) : Type 0 where
   pub midi : leb (l .midi) 4096 ≡ true

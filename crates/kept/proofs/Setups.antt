@@ -31,7 +31,7 @@ use Rattle.model.specs.Control.{requestType, request, wLength, begun, posted, p
 use Rattle.model.specs.Microframe.{rsSet, goneAt, asleepAt, transfers, enumerates, talks, atPhase, byPhase, opens, frameOf, microframe}
 use Rattle.model.proofs.Fields.{Keeps, fields-then, left-runs, fields-ran, ranWorld, keeps-then, keeps-if, keeps-nothing, keeps-one, keeps-bus, keeps-page}
 use Rattle.bounds.specs.Bounds.{le, asksConfiguration, made, madeAt, allMade, other, setupsOk, enumeratingOk, requestOk}
-use Rattle.kept.proofs.Holding.{Holds, holds-then, holds-seq, holds-if, holds-nothing}
+use Rattle.model.proofs.Holding.{Holds, holds-then, holds-seq, holds-if, holds-nothing}
 use Rattle.bits.proofs.Tests.{false-true, and-first, and-second, and-both, or-case, or-other, or-by, imp-other, imp-by}
 use Rattle.kept.proofs.Asked.{Asked, askedOf, askedOn, asked, asked-apply}
 use Rattle.kept.proofs.Unasked.{keeps-ticks, keeps-unplugs, keeps-sleeps, keeps-suspends, keeps-frame, keeps-transfers}

@@ -16,7 +16,8 @@ use Rattle.record.specs.declared.Settings.{Settings}
 use Rattle.record.specs.World.{World, busOf}
 use Rattle.record.specs.Change.{Change, bus, ran, lost, count, uf, phase, started, gone, suspended, wasRunning, credit, budget, counter, block, timers, control, queued, popped, pushed, cleared, reply, device, config, forgot, midi, serial, received, frame, taken, drained, waiting, ringed, apply, Step, left}
 use Rattle.model.specs.Microframe.{microframe}
-use Rattle.kept.proofs.Every.{Early, Each, adds-any, clears-any, Opening, opening, every-microframe}
+use Rattle.model.proofs.Walk.{adds-any, clears-any}
+use Rattle.kept.proofs.Every.{Early, Each, Opening, opening, every-microframe}
 
 -- the lengths of the three windows
 pub record Sizes : Type 0 where

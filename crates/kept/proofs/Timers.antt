@@ -21,8 +21,9 @@ use Rattle.record.specs.Change.{apply, timers, popped, left, one, here}
 use Rattle.model.specs.Phases.{registersOf, counts, ticks}
 use Rattle.model.specs.Microframe.{microframe}
 use Rattle.bounds.specs.Bounds.{MOST, times, timerOk, timersOk}
-use Rattle.kept.proofs.Holding.{holds-seq}
-use Rattle.kept.proofs.Every.{Each, on-page, adds-any, clears-any, every-microframe}
+use Rattle.model.proofs.Holding.{holds-seq}
+use Rattle.model.proofs.Walk.{on-page, adds-any, clears-any}
+use Rattle.kept.proofs.Every.{Each, every-microframe}
 
 -- a timer that stands, stands within these
 abbrev pub Within : ℕ → Timer → Type 0
@@ -184,7 +185,7 @@ unfolding ticks here
 after-ticks n few w h =
     let ts = tickedBoth STEP (w .state .timers) (registersOf w) in
     holds-seq (TimersOk (n + 1)) (one (λ v. timers ts)) _ w
-    (on-page (TimersOk (n + 1)) (timers-each (n + 1) .early) _ _
+    (on-page (TimersOk (n + 1)) (timers-each (n + 1) .early .stores) _ _
     (set-timers (n + 1) ts w (timers-ticked n few (w .state .timers) (registersOf w) h)))
 
 pub timers-kept : (n : ℕ) → n < MOST → (t : ℕ) (w : World) → timersOk (w .state .timers) n ≡ true → timersOk (left (microframe t) w .state .timers) (n + 1) ≡ true

@@ -6,25 +6,24 @@ use Rattle.record.specs.declared.Settings.{Settings}
 use Rattle.model.specs.Phases.{ticks, cable, sleeps, suspends, startsFrame}
 use Rattle.model.specs.Microframe.{transfers}
 use Rattle.model.proofs.Fields.{Keeps}
-use Rattle.model.proofs.Single as S
-use Rattle.model.proofs.Transferring as T
-use Rattle.model.proofs.Transferring.{Untouched}
+use Rattle.model.proofs.Leaving as L
+use Rattle.model.proofs.Leaving.{Untouched}
 use Rattle.kept.proofs.Asked.{asked}
 
 pub keeps-ticks : Keeps asked ticks
-keeps-ticks = S.keeps-ticks asked (λ ts k. refl)
+keeps-ticks = L.keeps-ticks asked (λ ts k. refl)
 
 pub keeps-unplugs : Keeps asked (cable true)
-keeps-unplugs = S.keeps-unplugs asked (λ b k. refl)
+keeps-unplugs = L.keeps-unplugs asked (λ b k. refl)
 
 pub keeps-sleeps : Keeps asked sleeps
-keeps-sleeps = S.keeps-sleeps asked (λ n k. refl)
+keeps-sleeps = L.keeps-sleeps asked (λ n k. refl)
 
 pub keeps-suspends : (s : Bool) → Keeps asked (suspends s)
-keeps-suspends = S.keeps-suspends asked (λ b k. refl)
+keeps-suspends = L.keeps-suspends asked (λ b k. refl)
 
 pub keeps-frame : Keeps asked startsFrame
-keeps-frame = S.keeps-frame asked
+keeps-frame = L.keeps-frame asked
 
 untouched : Untouched asked
 untouched =
@@ -41,4 +40,4 @@ untouched =
     }
 
 pub keeps-transfers : (c : Settings) (t : ℕ) → Keeps asked (transfers c t)
-keeps-transfers = T.keeps-transfers asked untouched
+keeps-transfers = L.keeps-transfers asked untouched

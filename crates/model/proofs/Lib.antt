@@ -1,5 +1,4 @@
 pub mod Fields
-pub mod Single
 pub mod Reading
 pub mod Frames
 pub mod Way
@@ -27,11 +26,12 @@ pub mod Words
 pub mod Starting
 pub mod Resetting
 pub mod Flagged
-pub mod Streaming
-pub mod Transferring
 pub mod Requests
 pub mod Spans
 pub mod Plain
 pub mod Marking
 pub mod PortMarks
 pub mod Unread
+pub mod Holding
+pub mod Walk
+pub mod Leaving

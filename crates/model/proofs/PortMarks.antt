@@ -21,7 +21,7 @@ use Rattle.model.specs.PortMarks.{InGone, InSuspend, RunBit, RunTested, 
 use Rattle.model.proofs.Fields.{Keeps, fields-then, fields-if, keeps-then, keeps-if, keeps-nothing, keeps-page, keeps-here}
 use Rattle.model.proofs.OneBlock.{talking, getsTo, gets-closed}
 use Rattle.model.proofs.History.{four}
-use Rattle.model.proofs.Streaming.{keeps-naks, keeps-reads, keeps-serves}
+use Rattle.model.proofs.Leaving.{keeps-awake, keeps-serves}
 use Rattle.model.proofs.Marking.{PortMarks, marksBy, marksOf, marks, marks-plain}
 use Rattle.model.proofs.Plain.{still-counts, still-ticks, still-forgets, still-returns, still-enters, still-idles, still-powers, still-resets, still-enumerates, still-streams, still-writes, still-vendor}
 use Rattle.model.proofs.Spans.{within-between, gone-spans, suspend-span, run-bit}
@@ -42,7 +42,7 @@ marks-midi true every v = marks-sleeps v
 marks-midi false every v = awake v
   where
     awake : Keeps marks (midiIn false every)
-    awake = keeps-then marks _ _ (keeps-naks marks) (keeps-here marks _ (λ w. keeps-reads marks (λ bs k. refl) (λ n k. refl) _))
+    awake = keeps-awake marks (λ bs k. refl) (λ n k. refl) every
 
 count-and : (a b : Bool) (k : PortMarks) → pick a (counting b k) k ≡ counting (a && b) k
 count-and true b k = refl

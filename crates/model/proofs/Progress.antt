@@ -20,7 +20,7 @@ use Rattle.model.specs.Microframe.{rsSet, goneAt, asleepAt, opens, byPha
 use Rattle.model.specs.Reach.{toPhase, phaseBy, leftBy, deviceLeft}
 use Rattle.model.specs.Progress.{Present}
 use Rattle.model.proofs.Fields.{Fields, Keeps, fields-then, keeps-if, keeps-nothing}
-use Rattle.model.proofs.Single.{keeps-ticks, keeps-suspends}
+use Rattle.model.proofs.Leaving.{keeps-ticks, keeps-suspends}
 use Rattle.model.proofs.History.{four}
 
 -- waiting and queue: how many setups wait, and their array; t: the phase's start

@@ -51,8 +51,7 @@ use Rattle.model.proofs.Progress.{Stand, standBy, standOf, stands, if-t
 use Rattle.model.proofs.Same.{Same, same-then, same-if, same-nothing, same-pick, same-here, same-one, same-bus, same-page, same-ran, same-runs}
 use Rattle.model.proofs.Words.{Alike, alike-then, alike-phase, alike-frame, word-back}
 use Rattle.model.proofs.Flagged.{Interrupted, run-flags, run-answers}
-use Rattle.model.proofs.Single.{keeps-frame}
-use Rattle.model.proofs.Transferring.{Untouched, keeps-transfers}
+use Rattle.model.proofs.Leaving.{keeps-frame, Untouched, keeps-transfers}
 
 -- ---- a setup is posted (625-645)
 

@@ -16,7 +16,7 @@ use Rattle.model.specs.Microframe.{rsSet, goneAt, asleepAt, opens, other
 use Rattle.model.specs.Reach.{outputBy}
 use Rattle.model.specs.PortMarks.{NoMidi, cableOut, busSuspended, midiSleeps, midiCome}
 use Rattle.model.proofs.Fields.{Keeps, fields-if, keeps-then, keeps-if, keeps-nothing, keeps-one, keeps-here}
-use Rattle.model.proofs.Single.{keeps-unplugs, keeps-sleeps, keeps-suspends}
+use Rattle.model.proofs.Leaving.{keeps-unplugs, keeps-sleeps, keeps-suspends}
 use Rattle.model.proofs.Marking.{come, come-plain}
 use Rattle.model.proofs.Plain.{still-counts, still-ticks, still-forgets, still-returns, still-enters, still-idles, still-powers, still-resets, still-enumerates, still-streams, still-writes, still-vendor}
 use Rattle.model.proofs.Spans.{within-between, gone-spans, suspend-span}

@@ -5,19 +5,18 @@ use Rattle.record.specs.declared.Settings.{Settings}
 use Rattle.model.specs.Phases.{ticks, sleeps, startsFrame}
 use Rattle.model.specs.Microframe.{transfers}
 use Rattle.model.proofs.Fields.{Keeps}
-use Rattle.model.proofs.Single as S
-use Rattle.model.proofs.Transferring.{Untouched}
-use Rattle.model.proofs.Transferring as Transferring
+use Rattle.model.proofs.Leaving as L
+use Rattle.model.proofs.Leaving.{Untouched}
 use Rattle.reached.proofs.Standing.{held}
 
 pub keeps-ticks : Keeps held ticks
-keeps-ticks = S.keeps-ticks held (λ ts k. refl)
+keeps-ticks = L.keeps-ticks held (λ ts k. refl)
 
 pub keeps-sleeps : Keeps held sleeps
-keeps-sleeps = S.keeps-sleeps held (λ n k. refl)
+keeps-sleeps = L.keeps-sleeps held (λ n k. refl)
 
 pub keeps-frame : Keeps held startsFrame
-keeps-frame = S.keeps-frame held
+keeps-frame = L.keeps-frame held
 
 untouched : Untouched held
 untouched =
@@ -34,4 +33,4 @@ untouched =
     }
 
 pub keeps-transfers : (c : Settings) (t : ℕ) → Keeps held (transfers c t)
-keeps-transfers = Transferring.keeps-transfers held untouched
+keeps-transfers = L.keeps-transfers held untouched

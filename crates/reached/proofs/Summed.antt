@@ -32,8 +32,8 @@ use Rattle.model.proofs.Fields.{left-runs, ranWorld}
 use Rattle.model.proofs.History.{over-within}
 use Rattle.model.proofs.Progress.{if-true, if-false, when-true, when-false}
 use Rattle.bits.proofs.Tests.{and-first, and-second, and-false}
-use Rattle.kept.proofs.Holding.{Holds, holds-then, holds-nothing, holds-one, holds-pick}
-use Rattle.kept.proofs.Every.{on-if}
+use Rattle.model.proofs.Holding.{Holds, holds-then, holds-nothing, holds-one, holds-pick}
+use Rattle.model.proofs.Walk.{on-if}
 use Rattle.history.specs.Sums as S
 use Rattle.history.specs.Sums.{Sums, Tally, none, receive, send, readAt, reset, heard, answered, answeredEver}
 use Rattle.reached.proofs.Standing.{held}
