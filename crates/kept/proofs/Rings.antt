@@ -1,6 +1,6 @@
 -- The rings of frames: each start lies in its ring, and a ring holds no more than it has room for (document 01, number 5), whatever the changes.
 use Prim.Native.Nat.{ℕ, _+_, _-_, _/_, _%_, _≤_, _<_}
-use mathlib.Core.Path.{_≡_, refl, ap}
+use mathlib.Core.Path.{_≡_, refl, ap, subst, sym}
 use mathlib.Core.Bool.{Bool, true, false}
 use mathlib.Core.List.{List, [], _∷_}
 use native.Mathlib.Omega.{arith}
@@ -13,7 +13,9 @@ use Rattle.bits.specs.Pick.{pick}
 use Rattle.bus.specs.Steps.{replay}
 use Rattle.record.specs.declared.Ring.{Ring}
 use Rattle.record.specs.World.{World}
-use Rattle.record.specs.Change.{Change, bus, ran, lost, count, uf, phase, started, gone, suspended, wasRunning, credit, budget, counter, block, timers, control, queued, popped, pushed, cleared, reply, device, config, forgot, midi, serial, received, frame, taken, FRAMES, WORDS, ringedPlace, takenFrom, apply, left}
+use Rattle.record.specs.Parts as Part
+use Rattle.record.specs.Change.{Change, bus, ran, lost, count, timers, frame, FRAMES, WORDS, ringedPlace, takenFrom, apply, left, port, audio, request, stream}
+use Rattle.record.proofs.Beside.{port-beside, request-beside, stream-beside}
 use Rattle.model.specs.Microframe.{microframe}
 use Rattle.bounds.specs.Bounds.{ringOk}
 use Rattle.kept.proofs.Shape.{Shape, shape-kept}
@@ -59,31 +61,16 @@ change-rings (bus s) w = (λ h. h, λ h. h)
 change-rings (ran e k n) w = (λ h. h, λ h. h)
 change-rings (lost n) w = (λ h. h, λ h. h)
 change-rings (count c n) w = (λ h. h, λ h. h)
-change-rings (uf n) w = (λ h. h, λ h. h)
-change-rings (phase p) w = (λ h. h, λ h. h)
-change-rings (started n) w = (λ h. h, λ h. h)
-change-rings (gone b) w = (λ h. h, λ h. h)
-change-rings (suspended b) w = (λ h. h, λ h. h)
-change-rings (wasRunning b) w = (λ h. h, λ h. h)
-change-rings (credit n) w = (λ h. h, λ h. h)
-change-rings (budget n) w = (λ h. h, λ h. h)
-change-rings (counter n) w = (λ h. h, λ h. h)
-change-rings (block n c) w = (λ h. h, λ h. h)
 change-rings (timers ts) w = (λ h. h, λ h. h)
-change-rings (control c) w = (λ h. h, λ h. h)
-change-rings (queued bs) w = (λ h. h, λ h. h)
-change-rings popped w = (λ h. h, λ h. h)
-change-rings (pushed bs) w = (λ h. h, λ h. h)
-change-rings cleared w = (λ h. h, λ h. h)
-change-rings (reply n bs) w = (λ h. h, λ h. h)
-change-rings (device bs) w = (λ h. h, λ h. h)
-change-rings (config bs) w = (λ h. h, λ h. h)
-change-rings forgot w = (λ h. h, λ h. h)
-change-rings (midi n) w = (λ h. h, λ h. h)
-change-rings (serial n) w = (λ h. h, λ h. h)
-change-rings (received bs) w = (λ h. h, λ h. h)
-change-rings (frame f) w = (framed (w .state .audio .received), λ h. h)
-change-rings (taken n) w = (λ h. h, fewer (length (w .lent .sending) / WORDS) n (w .state .audio .sending))
+change-rings (port c) w = (subst ReceivedOk (sym (port-beside c w)), subst SendingOk (sym (port-beside c w)))
+change-rings (audio (Part.credit n)) w = (λ h. h, λ h. h)
+change-rings (audio (Part.budget n)) w = (λ h. h, λ h. h)
+change-rings (audio (Part.counter n)) w = (λ h. h, λ h. h)
+change-rings (audio (Part.block n c)) w = (λ h. h, λ h. h)
+change-rings (audio (Part.frame f)) w = (framed (w .state .audio .received), λ h. h)
+change-rings (audio (Part.taken n)) w = (λ h. h, fewer (length (w .lent .sending) / WORDS) n (w .state .audio .sending))
+change-rings (request c) w = (subst ReceivedOk (sym (request-beside c w)), subst SendingOk (sym (request-beside c w)))
+change-rings (stream c) w = (subst ReceivedOk (sym (stream-beside c w)), subst SendingOk (sym (stream-beside c w)))
 
 list-rings : (cs : List Change) (w : World) → Keeping w (replay apply cs w)
 list-rings [] w = (λ h. h, λ h. h)

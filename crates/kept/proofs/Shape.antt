@@ -14,7 +14,9 @@ use Rattle.bus.specs.Stores.{Bus, Store, word, byte, irq, store}
 use Rattle.midi.specs.declared.Packer.{Packer}
 use Rattle.record.specs.declared.Settings.{Settings}
 use Rattle.record.specs.World.{World, busOf}
-use Rattle.record.specs.Change.{Change, bus, ran, lost, count, uf, phase, started, gone, suspended, wasRunning, credit, budget, counter, block, timers, control, queued, popped, pushed, cleared, reply, device, config, forgot, midi, serial, received, frame, taken, drained, waiting, ringed, apply, Step, left}
+use Rattle.record.specs.Parts as Part
+use Rattle.record.specs.Change.{Change, bus, ran, lost, count, timers, control, popped, cleared, reply, device, config, midi, serial, received, drained, waiting, ringed, apply, Step, left, port, audio, request, stream}
+use Rattle.record.proofs.Beside.{port-beside}
 use Rattle.model.specs.Microframe.{microframe}
 use Rattle.model.proofs.Walk.{adds-any, clears-any}
 use Rattle.kept.proofs.Every.{Early, Each, Opening, opening, every-microframe}
@@ -79,31 +81,26 @@ module _ (w : World) where
   change-kept (ran e k n) = refl
   change-kept (lost n) = refl
   change-kept (count c n) = refl
-  change-kept (uf n) = refl
-  change-kept (phase p) = refl
-  change-kept (started n) = refl
-  change-kept (gone b) = refl
-  change-kept (suspended b) = refl
-  change-kept (wasRunning b) = refl
-  change-kept (credit n) = refl
-  change-kept (budget n) = refl
-  change-kept (counter n) = refl
-  change-kept (block n c) = refl
   change-kept (timers ts) = refl
-  change-kept (control c) = refl
-  change-kept (queued bs) = refl
-  change-kept popped = refl
-  change-kept (pushed bs) = refl
-  change-kept cleared = refl
-  change-kept (reply n bs) = ap (λ (x : ℕ). shaped w (sizes (w .lent .memory)) (length (w .own .device)) x (length (w .lent .config)) (length (w .lent .receive)) (length (w .lent .received))) (length-sets (w .lent .reply) n bs)
-  change-kept (device bs) = ap (λ (x : ℕ). shaped w (sizes (w .lent .memory)) x (length (w .lent .reply)) (length (w .lent .config)) (length (w .lent .receive)) (length (w .lent .received))) (length-sets (w .own .device) 0 bs)
-  change-kept (config bs) = ap (λ (x : ℕ). shaped w (sizes (w .lent .memory)) (length (w .own .device)) (length (w .lent .reply)) x (length (w .lent .receive)) (length (w .lent .received))) (length-sets (w .lent .config) 0 bs)
-  change-kept forgot = refl
-  change-kept (midi n) = refl
-  change-kept (serial n) = refl
-  change-kept (received bs) = ap (λ (x : ℕ). shaped w (sizes (w .lent .memory)) (length (w .own .device)) (length (w .lent .reply)) (length (w .lent .config)) x (length (w .lent .received))) (length-sets (w .lent .receive) (w .state .answer .received) bs)
-  change-kept (frame f) = ap (λ (x : ℕ). shaped w (sizes (w .lent .memory)) (length (w .own .device)) (length (w .lent .reply)) (length (w .lent .config)) (length (w .lent .receive)) x) (length-sets (w .lent .received) _ f)
-  change-kept (taken n) = refl
+  change-kept (port c) = ap shape (port-beside c w)
+  change-kept (audio (Part.credit n)) = refl
+  change-kept (audio (Part.budget n)) = refl
+  change-kept (audio (Part.counter n)) = refl
+  change-kept (audio (Part.block n c)) = refl
+  change-kept (audio (Part.frame f)) = ap (λ (x : ℕ). shaped w (sizes (w .lent .memory)) (length (w .own .device)) (length (w .lent .reply)) (length (w .lent .config)) (length (w .lent .receive)) x) (length-sets (w .lent .received) _ f)
+  change-kept (audio (Part.taken n)) = refl
+  change-kept (request (Part.control c)) = refl
+  change-kept (request (Part.queued bs)) = refl
+  change-kept (request Part.popped) = refl
+  change-kept (request (Part.pushed bs)) = refl
+  change-kept (request Part.cleared) = refl
+  change-kept (request (Part.reply n bs)) = ap (λ (x : ℕ). shaped w (sizes (w .lent .memory)) (length (w .own .device)) x (length (w .lent .config)) (length (w .lent .receive)) (length (w .lent .received))) (length-sets (w .lent .reply) n bs)
+  change-kept (request (Part.device bs)) = ap (λ (x : ℕ). shaped w (sizes (w .lent .memory)) x (length (w .lent .reply)) (length (w .lent .config)) (length (w .lent .receive)) (length (w .lent .received))) (length-sets (w .own .device) 0 bs)
+  change-kept (request (Part.config bs)) = ap (λ (x : ℕ). shaped w (sizes (w .lent .memory)) (length (w .own .device)) (length (w .lent .reply)) x (length (w .lent .receive)) (length (w .lent .received))) (length-sets (w .lent .config) 0 bs)
+  change-kept (request Part.forgot) = refl
+  change-kept (stream (Part.midi n)) = refl
+  change-kept (stream (Part.serial n)) = refl
+  change-kept (stream (Part.received bs)) = ap (λ (x : ℕ). shaped w (sizes (w .lent .memory)) (length (w .own .device)) (length (w .lent .reply)) (length (w .lent .config)) x (length (w .lent .received))) (length-sets (w .lent .receive) (w .state .answer .received) bs)
 
 pub list-kept : (cs : List Change) (w : World) → shape (replay apply cs w) ≡ shape w
 list-kept [] w = refl

@@ -19,7 +19,9 @@ use Rattle.record.specs.declared.Phase.{Phase}
 use Rattle.record.specs.declared.Phase.the-variants.{Idle, Vbus, Reset, Enumerate, Stream}
 use Rattle.record.specs.declared.Settings.{Settings}
 use Rattle.record.specs.World.{World, busOf}
-use Rattle.record.specs.Change.{Change, bus, ran, lost, count, uf, phase, started, gone, suspended, wasRunning, credit, budget, counter, block, timers, control, queued, popped, pushed, cleared, reply, device, config, forgot, midi, serial, received, frame, taken, apply, Step, left, _then_, nothing, if, one, here, ranStores, runs}
+use Rattle.record.specs.Parts as Part
+use Rattle.record.specs.Change.{Change, bus, ran, lost, count, phase, timers, control, apply, Step, left, _then_, nothing, if, one, here, ranStores, runs, port, audio, request, stream}
+use Rattle.record.proofs.Beside.{port-beside, audio-beside, request-beside}
 use Rattle.model.specs.Phases.{now, leaves, sleeps, suspends, startsFrame, idles, powers, resets}
 use Rattle.model.specs.Control.{enumerating, posts, posted, configured, dataStage, statusStage, unstalls, stalled, stages, controls}
 use Rattle.model.specs.Streams.{naks, reads, readsAt, midiIn, drainsSerial, serialStep, drainsMidi, midiOut, readsVendor}
@@ -49,31 +51,13 @@ counts-one (bus s) w = unanswered refl
 counts-one (ran e k n) w = record { retired = λ h. omega (arith, h); dropped = λ h. omega arith }
 counts-one (lost n) w = record { retired = λ h. omega arith; dropped = λ h. omega (arith, h) }
 counts-one (count c n) w = unanswered refl
-counts-one (uf n) w = unanswered refl
-counts-one (phase p) w = unanswered refl
-counts-one (started n) w = unanswered refl
-counts-one (gone b) w = unanswered refl
-counts-one (suspended b) w = unanswered refl
-counts-one (wasRunning b) w = unanswered refl
-counts-one (credit n) w = unanswered refl
-counts-one (budget n) w = unanswered refl
-counts-one (counter n) w = unanswered refl
-counts-one (block n c) w = unanswered refl
 counts-one (timers ts) w = unanswered refl
-counts-one (control c) w = unanswered refl
-counts-one (queued bs) w = unanswered refl
-counts-one popped w = unanswered refl
-counts-one (pushed bs) w = unanswered refl
-counts-one cleared w = unanswered refl
-counts-one (reply n bs) w = unanswered refl
-counts-one (device bs) w = unanswered refl
-counts-one (config bs) w = unanswered refl
-counts-one forgot w = unanswered refl
-counts-one (midi n) w = unanswered refl
-counts-one (serial n) w = unanswered refl
-counts-one (received bs) w = record { retired = λ h. omega arith; dropped = λ h. omega arith }
-counts-one (frame x) w = unanswered refl
-counts-one (taken n) w = unanswered refl
+counts-one (port c) w = unanswered (ap (λ (v : World). v .state .answer) (port-beside c w))
+counts-one (audio c) w = unanswered (ap (λ (v : World). v .state .answer) (audio-beside c w))
+counts-one (request c) w = unanswered (ap (λ (v : World). v .state .answer) (request-beside c w))
+counts-one (stream (Part.midi n)) w = unanswered refl
+counts-one (stream (Part.serial n)) w = unanswered refl
+counts-one (stream (Part.received bs)) w = record { retired = λ h. omega arith; dropped = λ h. omega arith }
 
 -- a list of changes, and so each step by its own
 pub counts-all : (cs : List Change) (w : World) → Counts (allRetired cs) (allDropped cs) w (replay apply cs w)

@@ -1,13 +1,15 @@
 -- What the history reads: the credit, the two counters of frames, gone, and RS seen set.
 use Prim.Native.Nat.{ℕ}
-use mathlib.Core.Path.{_≡_, refl, ap₂}
+use mathlib.Core.Path.{_≡_, refl, ap₂, ap}
 use mathlib.Core.Bool.{Bool, true, not}
 use lib.Dec.{eqb}
 use Rattle.bus.proofs.Sizes.{and-true}
 use Rattle.record.specs.Record.{Counter, place, «in_frames», «out_frames»}
 use Rattle.record.proofs.Counters.{rose, raised-by, rose-other}
 use Rattle.record.specs.World.{World}
-use Rattle.record.specs.Change.{Change, bus, ran, lost, count, uf, phase, started, gone, suspended, wasRunning, credit, budget, counter, block, timers, control, queued, popped, pushed, cleared, reply, device, config, forgot, midi, serial, received, frame, taken, apply}
+use Rattle.record.specs.Parts as Part
+use Rattle.record.specs.Change.{Change, bus, ran, lost, count, gone, wasRunning, credit, timers, received, apply, port, audio, request, stream}
+use Rattle.record.proofs.Beside.{request-beside, stream-beside}
 use Rattle.model.specs.Earned.{Counts, countsOf}
 use Rattle.bits.proofs.Tests.{false-true}
 use Rattle.model.proofs.Fields.{Fields}
@@ -37,31 +39,21 @@ onFrames (bus s) k = k
 onFrames (ran e r n) k = k
 onFrames (lost n) k = k
 onFrames (count c n) k = withCounts k (onCounts c n (k .counts))
-onFrames (uf n) k = k
-onFrames (phase p) k = k
-onFrames (started n) k = k
-onFrames (gone b) k = record { counts = k .counts; gone = b; wasRunning = k .wasRunning }
-onFrames (suspended b) k = k
-onFrames (wasRunning b) k = record { counts = k .counts; gone = k .gone; wasRunning = b }
-onFrames (credit n) k = withCounts k (record { credit = n; received = k .counts .received; sent = k .counts .sent })
-onFrames (budget n) k = k
-onFrames (counter n) k = k
-onFrames (block n m) k = k
 onFrames (timers ts) k = k
-onFrames (control c) k = k
-onFrames (queued bs) k = k
-onFrames popped k = k
-onFrames (pushed bs) k = k
-onFrames cleared k = k
-onFrames (reply n bs) k = k
-onFrames (device bs) k = k
-onFrames (config bs) k = k
-onFrames forgot k = k
-onFrames (midi n) k = k
-onFrames (serial n) k = k
-onFrames (received bs) k = k
-onFrames (frame f) k = k
-onFrames (taken n) k = k
+onFrames (port (Part.uf n)) k = k
+onFrames (port (Part.phase p)) k = k
+onFrames (port (Part.started n)) k = k
+onFrames (port (Part.gone b)) k = record { counts = k .counts; gone = b; wasRunning = k .wasRunning }
+onFrames (port (Part.suspended b)) k = k
+onFrames (port (Part.wasRunning b)) k = record { counts = k .counts; gone = k .gone; wasRunning = b }
+onFrames (audio (Part.credit n)) k = withCounts k (record { credit = n; received = k .counts .received; sent = k .counts .sent })
+onFrames (audio (Part.budget n)) k = k
+onFrames (audio (Part.counter n)) k = k
+onFrames (audio (Part.block n m)) k = k
+onFrames (audio (Part.frame f)) k = k
+onFrames (audio (Part.taken n)) k = k
+onFrames (request c) k = k
+onFrames (stream c) k = k
 
 -- by what the two counters are
 abbrev framesBy : Frames → ℕ → ℕ → Frames
@@ -77,31 +69,21 @@ frames-apply (bus s) w = refl
 frames-apply (ran e r n) w = refl
 frames-apply (lost n) w = refl
 frames-apply (count c n) w = frames-count c n w
-frames-apply (uf n) w = refl
-frames-apply (phase p) w = refl
-frames-apply (started n) w = refl
-frames-apply (gone b) w = refl
-frames-apply (suspended b) w = refl
-frames-apply (wasRunning b) w = refl
-frames-apply (credit n) w = refl
-frames-apply (budget n) w = refl
-frames-apply (counter n) w = refl
-frames-apply (block n m) w = refl
 frames-apply (timers ts) w = refl
-frames-apply (control c) w = refl
-frames-apply (queued bs) w = refl
-frames-apply popped w = refl
-frames-apply (pushed bs) w = refl
-frames-apply cleared w = refl
-frames-apply (reply n bs) w = refl
-frames-apply (device bs) w = refl
-frames-apply (config bs) w = refl
-frames-apply forgot w = refl
-frames-apply (midi n) w = refl
-frames-apply (serial n) w = refl
-frames-apply (received bs) w = refl
-frames-apply (frame f) w = refl
-frames-apply (taken n) w = refl
+frames-apply (port (Part.uf n)) w = refl
+frames-apply (port (Part.phase p)) w = refl
+frames-apply (port (Part.started n)) w = refl
+frames-apply (port (Part.gone b)) w = refl
+frames-apply (port (Part.suspended b)) w = refl
+frames-apply (port (Part.wasRunning b)) w = refl
+frames-apply (audio (Part.credit n)) w = refl
+frames-apply (audio (Part.budget n)) w = refl
+frames-apply (audio (Part.counter n)) w = refl
+frames-apply (audio (Part.block n m)) w = refl
+frames-apply (audio (Part.frame f)) w = refl
+frames-apply (audio (Part.taken n)) w = refl
+frames-apply (request c) w = ap framesOf (request-beside c w)
+frames-apply (stream c) w = ap framesOf (stream-beside c w)
 
 abbrev pub frames : Fields Frames
 frames =
@@ -124,31 +106,21 @@ frames-leaves (bus s) h k = refl
 frames-leaves (ran e r n) h k = refl
 frames-leaves (lost n) h k = refl
 frames-leaves (count c n) h k = frames-counter c h n k
-frames-leaves (uf n) h k = refl
-frames-leaves (phase p) h k = refl
-frames-leaves (started n) h k = refl
-frames-leaves (gone b) h k = absurd (false-true h)
-frames-leaves (suspended b) h k = refl
-frames-leaves (wasRunning b) h k = absurd (false-true h)
-frames-leaves (credit n) h k = absurd (false-true h)
-frames-leaves (budget n) h k = refl
-frames-leaves (counter n) h k = refl
-frames-leaves (block n m) h k = refl
 frames-leaves (timers ts) h k = refl
-frames-leaves (control c) h k = refl
-frames-leaves (queued bs) h k = refl
-frames-leaves popped h k = refl
-frames-leaves (pushed bs) h k = refl
-frames-leaves cleared h k = refl
-frames-leaves (reply n bs) h k = refl
-frames-leaves (device bs) h k = refl
-frames-leaves (config bs) h k = refl
-frames-leaves forgot h k = refl
-frames-leaves (midi n) h k = refl
-frames-leaves (serial n) h k = refl
-frames-leaves (received bs) h k = refl
-frames-leaves (frame f) h k = refl
-frames-leaves (taken n) h k = refl
+frames-leaves (port (Part.uf n)) h k = refl
+frames-leaves (port (Part.phase p)) h k = refl
+frames-leaves (port (Part.started n)) h k = refl
+frames-leaves (port (Part.gone b)) h k = absurd (false-true h)
+frames-leaves (port (Part.suspended b)) h k = refl
+frames-leaves (port (Part.wasRunning b)) h k = absurd (false-true h)
+frames-leaves (audio (Part.credit n)) h k = absurd (false-true h)
+frames-leaves (audio (Part.budget n)) h k = refl
+frames-leaves (audio (Part.counter n)) h k = refl
+frames-leaves (audio (Part.block n m)) h k = refl
+frames-leaves (audio (Part.frame f)) h k = refl
+frames-leaves (audio (Part.taken n)) h k = refl
+frames-leaves (request c) h k = refl
+frames-leaves (stream c) h k = refl
 
 abbrev pub framesReading : Reading Frames
 framesReading = readingOf frames frames-leaves

@@ -10,7 +10,9 @@ use Rattle.bits.proofs.Tests.{false-true, or-false}
 use Rattle.record.specs.Record.{Counter, place, counterOf, «midi_dtds», «midi_asleep»}
 use Rattle.record.proofs.Counters.{rose, raised-by, rose-other}
 use Rattle.record.specs.World.{World}
-use Rattle.record.specs.Change.{Change, bus, ran, lost, count, uf, phase, started, gone, suspended, wasRunning, credit, budget, counter, block, timers, control, queued, popped, pushed, cleared, reply, device, config, forgot, midi, serial, received, frame, taken, apply}
+use Rattle.record.specs.Parts as Part
+use Rattle.record.specs.Change.{Change, bus, ran, lost, count, gone, suspended, counter, timers, apply, port, audio, request, stream}
+use Rattle.record.proofs.Beside.{request-beside}
 use Rattle.model.specs.PortMarks.{MidiCome, midiCome}
 use Rattle.model.proofs.Fields.{Fields}
 use Rattle.model.proofs.Plain.{Effect, none, tallied, cableIs, suspendIs, runIs, blockIs, came, effectOf, plainCounterBy, plainEffect, blockAndEnumerations, plain}
@@ -67,31 +69,23 @@ done (bus s) w = (refl, refl)
 done (ran e r n) w = (refl, refl)
 done (lost n) w = (refl, refl)
 done (count c n) w = count-done c n w
-done (uf n) w = (refl, refl)
-done (phase p) w = (refl, refl)
-done (started n) w = (refl, refl)
-done (gone b) w = (refl, refl)
-done (suspended b) w = (refl, refl)
-done (wasRunning b) w = (refl, refl)
-done (credit n) w = (refl, refl)
-done (budget n) w = (refl, refl)
-done (counter n) w = (refl, refl)
-done (block n m) w = (refl, refl)
 done (timers ts) w = (refl, refl)
-done (control c) w = (refl, refl)
-done (queued bs) w = (refl, refl)
-done popped w = (refl, refl)
-done (pushed bs) w = (refl, refl)
-done cleared w = (refl, refl)
-done (reply n bs) w = (refl, refl)
-done (device bs) w = (refl, refl)
-done (config bs) w = (refl, refl)
-done forgot w = (refl, refl)
-done (midi n) w = (refl, refl)
-done (serial n) w = (refl, refl)
-done (received bs) w = (refl, refl)
-done (frame f) w = (refl, refl)
-done (taken n) w = (refl, refl)
+done (port (Part.uf n)) w = (refl, refl)
+done (port (Part.phase p)) w = (refl, refl)
+done (port (Part.started n)) w = (refl, refl)
+done (port (Part.gone b)) w = (refl, refl)
+done (port (Part.suspended b)) w = (refl, refl)
+done (port (Part.wasRunning b)) w = (refl, refl)
+done (audio (Part.credit n)) w = (refl, refl)
+done (audio (Part.budget n)) w = (refl, refl)
+done (audio (Part.counter n)) w = (refl, refl)
+done (audio (Part.block n m)) w = (refl, refl)
+done (audio (Part.frame f)) w = (refl, refl)
+done (audio (Part.taken n)) w = (refl, refl)
+done (request c) w = (ap marksOf (request-beside c w), ap midiCome (request-beside c w))
+done (stream (Part.midi n)) w = (refl, refl)
+done (stream (Part.serial n)) w = (refl, refl)
+done (stream (Part.received bs)) w = (refl, refl)
 
 -- fields that change by the marks' effects and by those of MIDI that comes
 module _ {K : Type 0} (does : Effect → K → K) (rests : (k : K) → does none k ≡ k) (others : (c : Counter) → plainCounterBy blockAndEnumerations c ≡ true → (n : ℕ) (k : K) → does (tallied c n) k ≡ k) (blocks : (n m : ℕ) (k : K) → does (blockIs n m) k ≡ k) where

@@ -10,7 +10,7 @@ use Rattle.bits.proofs.Tests.{false-true}
 use Rattle.bus.specs.Steps.{replay}
 use Rattle.dtd.specs.Dtd.{Endpoint}
 use Rattle.record.specs.World.{World}
-use Rattle.record.specs.Change.{Change, bus, ran, lost, count, uf, phase, started, gone, suspended, wasRunning, credit, budget, counter, block, timers, control, queued, popped, pushed, cleared, reply, device, config, forgot, midi, serial, received, frame, taken, Step}
+use Rattle.record.specs.Change.{Change, bus, ran, lost, count, timers, Step, port, audio, request, stream}
 use Rattle.model.specs.Marks.{noted, total, audioMark}
 use Rattle.model.proofs.Reading.{Reading, Lasting, Unheard, Unmarked, AudioAlone, Silent, quiet}
 
@@ -26,31 +26,11 @@ module _ (f : Endpoint → ℕ → ℕ → ℕ) (g : ℕ → ℕ) where
   quiet-noted (ran e′ k n) e = absurd (false-true e)
   quiet-noted (lost n) e = absurd (false-true e)
   quiet-noted (count c n) e = refl
-  quiet-noted (uf n) e = refl
-  quiet-noted (phase p) e = refl
-  quiet-noted (started n) e = refl
-  quiet-noted (gone b) e = refl
-  quiet-noted (suspended b) e = refl
-  quiet-noted (wasRunning b) e = refl
-  quiet-noted (credit n) e = refl
-  quiet-noted (budget n) e = refl
-  quiet-noted (counter n) e = refl
-  quiet-noted (block n c) e = refl
   quiet-noted (timers ts) e = refl
-  quiet-noted (control c) e = refl
-  quiet-noted (queued bs) e = refl
-  quiet-noted popped e = refl
-  quiet-noted (pushed bs) e = refl
-  quiet-noted cleared e = refl
-  quiet-noted (reply n bs) e = refl
-  quiet-noted (device bs) e = refl
-  quiet-noted (config bs) e = refl
-  quiet-noted forgot e = refl
-  quiet-noted (midi n) e = refl
-  quiet-noted (serial n) e = refl
-  quiet-noted (received bs) e = refl
-  quiet-noted (frame x) e = refl
-  quiet-noted (taken n) e = refl
+  quiet-noted (port c) e = refl
+  quiet-noted (audio c) e = refl
+  quiet-noted (request c) e = refl
+  quiet-noted (stream c) e = refl
 
   pub same : (n m : ℕ) → m ≡ 0 → n + m ≡ n
   same n m e = omega (arith, e)

@@ -8,7 +8,9 @@ use Rattle.bits.proofs.Tests.{false-true}
 use Rattle.record.specs.Record.{Counter, place, «in_frames», «out_frames»}
 use Rattle.record.proofs.Counters.{rose, raised-by, rose-other}
 use Rattle.record.specs.World.{World}
-use Rattle.record.specs.Change.{Change, bus, ran, lost, count, uf, phase, started, gone, suspended, wasRunning, credit, budget, counter, block, timers, control, queued, popped, pushed, cleared, reply, device, config, forgot, midi, serial, received, frame, taken, takenFrom, apply}
+use Rattle.record.specs.Parts as Part
+use Rattle.record.specs.Change.{Change, bus, ran, lost, count, counter, timers, takenFrom, apply, port, audio, request, stream}
+use Rattle.record.proofs.Beside.{port-beside, request-beside, stream-beside}
 use Rattle.model.specs.Earned.{Out, outOf}
 use Rattle.model.proofs.Fields.{Fields}
 use Rattle.model.proofs.Reading.{Reading, readingOf, Lasting, Unheard, quiet, quietCounter}
@@ -25,31 +27,16 @@ outOn (bus s) o = o
 outOn (ran e r n) o = o
 outOn (lost n) o = o
 outOn (count c n) o = outCounts c n o
-outOn (uf n) o = o
-outOn (phase p) o = o
-outOn (started n) o = o
-outOn (gone b) o = o
-outOn (suspended b) o = o
-outOn (wasRunning b) o = o
-outOn (credit n) o = o
-outOn (budget n) o = o
-outOn (counter n) o = record { counter = n; sending = o .sending; capacity = o .capacity; sent = o .sent }
-outOn (block n m) o = o
 outOn (timers ts) o = o
-outOn (control c) o = o
-outOn (queued bs) o = o
-outOn popped o = o
-outOn (pushed bs) o = o
-outOn cleared o = o
-outOn (reply n bs) o = o
-outOn (device bs) o = o
-outOn (config bs) o = o
-outOn forgot o = o
-outOn (midi n) o = o
-outOn (serial n) o = o
-outOn (received bs) o = o
-outOn (frame f) o = o
-outOn (taken n) o = record { counter = o .counter; sending = takenFrom (o .capacity) n (o .sending); capacity = o .capacity; sent = o .sent }
+outOn (port c) o = o
+outOn (audio (Part.credit n)) o = o
+outOn (audio (Part.budget n)) o = o
+outOn (audio (Part.counter n)) o = record { counter = n; sending = o .sending; capacity = o .capacity; sent = o .sent }
+outOn (audio (Part.block n m)) o = o
+outOn (audio (Part.frame f)) o = o
+outOn (audio (Part.taken n)) o = record { counter = o .counter; sending = takenFrom (o .capacity) n (o .sending); capacity = o .capacity; sent = o .sent }
+outOn (request c) o = o
+outOn (stream c) o = o
 
 out-count : (c : Counter) (n : ℕ) (w : World) → outOf (apply (count c n) w) ≡ outOn (count c n) (outOf w)
 unfolding apply
@@ -61,31 +48,16 @@ out-apply (bus s) w = refl
 out-apply (ran e r n) w = refl
 out-apply (lost n) w = refl
 out-apply (count c n) w = out-count c n w
-out-apply (uf n) w = refl
-out-apply (phase p) w = refl
-out-apply (started n) w = refl
-out-apply (gone b) w = refl
-out-apply (suspended b) w = refl
-out-apply (wasRunning b) w = refl
-out-apply (credit n) w = refl
-out-apply (budget n) w = refl
-out-apply (counter n) w = refl
-out-apply (block n m) w = refl
 out-apply (timers ts) w = refl
-out-apply (control c) w = refl
-out-apply (queued bs) w = refl
-out-apply popped w = refl
-out-apply (pushed bs) w = refl
-out-apply cleared w = refl
-out-apply (reply n bs) w = refl
-out-apply (device bs) w = refl
-out-apply (config bs) w = refl
-out-apply forgot w = refl
-out-apply (midi n) w = refl
-out-apply (serial n) w = refl
-out-apply (received bs) w = refl
-out-apply (frame f) w = refl
-out-apply (taken n) w = refl
+out-apply (port c) w = ap outOf (port-beside c w)
+out-apply (audio (Part.credit n)) w = refl
+out-apply (audio (Part.budget n)) w = refl
+out-apply (audio (Part.counter n)) w = refl
+out-apply (audio (Part.block n m)) w = refl
+out-apply (audio (Part.frame f)) w = refl
+out-apply (audio (Part.taken n)) w = refl
+out-apply (request c) w = ap outOf (request-beside c w)
+out-apply (stream c) w = ap outOf (stream-beside c w)
 
 abbrev pub outs : Fields Out
 outs =
@@ -106,31 +78,16 @@ out-leaves (bus s) h k = refl
 out-leaves (ran e r n) h k = refl
 out-leaves (lost n) h k = refl
 out-leaves (count c n) h k = out-counter c h n k
-out-leaves (uf n) h k = refl
-out-leaves (phase p) h k = refl
-out-leaves (started n) h k = refl
-out-leaves (gone b) h k = refl
-out-leaves (suspended b) h k = refl
-out-leaves (wasRunning b) h k = refl
-out-leaves (credit n) h k = refl
-out-leaves (budget n) h k = refl
-out-leaves (counter n) h k = absurd (false-true h)
-out-leaves (block n m) h k = refl
 out-leaves (timers ts) h k = refl
-out-leaves (control c) h k = refl
-out-leaves (queued bs) h k = refl
-out-leaves popped h k = refl
-out-leaves (pushed bs) h k = refl
-out-leaves cleared h k = refl
-out-leaves (reply n bs) h k = refl
-out-leaves (device bs) h k = refl
-out-leaves (config bs) h k = refl
-out-leaves forgot h k = refl
-out-leaves (midi n) h k = refl
-out-leaves (serial n) h k = refl
-out-leaves (received bs) h k = refl
-out-leaves (frame f) h k = refl
-out-leaves (taken n) h k = absurd (false-true h)
+out-leaves (port c) h k = refl
+out-leaves (audio (Part.credit n)) h k = refl
+out-leaves (audio (Part.budget n)) h k = refl
+out-leaves (audio (Part.counter n)) h k = absurd (false-true h)
+out-leaves (audio (Part.block n m)) h k = refl
+out-leaves (audio (Part.frame f)) h k = refl
+out-leaves (audio (Part.taken n)) h k = absurd (false-true h)
+out-leaves (request c) h k = refl
+out-leaves (stream c) h k = refl
 
 abbrev pub outReading : Reading Out
 outReading = readingOf outs out-leaves

@@ -11,7 +11,8 @@ use Rattle.record.specs.declared.Phase.the-variants.{Idle, Stream}
 use Rattle.record.specs.declared.Settings.{Settings}
 use Rattle.record.specs.Record.{Counter, place, microframes, «midi_dtds», «midi_asleep», restarts, enumerations}
 use Rattle.record.specs.World.{World}
-use Rattle.record.specs.Change.{Change, bus, ran, lost, count, uf, phase, started, gone, suspended, wasRunning, credit, budget, counter, block, timers, control, queued, popped, pushed, cleared, reply, device, config, forgot, midi, serial, received, frame, taken, apply}
+use Rattle.record.specs.Parts as Part
+use Rattle.record.specs.Change.{Change, bus, ran, lost, count, uf, phase, started, gone, suspended, credit, budget, counter, block, timers, control, queued, popped, pushed, cleared, reply, device, config, forgot, midi, serial, received, frame, taken, apply, port, audio, request, stream}
 use Rattle.model.specs.Phases.{within, counts, ticks, forgets, returns, cable, suspends, enters, idles, powers, resets, startsFrame}
 use Rattle.model.specs.Control.{posts, unstalls, stages, controls}
 use Rattle.model.specs.Streams.{midiIn, serialStep, midiOut, readsVendor}
@@ -37,31 +38,23 @@ effectOf (bus s) = none
 effectOf (ran e r n) = none
 effectOf (lost n) = none
 effectOf (count c n) = tallied c n
-effectOf (uf n) = none
-effectOf (phase p) = none
-effectOf (started n) = none
-effectOf (gone b) = cableIs b
-effectOf (suspended b) = suspendIs b
-effectOf (wasRunning b) = runIs b
-effectOf (credit n) = none
-effectOf (budget n) = none
-effectOf (counter n) = none
-effectOf (block n m) = blockIs n m
 effectOf (timers ts) = none
-effectOf (control c) = none
-effectOf (queued bs) = none
-effectOf popped = none
-effectOf (pushed bs) = none
-effectOf cleared = none
-effectOf (reply n bs) = none
-effectOf (device bs) = none
-effectOf (config bs) = none
-effectOf forgot = none
-effectOf (midi n) = none
-effectOf (serial n) = none
-effectOf (received bs) = came bs
-effectOf (frame f) = none
-effectOf (taken n) = none
+effectOf (port (Part.uf n)) = none
+effectOf (port (Part.phase p)) = none
+effectOf (port (Part.started n)) = none
+effectOf (port (Part.gone b)) = cableIs b
+effectOf (port (Part.suspended b)) = suspendIs b
+effectOf (port (Part.wasRunning b)) = runIs b
+effectOf (audio (Part.credit n)) = none
+effectOf (audio (Part.budget n)) = none
+effectOf (audio (Part.counter n)) = none
+effectOf (audio (Part.block n m)) = blockIs n m
+effectOf (audio (Part.frame f)) = none
+effectOf (audio (Part.taken n)) = none
+effectOf (request c) = none
+effectOf (stream (Part.midi n)) = none
+effectOf (stream (Part.serial n)) = none
+effectOf (stream (Part.received bs)) = came bs
 
 -- which changes beside the plain ones the fields ignore too: of the block, of the count of enumerations, of MIDI that comes, of the port's marks
 pub record Ignored : Type 0 where

@@ -14,7 +14,9 @@ use Rattle.record.specs.declared.Control.{Control}
 use Rattle.record.specs.declared.Settings.{Settings}
 use Rattle.record.specs.Record.{raised, wrapped}
 use Rattle.record.specs.World.{World}
-use Rattle.record.specs.Change.{Change, bus, ran, lost, count, uf, phase, started, gone, suspended, wasRunning, credit, budget, counter, block, timers, control, queued, popped, pushed, cleared, reply, device, config, forgot, midi, serial, received, frame, taken, apply, drained, Step, left, nothing, if, when, one, here}
+use Rattle.record.specs.Parts as Part
+use Rattle.record.specs.Change.{Change, bus, ran, lost, count, uf, phase, gone, wasRunning, timers, control, device, apply, drained, Step, left, nothing, if, when, one, here, port, audio, request, stream}
+use Rattle.record.proofs.Beside.{audio-beside, stream-beside}
 use Rattle.model.specs.Phases.{counts, ticks, cable, suspends, leaves}
 use Rattle.model.specs.Microframe.{rsSet, goneAt, asleepAt, opens, byPhase, atPhase, frameOf, microframe}
 use Rattle.model.specs.Reach.{toPhase, phaseBy, leftBy, deviceLeft}
@@ -46,31 +48,24 @@ standOn (bus s) k = k
 standOn (ran e r n) k = k
 standOn (lost n) k = k
 standOn (count c n) k = k
-standOn (uf n) k = standBy (k .phase) (k .control) (k .waiting) (k .queue) n (k .t) (k .gone) (k .wasRunning)
-standOn (phase p) k = standBy p (k .control) (k .waiting) (k .queue) (k .uf) (k .t) (k .gone) (k .wasRunning)
-standOn (started n) k = standBy (k .phase) (k .control) (k .waiting) (k .queue) (k .uf) n (k .gone) (k .wasRunning)
-standOn (gone b) k = standBy (k .phase) (k .control) (k .waiting) (k .queue) (k .uf) (k .t) b (k .wasRunning)
-standOn (suspended b) k = k
-standOn (wasRunning b) k = standBy (k .phase) (k .control) (k .waiting) (k .queue) (k .uf) (k .t) (k .gone) b
-standOn (credit n) k = k
-standOn (budget n) k = k
-standOn (counter n) k = k
-standOn (block n m) k = k
 standOn (timers ts) k = k
-standOn (control c) k = standBy (k .phase) c (k .waiting) (k .queue) (k .uf) (k .t) (k .gone) (k .wasRunning)
-standOn (queued bs) k = standBy (k .phase) (k .control) (k .waiting + length bs / 8) (sets (k .queue) (8 * k .waiting) bs) (k .uf) (k .t) (k .gone) (k .wasRunning)
-standOn popped k = standBy (k .phase) (k .control) (k .waiting - 1) (drained (k .queue) (8 * k .waiting) 8) (k .uf) (k .t) (k .gone) (k .wasRunning)
-standOn (pushed bs) k = standBy (k .phase) (k .control) (k .waiting + 1) (sets (k .queue) 0 (bs ++ take (8 * k .waiting) (k .queue))) (k .uf) (k .t) (k .gone) (k .wasRunning)
-standOn cleared k = standBy (k .phase) (k .control) 0 (k .queue) (k .uf) (k .t) (k .gone) (k .wasRunning)
-standOn (reply n bs) k = k
-standOn (device bs) k = k
-standOn (config bs) k = k
-standOn forgot k = k
-standOn (midi n) k = k
-standOn (serial n) k = k
-standOn (received bs) k = k
-standOn (frame f) k = k
-standOn (taken n) k = k
+standOn (port (Part.uf n)) k = standBy (k .phase) (k .control) (k .waiting) (k .queue) n (k .t) (k .gone) (k .wasRunning)
+standOn (port (Part.phase p)) k = standBy p (k .control) (k .waiting) (k .queue) (k .uf) (k .t) (k .gone) (k .wasRunning)
+standOn (port (Part.started n)) k = standBy (k .phase) (k .control) (k .waiting) (k .queue) (k .uf) n (k .gone) (k .wasRunning)
+standOn (port (Part.gone b)) k = standBy (k .phase) (k .control) (k .waiting) (k .queue) (k .uf) (k .t) b (k .wasRunning)
+standOn (port (Part.suspended b)) k = k
+standOn (port (Part.wasRunning b)) k = standBy (k .phase) (k .control) (k .waiting) (k .queue) (k .uf) (k .t) (k .gone) b
+standOn (audio c) k = k
+standOn (request (Part.control c)) k = standBy (k .phase) c (k .waiting) (k .queue) (k .uf) (k .t) (k .gone) (k .wasRunning)
+standOn (request (Part.queued bs)) k = standBy (k .phase) (k .control) (k .waiting + length bs / 8) (sets (k .queue) (8 * k .waiting) bs) (k .uf) (k .t) (k .gone) (k .wasRunning)
+standOn (request Part.popped) k = standBy (k .phase) (k .control) (k .waiting - 1) (drained (k .queue) (8 * k .waiting) 8) (k .uf) (k .t) (k .gone) (k .wasRunning)
+standOn (request (Part.pushed bs)) k = standBy (k .phase) (k .control) (k .waiting + 1) (sets (k .queue) 0 (bs ++ take (8 * k .waiting) (k .queue))) (k .uf) (k .t) (k .gone) (k .wasRunning)
+standOn (request Part.cleared) k = standBy (k .phase) (k .control) 0 (k .queue) (k .uf) (k .t) (k .gone) (k .wasRunning)
+standOn (request (Part.reply n bs)) k = k
+standOn (request (Part.device bs)) k = k
+standOn (request (Part.config bs)) k = k
+standOn (request Part.forgot) k = k
+standOn (stream c) k = k
 
 pub stand-apply : (c : Change) (w : World) → standOf (apply c w) ≡ standOn c (standOf w)
 unfolding apply
@@ -78,31 +73,24 @@ stand-apply (bus s) w = refl
 stand-apply (ran e r n) w = refl
 stand-apply (lost n) w = refl
 stand-apply (count c n) w = refl
-stand-apply (uf n) w = refl
-stand-apply (phase p) w = refl
-stand-apply (started n) w = refl
-stand-apply (gone b) w = refl
-stand-apply (suspended b) w = refl
-stand-apply (wasRunning b) w = refl
-stand-apply (credit n) w = refl
-stand-apply (budget n) w = refl
-stand-apply (counter n) w = refl
-stand-apply (block n m) w = refl
 stand-apply (timers ts) w = refl
-stand-apply (control c) w = refl
-stand-apply (queued bs) w = refl
-stand-apply popped w = refl
-stand-apply (pushed bs) w = refl
-stand-apply cleared w = refl
-stand-apply (reply n bs) w = refl
-stand-apply (device bs) w = refl
-stand-apply (config bs) w = refl
-stand-apply forgot w = refl
-stand-apply (midi n) w = refl
-stand-apply (serial n) w = refl
-stand-apply (received bs) w = refl
-stand-apply (frame f) w = refl
-stand-apply (taken n) w = refl
+stand-apply (port (Part.uf n)) w = refl
+stand-apply (port (Part.phase p)) w = refl
+stand-apply (port (Part.started n)) w = refl
+stand-apply (port (Part.gone b)) w = refl
+stand-apply (port (Part.suspended b)) w = refl
+stand-apply (port (Part.wasRunning b)) w = refl
+stand-apply (audio c) w = ap standOf (audio-beside c w)
+stand-apply (request (Part.control c)) w = refl
+stand-apply (request (Part.queued bs)) w = refl
+stand-apply (request Part.popped) w = refl
+stand-apply (request (Part.pushed bs)) w = refl
+stand-apply (request Part.cleared) w = refl
+stand-apply (request (Part.reply n bs)) w = refl
+stand-apply (request (Part.device bs)) w = refl
+stand-apply (request (Part.config bs)) w = refl
+stand-apply (request Part.forgot) w = refl
+stand-apply (stream c) w = ap standOf (stream-beside c w)
 
 abbrev pub stands : Fields Stand
 stands =

@@ -15,7 +15,8 @@ use Rattle.record.specs.declared.Phase.{Phase}
 use Rattle.record.specs.declared.Settings.{Settings}
 use Rattle.record.specs.Record.{Counter, place, «in_frames», «out_frames»}
 use Rattle.record.specs.World.{World, busOf}
-use Rattle.record.specs.Change.{Change, bus, ran, lost, count, uf, phase, started, gone, suspended, wasRunning, credit, budget, counter, block, timers, control, queued, popped, pushed, cleared, reply, device, config, forgot, midi, serial, received, frame, taken, Step, left, _then_, nothing, if, one, here, onBus, onPage, runs, ranStores}
+use Rattle.record.specs.Parts as Part
+use Rattle.record.specs.Change.{Change, bus, ran, lost, count, phase, gone, wasRunning, credit, budget, timers, frame, Step, left, _then_, nothing, if, one, here, onBus, onPage, runs, ranStores, port, audio, request, stream}
 use Rattle.model.specs.Phases.{counts, ticks, cable, returns, forgets, dropsRequest, sleeps, suspends, leaves, departs, enters, idles, powers, resets, startsFrame}
 use Rattle.model.specs.Control.{toStatus, posted, posts, configured, keepsReply, dataStage, asksWhole, chooses, configures, finishes, statusEnds, statusStage, unstalls, stages, controls}
 use Rattle.model.specs.Streams.{naks, reads, midiIn, drainsSerial, serialStep, drainsMidi, midiOut, readsVendor}
@@ -34,31 +35,21 @@ quiet (bus s) = true
 quiet (ran e r n) = false
 quiet (lost n) = false
 quiet (count c n) = quietCounter c
-quiet (uf n) = true
-quiet (phase p) = false
-quiet (started n) = true
-quiet (gone b) = false
-quiet (suspended b) = true
-quiet (wasRunning b) = false
-quiet (credit n) = false
-quiet (budget n) = false
-quiet (counter n) = false
-quiet (block n m) = true
 quiet (timers ts) = true
-quiet (control c) = true
-quiet (queued bs) = true
-quiet popped = true
-quiet (pushed bs) = true
-quiet cleared = true
-quiet (reply n bs) = true
-quiet (device bs) = true
-quiet (config bs) = true
-quiet forgot = true
-quiet (midi n) = true
-quiet (serial n) = true
-quiet (received bs) = true
-quiet (frame f) = false
-quiet (taken n) = false
+quiet (port (Part.uf n)) = true
+quiet (port (Part.phase p)) = false
+quiet (port (Part.started n)) = true
+quiet (port (Part.gone b)) = false
+quiet (port (Part.suspended b)) = true
+quiet (port (Part.wasRunning b)) = false
+quiet (audio (Part.credit n)) = false
+quiet (audio (Part.budget n)) = false
+quiet (audio (Part.counter n)) = false
+quiet (audio (Part.block n m)) = true
+quiet (audio (Part.frame f)) = false
+quiet (audio (Part.taken n)) = false
+quiet (request c) = true
+quiet (stream c) = true
 
 -- what each change does to the value read; quiet ones do nothing
 pub record Reading (K : Type 0) : Type 0 where

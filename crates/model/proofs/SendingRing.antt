@@ -7,7 +7,8 @@ use lib.ListN.{drop}
 use Rattle.bits.specs.Pick.{pick}
 use Rattle.bus.specs.Steps.{replay}
 use Rattle.record.specs.World.{World}
-use Rattle.record.specs.Change.{Change, bus, ran, lost, count, uf, phase, started, gone, suspended, wasRunning, credit, budget, counter, block, timers, control, queued, popped, pushed, cleared, reply, device, config, forgot, midi, serial, received, frame, taken, apply, left}
+use Rattle.record.specs.Change.{Change, bus, ran, lost, count, block, timers, apply, left, port, audio, request, stream}
+use Rattle.record.proofs.Beside.{port-beside, audio-beside, request-beside, stream-beside}
 use Rattle.model.specs.Audio.{BLOCK-FRAMES, capacity, streamIn}
 use Rattle.model.specs.Microframe.{rsSet, microframe, enumerates}
 use Rattle.model.specs.Reach.{toPhase, phaseBy, streamBy, atOutput}
@@ -25,31 +26,11 @@ words-change (bus s) w = refl
 words-change (ran e k n) w = refl
 words-change (lost n) w = refl
 words-change (count c n) w = refl
-words-change (uf n) w = refl
-words-change (phase p) w = refl
-words-change (started n) w = refl
-words-change (gone b) w = refl
-words-change (suspended b) w = refl
-words-change (wasRunning b) w = refl
-words-change (credit n) w = refl
-words-change (budget n) w = refl
-words-change (counter n) w = refl
-words-change (block n c) w = refl
 words-change (timers ts) w = refl
-words-change (control c) w = refl
-words-change (queued bs) w = refl
-words-change popped w = refl
-words-change (pushed bs) w = refl
-words-change cleared w = refl
-words-change (reply n bs) w = refl
-words-change (device bs) w = refl
-words-change (config bs) w = refl
-words-change forgot w = refl
-words-change (midi n) w = refl
-words-change (serial n) w = refl
-words-change (received bs) w = refl
-words-change (frame f) w = refl
-words-change (taken n) w = refl
+words-change (port c) w = ap (λ (v : World). v .lent .sending) (port-beside c w)
+words-change (audio c) w = ap (λ (v : World). v .lent .sending) (audio-beside c w)
+words-change (request c) w = ap (λ (v : World). v .lent .sending) (request-beside c w)
+words-change (stream c) w = ap (λ (v : World). v .lent .sending) (stream-beside c w)
 
 words-kept : (cs : List Change) (w : World) → replay apply cs w .lent .sending ≡ w .lent .sending
 words-kept [] w = refl

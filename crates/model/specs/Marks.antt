@@ -6,7 +6,7 @@ use mathlib.Core.List.{List, [], _∷_}
 use lib.Dec.{eqb}
 use Rattle.bits.specs.Pick.{pick}
 use Rattle.dtd.specs.Dtd.{Endpoint}
-use Rattle.record.specs.Change.{Change, bus, ran, lost, count, uf, phase, started, gone, suspended, wasRunning, credit, budget, counter, block, timers, control, queued, popped, pushed, cleared, reply, device, config, forgot, midi, serial, received, frame, taken}
+use Rattle.record.specs.Change.{Change, bus, ran, lost, count, block, timers, port, audio, request, stream}
 
 -- 870, 949: endpoint 3, the input one or the output one
 abbrev pub isAudio : Bool → Endpoint → Bool
@@ -18,31 +18,11 @@ noted f g (bus s) = 0
 noted f g (ran e k n) = f e k n
 noted f g (lost n) = g n
 noted f g (count c n) = 0
-noted f g (uf n) = 0
-noted f g (phase p) = 0
-noted f g (started n) = 0
-noted f g (gone b) = 0
-noted f g (suspended b) = 0
-noted f g (wasRunning b) = 0
-noted f g (credit n) = 0
-noted f g (budget n) = 0
-noted f g (counter n) = 0
-noted f g (block n c) = 0
 noted f g (timers ts) = 0
-noted f g (control c) = 0
-noted f g (queued bs) = 0
-noted f g popped = 0
-noted f g (pushed bs) = 0
-noted f g cleared = 0
-noted f g (reply n bs) = 0
-noted f g (device bs) = 0
-noted f g (config bs) = 0
-noted f g forgot = 0
-noted f g (midi n) = 0
-noted f g (serial n) = 0
-noted f g (received bs) = 0
-noted f g (frame x) = 0
-noted f g (taken n) = 0
+noted f g (port c) = 0
+noted f g (audio c) = 0
+noted f g (request c) = 0
+noted f g (stream c) = 0
 
 -- of marks alone
 abbrev pub marked : (Endpoint → ℕ → ℕ → ℕ) → Change → ℕ

@@ -11,7 +11,9 @@ use Rattle.record.specs.declared.Settings.{Settings}
 use Rattle.record.specs.Record.{wrapped, raised, Counter, place, «midi_asleep», counterOf}
 use Rattle.record.proofs.Counters.{rose, raised-by, rose-other}
 use Rattle.record.specs.World.{World}
-use Rattle.record.specs.Change.{Change, bus, ran, lost, count, uf, phase, started, gone, suspended, wasRunning, credit, budget, counter, block, timers, control, queued, popped, pushed, cleared, reply, device, config, forgot, midi, serial, received, frame, taken, apply, left, nothing, one, here}
+use Rattle.record.specs.Parts as Part
+use Rattle.record.specs.Change.{Change, bus, ran, lost, count, phase, gone, suspended, block, timers, device, midi, apply, left, nothing, one, here, port, audio, request, stream}
+use Rattle.record.proofs.Beside.{port-beside, request-beside, stream-beside}
 use Rattle.model.specs.Phases.{within, sleeps, suspends, leaves, startsFrame}
 use Rattle.model.specs.Control.{controls}
 use Rattle.model.specs.Streams.{midiIn}
@@ -44,31 +46,16 @@ asideOn (bus s) k = k
 asideOn (ran e r n) k = k
 asideOn (lost n) k = k
 asideOn (count c n) k = asideCounts c n k
-asideOn (uf n) k = k
-asideOn (phase p) k = k
-asideOn (started n) k = k
-asideOn (gone b) k = k
-asideOn (suspended b) k = k
-asideOn (wasRunning b) k = k
-asideOn (credit n) k = k
-asideOn (budget n) k = k
-asideOn (counter n) k = k
-asideOn (block n m) k = record { block = n; channels = m; asleep = k .asleep }
 asideOn (timers ts) k = k
-asideOn (control c) k = k
-asideOn (queued bs) k = k
-asideOn popped k = k
-asideOn (pushed bs) k = k
-asideOn cleared k = k
-asideOn (reply n bs) k = k
-asideOn (device bs) k = k
-asideOn (config bs) k = k
-asideOn forgot k = k
-asideOn (midi n) k = k
-asideOn (serial n) k = k
-asideOn (received bs) k = k
-asideOn (frame f) k = k
-asideOn (taken n) k = k
+asideOn (port c) k = k
+asideOn (audio (Part.credit n)) k = k
+asideOn (audio (Part.budget n)) k = k
+asideOn (audio (Part.counter n)) k = k
+asideOn (audio (Part.block n m)) k = record { block = n; channels = m; asleep = k .asleep }
+asideOn (audio (Part.frame f)) k = k
+asideOn (audio (Part.taken n)) k = k
+asideOn (request c) k = k
+asideOn (stream c) k = k
 
 aside-count : (c : Counter) (n : ℕ) (w : World) → asideOf (apply (count c n) w) ≡ asideOn (count c n) (asideOf w)
 unfolding apply
@@ -80,31 +67,16 @@ aside-apply (bus s) w = refl
 aside-apply (ran e r n) w = refl
 aside-apply (lost n) w = refl
 aside-apply (count c n) w = aside-count c n w
-aside-apply (uf n) w = refl
-aside-apply (phase p) w = refl
-aside-apply (started n) w = refl
-aside-apply (gone b) w = refl
-aside-apply (suspended b) w = refl
-aside-apply (wasRunning b) w = refl
-aside-apply (credit n) w = refl
-aside-apply (budget n) w = refl
-aside-apply (counter n) w = refl
-aside-apply (block n m) w = refl
 aside-apply (timers ts) w = refl
-aside-apply (control c) w = refl
-aside-apply (queued bs) w = refl
-aside-apply popped w = refl
-aside-apply (pushed bs) w = refl
-aside-apply cleared w = refl
-aside-apply (reply n bs) w = refl
-aside-apply (device bs) w = refl
-aside-apply (config bs) w = refl
-aside-apply forgot w = refl
-aside-apply (midi n) w = refl
-aside-apply (serial n) w = refl
-aside-apply (received bs) w = refl
-aside-apply (frame f) w = refl
-aside-apply (taken n) w = refl
+aside-apply (port c) w = ap asideOf (port-beside c w)
+aside-apply (audio (Part.credit n)) w = refl
+aside-apply (audio (Part.budget n)) w = refl
+aside-apply (audio (Part.counter n)) w = refl
+aside-apply (audio (Part.block n m)) w = refl
+aside-apply (audio (Part.frame f)) w = refl
+aside-apply (audio (Part.taken n)) w = refl
+aside-apply (request c) w = ap asideOf (request-beside c w)
+aside-apply (stream c) w = ap asideOf (stream-beside c w)
 
 abbrev pub aside : Fields Aside
 aside =
@@ -130,31 +102,16 @@ aside-plain (bus s) h k = refl
 aside-plain (ran e r n) h k = refl
 aside-plain (lost n) h k = refl
 aside-plain (count c n) h k = aside-counter c h n k
-aside-plain (uf n) h k = refl
-aside-plain (phase p) h k = refl
-aside-plain (started n) h k = refl
-aside-plain (gone b) h k = refl
-aside-plain (suspended b) h k = refl
-aside-plain (wasRunning b) h k = refl
-aside-plain (credit n) h k = refl
-aside-plain (budget n) h k = refl
-aside-plain (counter n) h k = refl
-aside-plain (block n m) h k = absurd (false-true h)
 aside-plain (timers ts) h k = refl
-aside-plain (control c) h k = refl
-aside-plain (queued bs) h k = refl
-aside-plain popped h k = refl
-aside-plain (pushed bs) h k = refl
-aside-plain cleared h k = refl
-aside-plain (reply n bs) h k = refl
-aside-plain (device bs) h k = refl
-aside-plain (config bs) h k = refl
-aside-plain forgot h k = refl
-aside-plain (midi n) h k = refl
-aside-plain (serial n) h k = refl
-aside-plain (received bs) h k = refl
-aside-plain (frame f) h k = refl
-aside-plain (taken n) h k = refl
+aside-plain (port c) h k = refl
+aside-plain (audio (Part.credit n)) h k = refl
+aside-plain (audio (Part.budget n)) h k = refl
+aside-plain (audio (Part.counter n)) h k = refl
+aside-plain (audio (Part.block n m)) h k = absurd (false-true h)
+aside-plain (audio (Part.frame f)) h k = refl
+aside-plain (audio (Part.taken n)) h k = refl
+aside-plain (request c) h k = refl
+aside-plain (stream c) h k = refl
 
 -- ---- the whole microframe
 

@@ -12,7 +12,8 @@ use Rattle.record.specs.declared.Phase.the-variants.{Idle, Vbus, Reset, Enumera
 use Rattle.record.specs.Record.{wrapped, raised, Counter, place, «midi_dtds», «midi_asleep», enumerations, counterOf}
 use Rattle.record.proofs.Counters.{rose, raised-by, rose-other}
 use Rattle.record.specs.World.{World}
-use Rattle.record.specs.Change.{Change, bus, ran, lost, count, uf, phase, started, gone, suspended, wasRunning, credit, budget, counter, block, timers, control, queued, popped, pushed, cleared, reply, device, config, forgot, midi, serial, received, frame, taken, apply, left, if, one, nothing}
+use Rattle.record.specs.Change.{Change, bus, ran, lost, count, phase, block, timers, control, midi, apply, left, if, one, nothing, port, audio, request, stream}
+use Rattle.record.proofs.Beside.{port-beside, audio-beside, request-beside, stream-beside}
 use Rattle.model.specs.Phases.{counts, ticks, sleeps, leaves}
 use Rattle.model.specs.Control.{enumerating, posts, configured, stalled, unstalls, stages, requests, controls}
 use Rattle.model.specs.Streams.{midiIn}
@@ -37,31 +38,11 @@ enumeratedOn (bus s) k = k
 enumeratedOn (ran e r n) k = k
 enumeratedOn (lost n) k = k
 enumeratedOn (count c n) k = enumeratedCounts c n k
-enumeratedOn (uf n) k = k
-enumeratedOn (phase p) k = k
-enumeratedOn (started n) k = k
-enumeratedOn (gone b) k = k
-enumeratedOn (suspended b) k = k
-enumeratedOn (wasRunning b) k = k
-enumeratedOn (credit n) k = k
-enumeratedOn (budget n) k = k
-enumeratedOn (counter n) k = k
-enumeratedOn (block n m) k = k
 enumeratedOn (timers ts) k = k
-enumeratedOn (control c) k = k
-enumeratedOn (queued bs) k = k
-enumeratedOn popped k = k
-enumeratedOn (pushed bs) k = k
-enumeratedOn cleared k = k
-enumeratedOn (reply n bs) k = k
-enumeratedOn (device bs) k = k
-enumeratedOn (config bs) k = k
-enumeratedOn forgot k = k
-enumeratedOn (midi n) k = k
-enumeratedOn (serial n) k = k
-enumeratedOn (received bs) k = k
-enumeratedOn (frame f) k = k
-enumeratedOn (taken n) k = k
+enumeratedOn (port c) k = k
+enumeratedOn (audio c) k = k
+enumeratedOn (request c) k = k
+enumeratedOn (stream c) k = k
 
 enumerated-count : (c : Counter) (n : ℕ) (w : World) → enumeratedOf (apply (count c n) w) ≡ enumeratedOn (count c n) (enumeratedOf w)
 unfolding apply
@@ -73,31 +54,11 @@ enumerated-apply (bus s) w = refl
 enumerated-apply (ran e r n) w = refl
 enumerated-apply (lost n) w = refl
 enumerated-apply (count c n) w = enumerated-count c n w
-enumerated-apply (uf n) w = refl
-enumerated-apply (phase p) w = refl
-enumerated-apply (started n) w = refl
-enumerated-apply (gone b) w = refl
-enumerated-apply (suspended b) w = refl
-enumerated-apply (wasRunning b) w = refl
-enumerated-apply (credit n) w = refl
-enumerated-apply (budget n) w = refl
-enumerated-apply (counter n) w = refl
-enumerated-apply (block n m) w = refl
 enumerated-apply (timers ts) w = refl
-enumerated-apply (control c) w = refl
-enumerated-apply (queued bs) w = refl
-enumerated-apply popped w = refl
-enumerated-apply (pushed bs) w = refl
-enumerated-apply cleared w = refl
-enumerated-apply (reply n bs) w = refl
-enumerated-apply (device bs) w = refl
-enumerated-apply (config bs) w = refl
-enumerated-apply forgot w = refl
-enumerated-apply (midi n) w = refl
-enumerated-apply (serial n) w = refl
-enumerated-apply (received bs) w = refl
-enumerated-apply (frame f) w = refl
-enumerated-apply (taken n) w = refl
+enumerated-apply (port c) w = ap enumeratedOf (port-beside c w)
+enumerated-apply (audio c) w = ap enumeratedOf (audio-beside c w)
+enumerated-apply (request c) w = ap enumeratedOf (request-beside c w)
+enumerated-apply (stream c) w = ap enumeratedOf (stream-beside c w)
 
 abbrev enumerated : Fields ℕ
 enumerated =
@@ -125,31 +86,11 @@ enumerated-plain (bus s) h k = refl
 enumerated-plain (ran e r n) h k = refl
 enumerated-plain (lost n) h k = refl
 enumerated-plain (count c n) h k = enumerated-counter c h n k
-enumerated-plain (uf n) h k = refl
-enumerated-plain (phase p) h k = refl
-enumerated-plain (started n) h k = refl
-enumerated-plain (gone b) h k = refl
-enumerated-plain (suspended b) h k = refl
-enumerated-plain (wasRunning b) h k = refl
-enumerated-plain (credit n) h k = refl
-enumerated-plain (budget n) h k = refl
-enumerated-plain (counter n) h k = refl
-enumerated-plain (block n m) h k = refl
 enumerated-plain (timers ts) h k = refl
-enumerated-plain (control c) h k = refl
-enumerated-plain (queued bs) h k = refl
-enumerated-plain popped h k = refl
-enumerated-plain (pushed bs) h k = refl
-enumerated-plain cleared h k = refl
-enumerated-plain (reply n bs) h k = refl
-enumerated-plain (device bs) h k = refl
-enumerated-plain (config bs) h k = refl
-enumerated-plain forgot h k = refl
-enumerated-plain (midi n) h k = refl
-enumerated-plain (serial n) h k = refl
-enumerated-plain (received bs) h k = refl
-enumerated-plain (frame f) h k = refl
-enumerated-plain (taken n) h k = refl
+enumerated-plain (port c) h k = refl
+enumerated-plain (audio c) h k = refl
+enumerated-plain (request c) h k = refl
+enumerated-plain (stream c) h k = refl
 
 -- ---- control: enumeration ends where no request runs and no setup waits
 

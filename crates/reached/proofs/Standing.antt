@@ -2,12 +2,14 @@
 use Prim.Native.Nat.{ℕ, _+_, _-_, _*_, _/_}
 use mathlib.Core.Bool.{Bool}
 use mathlib.Core.List.{List, _++_}
-use mathlib.Core.Path.{_≡_, refl}
+use mathlib.Core.Path.{_≡_, refl, ap}
 use lib.ListN.{length, take}
 use lib.Seq.{sets}
 use Rattle.record.specs.declared.Phase.{Phase}
 use Rattle.record.specs.World.{World}
-use Rattle.record.specs.Change.{Change, bus, ran, lost, count, uf, phase, started, gone, suspended, wasRunning, credit, budget, counter, block, timers, control, queued, popped, pushed, cleared, reply, device, config, forgot, midi, serial, received, frame, taken, apply, drained}
+use Rattle.record.specs.Parts as Part
+use Rattle.record.specs.Change.{Change, bus, ran, lost, count, uf, phase, gone, suspended, wasRunning, timers, apply, drained, port, audio, request, stream}
+use Rattle.record.proofs.Beside.{audio-beside, stream-beside}
 use Rattle.model.proofs.Fields.{Fields}
 
 -- on: a request runs; waiting: how many setups wait; t: the phase's start
@@ -47,31 +49,24 @@ heldOn (bus s) k = k
 heldOn (ran e r n) k = k
 heldOn (lost n) k = k
 heldOn (count c n) k = k
-heldOn (uf n) k = record { stand = record { phase = k .stand .phase; on = k .stand .on; waiting = k .stand .waiting; uf = n; t = k .stand .t; gone = k .stand .gone; suspended = k .stand .suspended; wasRunning = k .stand .wasRunning }; queue = k .queue }
-heldOn (phase p) k = record { stand = record { phase = p; on = k .stand .on; waiting = k .stand .waiting; uf = k .stand .uf; t = k .stand .t; gone = k .stand .gone; suspended = k .stand .suspended; wasRunning = k .stand .wasRunning }; queue = k .queue }
-heldOn (started n) k = record { stand = record { phase = k .stand .phase; on = k .stand .on; waiting = k .stand .waiting; uf = k .stand .uf; t = n; gone = k .stand .gone; suspended = k .stand .suspended; wasRunning = k .stand .wasRunning }; queue = k .queue }
-heldOn (gone b) k = record { stand = record { phase = k .stand .phase; on = k .stand .on; waiting = k .stand .waiting; uf = k .stand .uf; t = k .stand .t; gone = b; suspended = k .stand .suspended; wasRunning = k .stand .wasRunning }; queue = k .queue }
-heldOn (suspended b) k = record { stand = record { phase = k .stand .phase; on = k .stand .on; waiting = k .stand .waiting; uf = k .stand .uf; t = k .stand .t; gone = k .stand .gone; suspended = b; wasRunning = k .stand .wasRunning }; queue = k .queue }
-heldOn (wasRunning b) k = record { stand = record { phase = k .stand .phase; on = k .stand .on; waiting = k .stand .waiting; uf = k .stand .uf; t = k .stand .t; gone = k .stand .gone; suspended = k .stand .suspended; wasRunning = b }; queue = k .queue }
-heldOn (credit n) k = k
-heldOn (budget n) k = k
-heldOn (counter n) k = k
-heldOn (block n m) k = k
 heldOn (timers ts) k = k
-heldOn (control c) k = record { stand = record { phase = k .stand .phase; on = c .on; waiting = k .stand .waiting; uf = k .stand .uf; t = k .stand .t; gone = k .stand .gone; suspended = k .stand .suspended; wasRunning = k .stand .wasRunning }; queue = k .queue }
-heldOn (queued bs) k = record { stand = record { phase = k .stand .phase; on = k .stand .on; waiting = k .stand .waiting + length bs / 8; uf = k .stand .uf; t = k .stand .t; gone = k .stand .gone; suspended = k .stand .suspended; wasRunning = k .stand .wasRunning }; queue = sets (k .queue) (8 * k .stand .waiting) bs }
-heldOn popped k = record { stand = record { phase = k .stand .phase; on = k .stand .on; waiting = k .stand .waiting - 1; uf = k .stand .uf; t = k .stand .t; gone = k .stand .gone; suspended = k .stand .suspended; wasRunning = k .stand .wasRunning }; queue = drained (k .queue) (8 * k .stand .waiting) 8 }
-heldOn (pushed bs) k = record { stand = record { phase = k .stand .phase; on = k .stand .on; waiting = k .stand .waiting + 1; uf = k .stand .uf; t = k .stand .t; gone = k .stand .gone; suspended = k .stand .suspended; wasRunning = k .stand .wasRunning }; queue = sets (k .queue) 0 (bs ++ take (8 * k .stand .waiting) (k .queue)) }
-heldOn cleared k = record { stand = record { phase = k .stand .phase; on = k .stand .on; waiting = 0; uf = k .stand .uf; t = k .stand .t; gone = k .stand .gone; suspended = k .stand .suspended; wasRunning = k .stand .wasRunning }; queue = k .queue }
-heldOn (reply n bs) k = k
-heldOn (device bs) k = k
-heldOn (config bs) k = k
-heldOn forgot k = k
-heldOn (midi n) k = k
-heldOn (serial n) k = k
-heldOn (received bs) k = k
-heldOn (frame f) k = k
-heldOn (taken n) k = k
+heldOn (port (Part.uf n)) k = record { stand = record { phase = k .stand .phase; on = k .stand .on; waiting = k .stand .waiting; uf = n; t = k .stand .t; gone = k .stand .gone; suspended = k .stand .suspended; wasRunning = k .stand .wasRunning }; queue = k .queue }
+heldOn (port (Part.phase p)) k = record { stand = record { phase = p; on = k .stand .on; waiting = k .stand .waiting; uf = k .stand .uf; t = k .stand .t; gone = k .stand .gone; suspended = k .stand .suspended; wasRunning = k .stand .wasRunning }; queue = k .queue }
+heldOn (port (Part.started n)) k = record { stand = record { phase = k .stand .phase; on = k .stand .on; waiting = k .stand .waiting; uf = k .stand .uf; t = n; gone = k .stand .gone; suspended = k .stand .suspended; wasRunning = k .stand .wasRunning }; queue = k .queue }
+heldOn (port (Part.gone b)) k = record { stand = record { phase = k .stand .phase; on = k .stand .on; waiting = k .stand .waiting; uf = k .stand .uf; t = k .stand .t; gone = b; suspended = k .stand .suspended; wasRunning = k .stand .wasRunning }; queue = k .queue }
+heldOn (port (Part.suspended b)) k = record { stand = record { phase = k .stand .phase; on = k .stand .on; waiting = k .stand .waiting; uf = k .stand .uf; t = k .stand .t; gone = k .stand .gone; suspended = b; wasRunning = k .stand .wasRunning }; queue = k .queue }
+heldOn (port (Part.wasRunning b)) k = record { stand = record { phase = k .stand .phase; on = k .stand .on; waiting = k .stand .waiting; uf = k .stand .uf; t = k .stand .t; gone = k .stand .gone; suspended = k .stand .suspended; wasRunning = b }; queue = k .queue }
+heldOn (audio c) k = k
+heldOn (request (Part.control c)) k = record { stand = record { phase = k .stand .phase; on = c .on; waiting = k .stand .waiting; uf = k .stand .uf; t = k .stand .t; gone = k .stand .gone; suspended = k .stand .suspended; wasRunning = k .stand .wasRunning }; queue = k .queue }
+heldOn (request (Part.queued bs)) k = record { stand = record { phase = k .stand .phase; on = k .stand .on; waiting = k .stand .waiting + length bs / 8; uf = k .stand .uf; t = k .stand .t; gone = k .stand .gone; suspended = k .stand .suspended; wasRunning = k .stand .wasRunning }; queue = sets (k .queue) (8 * k .stand .waiting) bs }
+heldOn (request Part.popped) k = record { stand = record { phase = k .stand .phase; on = k .stand .on; waiting = k .stand .waiting - 1; uf = k .stand .uf; t = k .stand .t; gone = k .stand .gone; suspended = k .stand .suspended; wasRunning = k .stand .wasRunning }; queue = drained (k .queue) (8 * k .stand .waiting) 8 }
+heldOn (request (Part.pushed bs)) k = record { stand = record { phase = k .stand .phase; on = k .stand .on; waiting = k .stand .waiting + 1; uf = k .stand .uf; t = k .stand .t; gone = k .stand .gone; suspended = k .stand .suspended; wasRunning = k .stand .wasRunning }; queue = sets (k .queue) 0 (bs ++ take (8 * k .stand .waiting) (k .queue)) }
+heldOn (request Part.cleared) k = record { stand = record { phase = k .stand .phase; on = k .stand .on; waiting = 0; uf = k .stand .uf; t = k .stand .t; gone = k .stand .gone; suspended = k .stand .suspended; wasRunning = k .stand .wasRunning }; queue = k .queue }
+heldOn (request (Part.reply n bs)) k = k
+heldOn (request (Part.device bs)) k = k
+heldOn (request (Part.config bs)) k = k
+heldOn (request Part.forgot) k = k
+heldOn (stream c) k = k
 
 pub held-apply : (c : Change) (w : World) → heldOf (apply c w) ≡ heldOn c (heldOf w)
 unfolding apply
@@ -79,31 +74,24 @@ held-apply (bus s) w = refl
 held-apply (ran e r n) w = refl
 held-apply (lost n) w = refl
 held-apply (count c n) w = refl
-held-apply (uf n) w = refl
-held-apply (phase p) w = refl
-held-apply (started n) w = refl
-held-apply (gone b) w = refl
-held-apply (suspended b) w = refl
-held-apply (wasRunning b) w = refl
-held-apply (credit n) w = refl
-held-apply (budget n) w = refl
-held-apply (counter n) w = refl
-held-apply (block n m) w = refl
 held-apply (timers ts) w = refl
-held-apply (control c) w = refl
-held-apply (queued bs) w = refl
-held-apply popped w = refl
-held-apply (pushed bs) w = refl
-held-apply cleared w = refl
-held-apply (reply n bs) w = refl
-held-apply (device bs) w = refl
-held-apply (config bs) w = refl
-held-apply forgot w = refl
-held-apply (midi n) w = refl
-held-apply (serial n) w = refl
-held-apply (received bs) w = refl
-held-apply (frame f) w = refl
-held-apply (taken n) w = refl
+held-apply (port (Part.uf n)) w = refl
+held-apply (port (Part.phase p)) w = refl
+held-apply (port (Part.started n)) w = refl
+held-apply (port (Part.gone b)) w = refl
+held-apply (port (Part.suspended b)) w = refl
+held-apply (port (Part.wasRunning b)) w = refl
+held-apply (audio c) w = ap heldOf (audio-beside c w)
+held-apply (request (Part.control c)) w = refl
+held-apply (request (Part.queued bs)) w = refl
+held-apply (request Part.popped) w = refl
+held-apply (request (Part.pushed bs)) w = refl
+held-apply (request Part.cleared) w = refl
+held-apply (request (Part.reply n bs)) w = refl
+held-apply (request (Part.device bs)) w = refl
+held-apply (request (Part.config bs)) w = refl
+held-apply (request Part.forgot) w = refl
+held-apply (stream c) w = ap heldOf (stream-beside c w)
 
 abbrev pub held : Fields Held
 held =

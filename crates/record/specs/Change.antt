@@ -13,6 +13,8 @@ use Rattle.usbdev.specs.Registers.{PageStep, lifted}
 use Rattle.dtd.specs.Dtd.{Endpoint, Run, runDtds}
 use Rattle.gptimers.specs.declared.Timers.{Timers}
 use Rattle.record.specs.declared.Phase.{Phase}
+use Rattle.record.specs.Parts as Part
+use Rattle.record.specs.Parts.{PortChange, AudioChange, RequestChange, StreamChange}
 use Rattle.record.specs.declared.Ring.{Ring}
 use Rattle.record.specs.declared.Control.{Control}
 use Rattle.record.specs.Record.{withUf, withT, withSuspended, withGone, withRunning, withCredit, withCounter, withBudget, withBlock, withReceived, withSending, withSetups, withMidi, withSerial, withDevice, withConfig, withCount, withDropped, withRetired, withPhase, withTimers, Counter, counted, wrapped}
@@ -23,31 +25,84 @@ pub data Change : Type 0 where
   ran : Endpoint → ℕ → ℕ → Change  -- a descriptor run: how many it retired, which the answer counts (S-1), and how many bytes it moved (536-621)
   lost : ℕ → Change  -- bytes that no window took (document 01, "Memory windows")
   count : Counter → ℕ → Change  -- a counter of `stats` goes up
-  uf : ℕ → Change  -- the microframe count (375)
-  phase : Phase → Change  -- 397, 437, 455, 464, 475, 627
-  started : ℕ → Change  -- the phase's start, `t` (438, 456, 465, 476)
-  gone : Bool → Change  -- `is_gone` (386)
-  suspended : Bool → Change  -- 414
-  wasRunning : Bool → Change  -- RS was seen set (434, 436)
-  credit : ℕ → Change  -- 400, 441, 890, 947
-  budget : ℕ → Change  -- bytes that the input endpoint may still move, `in_budget` (401, 442, 863, 867)
-  counter : ℕ → Change  -- the stream counter, `out_counter` (932)
-  block : ℕ → ℕ → Change  -- block length and channels (719-720)
   timers : Timers → Change  -- `gpt` (746-762)
-  control : Control → Change  -- the request, `ctl` (399, 440, 644-697)
-  queued : List ℕ → Change  -- setups behind those that wait (483, 723-725, 734)
-  popped : Change  -- the first setup leaves (625)
-  pushed : List ℕ → Change  -- a setup before those that wait (713)
-  cleared : Change  -- no setup waits (398, 439)
-  reply : ℕ → List ℕ → Change  -- bytes into the reply area from an index on (663)
-  device : List ℕ → Change  -- the device descriptor (707)
-  config : List ℕ → Change  -- the configuration (715)
-  forgot : Change  -- both descriptors are empty (402-403, 443-444)
-  midi : ℕ → Change  -- bytes leave the MIDI queue (848)
-  serial : ℕ → Change  -- bytes leave the serial queue (828)
-  received : List ℕ → Change  -- MIDI or serial bytes to the receive area (805, 814)
-  frame : List ℕ → Change  -- a frame to the received ring, which loses its oldest (888, 893-895)
-  taken : ℕ → Change  -- frames leave the sending ring (934)
+  port : PortChange → Change
+  audio : AudioChange → Change
+  request : RequestChange → Change
+  stream : StreamChange → Change
+
+-- a change of a part, by its own name
+abbrev pub uf : ℕ → Change
+uf x = port (Part.uf x)
+
+abbrev pub phase : Phase → Change
+phase x = port (Part.phase x)
+
+abbrev pub started : ℕ → Change
+started x = port (Part.started x)
+
+abbrev pub gone : Bool → Change
+gone x = port (Part.gone x)
+
+abbrev pub suspended : Bool → Change
+suspended x = port (Part.suspended x)
+
+abbrev pub wasRunning : Bool → Change
+wasRunning x = port (Part.wasRunning x)
+
+abbrev pub credit : ℕ → Change
+credit x = audio (Part.credit x)
+
+abbrev pub budget : ℕ → Change
+budget x = audio (Part.budget x)
+
+abbrev pub counter : ℕ → Change
+counter x = audio (Part.counter x)
+
+abbrev pub block : ℕ → ℕ → Change
+block x y = audio (Part.block x y)
+
+abbrev pub frame : List ℕ → Change
+frame x = audio (Part.frame x)
+
+abbrev pub taken : ℕ → Change
+taken x = audio (Part.taken x)
+
+abbrev pub control : Control → Change
+control x = request (Part.control x)
+
+abbrev pub queued : List ℕ → Change
+queued x = request (Part.queued x)
+
+abbrev pub popped : Change
+popped = request Part.popped
+
+abbrev pub pushed : List ℕ → Change
+pushed x = request (Part.pushed x)
+
+abbrev pub cleared : Change
+cleared = request Part.cleared
+
+abbrev pub reply : ℕ → List ℕ → Change
+reply x y = request (Part.reply x y)
+
+abbrev pub device : List ℕ → Change
+device x = request (Part.device x)
+
+abbrev pub config : List ℕ → Change
+config x = request (Part.config x)
+
+abbrev pub forgot : Change
+forgot = request Part.forgot
+
+abbrev pub midi : ℕ → Change
+midi x = stream (Part.midi x)
+
+abbrev pub serial : ℕ → Change
+serial x = stream (Part.serial x)
+
+abbrev pub received : List ℕ → Change
+received x = stream (Part.received x)
 
 -- a queue in a fixed array, of which len bytes are in use: n leave its front, the others move up, and what lies behind stays
 unfoldable pub drained : List ℕ → ℕ → ℕ → List ℕ
@@ -81,39 +136,39 @@ apply (bus s) w = withBus w (store s (busOf w))
 apply (ran e k n) w = inAnswer w (withRetired (w .state .answer) (wrapped (w .state .answer .retired + k)))
 apply (lost n) w = inAnswer w (withDropped (w .state .answer) (wrapped (w .state .answer .dropped + n)))
 apply (count c n) w = inStats w (counted c n (w .state .stats))
-apply (uf n) w = inPort w (withUf (w .state .port) n)
-apply (phase p) w = withState w (withPhase (w .state) p)
-apply (started n) w = inPort w (withT (w .state .port) n)
-apply (gone b) w = inPort w (withGone (w .state .port) b)
-apply (suspended b) w = inPort w (withSuspended (w .state .port) b)
-apply (wasRunning b) w = inPort w (withRunning (w .state .port) b)
-apply (credit n) w = inAudio w (withCredit (w .state .audio) n)
-apply (budget n) w = inAudio w (withBudget (w .state .audio) n)
-apply (counter n) w = inAudio w (withCounter (w .state .audio) n)
-apply (block n c) w = inAudio w (withBlock (w .state .audio) n c)
 apply (timers ts) w = withState w (withTimers (w .state) ts)
-apply (control c) w = inControl w c
-apply (queued bs) w =
-    withSetupQueue (inLengths w (withSetups (w .state .lengths) (w .state .lengths .setups + length bs / 8))) (sets (w .own .setups) (8 * w .state .lengths .setups) bs)
-apply popped w =
-    withSetupQueue (inLengths w (withSetups (w .state .lengths) (w .state .lengths .setups - 1))) (drained (w .own .setups) (8 * w .state .lengths .setups) 8)
-apply (pushed bs) w =
-    withSetupQueue (inLengths w (withSetups (w .state .lengths) (w .state .lengths .setups + 1))) (sets (w .own .setups) 0 (bs ++ waiting w))
-apply cleared w = inLengths w (withSetups (w .state .lengths) 0)
-apply (reply at bs) w = withReplyArea w (sets (w .lent .reply) at bs)
-apply (device bs) w = withDeviceArea (inLengths w (withDevice (w .state .lengths) (length bs))) (sets (w .own .device) 0 bs)
-apply (config bs) w = withConfigArea (inLengths w (withConfig (w .state .lengths) (length bs))) (sets (w .lent .config) 0 bs)
-apply forgot w = inLengths w (withConfig (withDevice (w .state .lengths) 0) 0)
-apply (midi n) w =
-    withMidiQueue (inLengths w (withMidi (w .state .lengths) (w .state .lengths .midi - n))) (drained (w .own .midi) (w .state .lengths .midi) n)
-apply (serial n) w =
-    withSerialQueue (inLengths w (withSerial (w .state .lengths) (w .state .lengths .serial - n))) (drained (w .own .serial) (w .state .lengths .serial) n)
-apply (received bs) w =
-    withReceiveArea (inAnswer w (withCount (w .state .answer) (w .state .answer .received + length bs))) (sets (w .lent .receive) (w .state .answer .received) bs)
-apply (frame f) w =
+apply (port (Part.uf n)) w = inPort w (withUf (w .state .port) n)
+apply (port (Part.phase p)) w = withState w (withPhase (w .state) p)
+apply (port (Part.started n)) w = inPort w (withT (w .state .port) n)
+apply (port (Part.gone b)) w = inPort w (withGone (w .state .port) b)
+apply (port (Part.suspended b)) w = inPort w (withSuspended (w .state .port) b)
+apply (port (Part.wasRunning b)) w = inPort w (withRunning (w .state .port) b)
+apply (audio (Part.credit n)) w = inAudio w (withCredit (w .state .audio) n)
+apply (audio (Part.budget n)) w = inAudio w (withBudget (w .state .audio) n)
+apply (audio (Part.counter n)) w = inAudio w (withCounter (w .state .audio) n)
+apply (audio (Part.block n c)) w = inAudio w (withBlock (w .state .audio) n c)
+apply (audio (Part.frame f)) w =
     withReceivedRing (inAudio w (withReceived (w .state .audio) (ringedPlace (w .state .audio .received)))) (ringed (w .lent .received) (w .state .audio .received) f)
-apply (taken n) w =
+apply (audio (Part.taken n)) w =
     inAudio w (withSending (w .state .audio) (takenFrom (length (w .lent .sending) / WORDS) n (w .state .audio .sending)))
+apply (request (Part.control c)) w = inControl w c
+apply (request (Part.queued bs)) w =
+    withSetupQueue (inLengths w (withSetups (w .state .lengths) (w .state .lengths .setups + length bs / 8))) (sets (w .own .setups) (8 * w .state .lengths .setups) bs)
+apply (request Part.popped) w =
+    withSetupQueue (inLengths w (withSetups (w .state .lengths) (w .state .lengths .setups - 1))) (drained (w .own .setups) (8 * w .state .lengths .setups) 8)
+apply (request (Part.pushed bs)) w =
+    withSetupQueue (inLengths w (withSetups (w .state .lengths) (w .state .lengths .setups + 1))) (sets (w .own .setups) 0 (bs ++ waiting w))
+apply (request Part.cleared) w = inLengths w (withSetups (w .state .lengths) 0)
+apply (request (Part.reply at bs)) w = withReplyArea w (sets (w .lent .reply) at bs)
+apply (request (Part.device bs)) w = withDeviceArea (inLengths w (withDevice (w .state .lengths) (length bs))) (sets (w .own .device) 0 bs)
+apply (request (Part.config bs)) w = withConfigArea (inLengths w (withConfig (w .state .lengths) (length bs))) (sets (w .lent .config) 0 bs)
+apply (request Part.forgot) w = inLengths w (withConfig (withDevice (w .state .lengths) 0) 0)
+apply (stream (Part.midi n)) w =
+    withMidiQueue (inLengths w (withMidi (w .state .lengths) (w .state .lengths .midi - n))) (drained (w .own .midi) (w .state .lengths .midi) n)
+apply (stream (Part.serial n)) w =
+    withSerialQueue (inLengths w (withSerial (w .state .lengths) (w .state .lengths .serial - n))) (drained (w .own .serial) (w .state .lengths .serial) n)
+apply (stream (Part.received bs)) w =
+    withReceiveArea (inAnswer w (withCount (w .state .answer) (w .state .answer .received + length bs))) (sets (w .lent .receive) (w .state .answer .received) bs)
 
 -- ---- steps
 

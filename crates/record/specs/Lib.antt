@@ -1,5 +1,6 @@
 pub mod Record
 pub mod World
+pub mod Parts
 pub mod Change
 pub mod Setups
 pub mod Did
