@@ -6,7 +6,7 @@ use mathlib.Core.Path.{_≡_}
 use lib.ListN.{getD}
 use Rattle.record.specs.declared.State.{State}
 use Rattle.record.specs.World.{World, withState, withSetupQueue, withDeviceArea, withReplyArea, withConfigArea}
-use Rattle.record.specs.Change.{device, config, Step}
+use Rattle.record.specs.Change.{Step}
 use Rattle.record.specs.Did.{Leads}
 use Rattle.model.specs.Control.{asksFor, wLength}
 

@@ -2,12 +2,10 @@
 use Prim.Native.Nat.{ℕ, _≤_}
 use mathlib.Core.Path.{_≡_, refl, sym, subst}
 use mathlib.Core.Bool.{Bool, true, false}
-use mathlib.Core.List.{List, [], _∷_, map}
+use mathlib.Core.List.{List, []}
 use native.Mathlib.Omega.{arith}
 use lib.ListN.{length}
-use Rattle.bus.specs.Steps.{replay}
 use Rattle.bus.specs.Stores.{Store}
-use Rattle.usbdev.specs.Registers.{PageStep, lifted}
 use Rattle.gptimers.specs.declared.Timers.{Timers}
 use Rattle.record.specs.declared.Phase.{Phase}
 use Rattle.record.specs.declared.Phase.the-variants.{Idle, Vbus, Reset}
@@ -16,10 +14,10 @@ use Rattle.record.specs.declared.Control.{Control}
 use Rattle.record.specs.declared.Settings.{Settings}
 use Rattle.record.specs.declared.State.{State}
 use Rattle.record.specs.Record.{withOn, withCredit, withBudget, Counter}
-use Rattle.record.specs.World.{World, withState, busOf, atPage}
-use Rattle.record.specs.Change.{bus, count, uf, phase, started, gone, suspended, wasRunning, credit, budget, timers, control, cleared, forgot, apply, Step, if, here, onPage}
+use Rattle.record.specs.World.{World, withState, atPage}
+use Rattle.record.specs.Change.{bus, count, uf, phase, started, gone, suspended, wasRunning, credit, budget, timers, control, cleared, forgot, apply, Step}
 use Rattle.record.specs.Did.{Alone, Paged}
-use Rattle.model.specs.Phases.{counts, ticks, dropsRequest, forgets, returns, cable, suspends, enters, departs, leaves, startsFrame}
+use Rattle.model.specs.Phases.{counts, ticks, forgets, cable, suspends, leaves, startsFrame}
 use Rattle.model.specs.Microframe.{opens}
 use Rattle.model.proofs.Holding.{Holds}
 use Rattle.model.proofs.Walk.{Forgotten, walk-counts, walk-ticks, walk-cable, walk-returns, walk-opens, walk-suspends, walk-leaves, walk-enters, walk-frame}

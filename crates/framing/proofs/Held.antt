@@ -2,7 +2,6 @@
 use Prim.Native.Nat.{ℕ}
 use mathlib.Core.Path.{_≡_, refl}
 use mathlib.Core.Bool.{Bool}
-use Rattle.record.specs.declared.Phase.the-variants.{Stream}
 use Rattle.record.specs.World.{World}
 use Rattle.record.specs.Change.{budget, apply, left}
 use Rattle.model.specs.Control.{controls}

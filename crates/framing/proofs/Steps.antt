@@ -18,7 +18,7 @@ use Rattle.record.specs.declared.Lengths.{Lengths}
 use Rattle.record.specs.declared.Settings.{Settings}
 use Rattle.record.specs.declared.State.{State}
 use Rattle.record.specs.Record.{withStats, counted, «midi_asleep»}
-use Rattle.record.specs.World.{World, withState, atPage, atBus}
+use Rattle.record.specs.World.{World, withState, atPage}
 use Rattle.record.specs.Change.{left, apply, one, when}
 use Rattle.record.specs.Did.{Alone, Paged, Did}
 use Rattle.record.proofs.Laws.{in-turn, by-true, by-false, unchanged}

@@ -4,9 +4,9 @@ use mathlib.Core.Path.{_≡_}
 use mathlib.Core.Bool.{true}
 use native.Mathlib.Omega.{arith}
 use borrow.Author.Tests.{leb-true, eqb-true}
-use lib.Dec.{eqb, leb}
+use lib.Dec.{eqb}
 use Rattle.bits.proofs.Tests.{and-first, and-second}
-use Rattle.bounds.specs.Bounds.{MOST, times, askedOk, heldOk, countsOk, countersOk, creditOk, audioOk, inBounds}
+use Rattle.bounds.specs.Bounds.{MOST, askedOk, heldOk, countsOk, countersOk, creditOk, audioOk, inBounds}
 use Rattle.usbhost.specs.declared.Host.{Host}
 use Rattle.usbhost.specs.Host.{stateOf}
 use Rattle.usbhost.specs.Calls.{bounded}

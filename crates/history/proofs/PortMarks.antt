@@ -7,7 +7,7 @@ use mathlib.Core.List.{List, [], _∷_, _++_}
 use mathlib.Core.Option.{Option, none, some}
 use mathlib.Core.Logic.{_↔_}
 use native.Mathlib.Omega.{arith}
-use lib.Dec.{eqb, leb}
+use lib.Dec.{eqb}
 use lib.ListN.{length, getD, take, replicate}
 use borrow.Author.Tests.{eqb-true, eq-eqb, ne-eqb, leb-true}
 use Rattle.bits.specs.Pick.{pick}
@@ -22,7 +22,7 @@ use Rattle.model.specs.PortMarks.{InGone, InSuspend, RunBit, RunTested, NoMidi,
 use Rattle.model.proofs.Spans.{gone-spans, suspend-span, run-bit}
 use Rattle.model.proofs.PortMarks.{is-test, gone-mark, suspend-mark, suspend-kept, run-mark, run-kept, run-left, asleep-counted, asleep-kept}
 use Rattle.bounds.proofs.Laws.{counter-below}
-use Rattle.bounds.specs.Bounds.{MOST, times, askedOk, heldOk, countsOk, countersOk, countedOk, inBounds}
+use Rattle.bounds.specs.Bounds.{MOST, askedOk, heldOk, countsOk, countersOk, countedOk, inBounds}
 use Rattle.model.proofs.Unread.{midi-unread}
 use Rattle.kept.proofs.Shape.{Shape, shape-kept}
 use Rattle.usbhost.specs.declared.Host.{Host}

@@ -8,9 +8,9 @@ use borrow.Author.Tests.{leb-true, le-leb, eqb-true, eq-eqb}
 use Rattle.bus.specs.Steps.{andThen}
 use Rattle.bus.proofs.Sizes.{and-true}
 use Rattle.record.specs.declared.State.{State}
-use Rattle.record.specs.Record.{wrapped, Counter, counterOf, counted, raised, microframes}
+use Rattle.record.specs.Record.{wrapped, Counter, counterOf, raised, microframes}
 use Rattle.record.specs.World.{World}
-use Rattle.record.specs.Change.{count, started, timers, popped, apply, left, one}
+use Rattle.record.specs.Change.{count, started, popped, apply, left, one}
 use Rattle.model.specs.Phases.{now, counts, ticks}
 use Rattle.model.specs.Microframe.{microframe}
 use Rattle.bounds.specs.Bounds.{MOST, countsOk}

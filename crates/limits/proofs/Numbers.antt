@@ -8,11 +8,11 @@ use Rattle.bus.specs.Sized.{isPower, isSized}
 use Rattle.record.specs.Change.{FRAMES, WORDS}
 use Rattle.bounds.specs.Bounds.{MOST, receivedOk, sendingOk}
 use Rattle.usbhost.specs.declared.Host.{Host}
-use Rattle.usbhost.specs.Host.{stateOf, newHost, noSettings}
+use Rattle.usbhost.specs.Host.{stateOf}
 use Rattle.usbhost.specs.Calls.{fewSpans, bounded, unless, sendingLength, midiNumber, serialNumber, giveNumber, takeNumber, accessNumber}
 use Rattle.usbhost.specs.Frame.{lengthsOk, boundsOk, frameNumber}
 use Rattle.record.specs.World.{Lent}
-use Rattle.limits.specs.Cases.{Field, offset, size, valueIn, hostBy, Long, longOf, longIn, calls, numbersOf, Row, Meets, Table}
+use Rattle.limits.specs.Cases.{offset, size, valueIn, hostBy, Long, longOf, longIn, calls, numbersOf, Row, Meets, Table}
 
 -- the numbers by lengths
 abbrev numbersBy : Host → Long → List ℕ → ℕ → ℕ → List ℕ

@@ -9,7 +9,7 @@ use Rattle.bits.proofs.Tests.{false-true, not-true, not-holds, and-first, and-s
 use Rattle.record.specs.declared.Phase.{Phase}
 use Rattle.record.specs.declared.Phase.the-variants.{Idle, Vbus, Reset, Enumerate, Stream}
 use Rattle.record.specs.declared.Settings.{Settings}
-use Rattle.record.specs.Record.{wrapped, counted, «midi_asleep», counterOf, raised}
+use Rattle.record.specs.Record.{wrapped, «midi_asleep», counterOf, raised}
 use Rattle.record.specs.World.{World}
 use Rattle.record.specs.Change.{phase, gone, suspended, wasRunning, apply, left, _then_, nothing, when, one, here}
 use Rattle.model.specs.Phases.{within, ticks, forgets, unplugging, cable, sleeps, suspends, enters, departs, leaves}
@@ -18,7 +18,7 @@ use Rattle.model.specs.Audio.{streams}
 use Rattle.model.specs.Microframe.{rsSet, goneAt, asleepAt, streaming, opens, enumerates, others, transfers, talks, atPhase, byPhase, frameOf, microframe}
 use Rattle.model.specs.Reach.{streamsIn, toPhase, phaseBy, outputBy, leftBy, reachesOutput, deviceLeft}
 use Rattle.model.specs.PortMarks.{InGone, InSuspend, RunBit, RunTested, NoMidi, cableOut, busSuspended, midiSleeps}
-use Rattle.model.proofs.Fields.{Keeps, fields-then, fields-if, keeps-then, keeps-if, keeps-nothing, keeps-page, keeps-here}
+use Rattle.model.proofs.Fields.{Keeps, fields-then, fields-if, keeps-then, keeps-if, keeps-nothing, keeps-page}
 use Rattle.model.proofs.OneBlock.{talking, getsTo, gets-closed}
 use Rattle.model.proofs.History.{four}
 use Rattle.model.proofs.Leaving.{keeps-awake, keeps-serves}

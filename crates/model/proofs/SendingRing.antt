@@ -7,7 +7,7 @@ use lib.ListN.{drop}
 use Rattle.bits.specs.Pick.{pick}
 use Rattle.bus.specs.Steps.{replay}
 use Rattle.record.specs.World.{World}
-use Rattle.record.specs.Change.{Change, bus, ran, lost, count, block, timers, apply, left, port, audio, request, stream}
+use Rattle.record.specs.Change.{Change, bus, ran, lost, count, timers, apply, left, port, audio, request, stream}
 use Rattle.record.proofs.Beside.{port-beside, audio-beside, request-beside, stream-beside}
 use Rattle.model.specs.Audio.{BLOCK-FRAMES, capacity, streamIn}
 use Rattle.model.specs.Microframe.{rsSet, microframe, enumerates}

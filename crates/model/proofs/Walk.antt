@@ -13,7 +13,7 @@ use Rattle.dtd.specs.Dtd.{Endpoint, Run, runDtds}
 use Rattle.config.specs.Config.{parsed}
 use Rattle.gptimers.specs.declared.Timers.{Timers}
 use Rattle.record.specs.declared.Phase.{Phase}
-use Rattle.record.specs.declared.Phase.the-variants.{Idle, Vbus, Reset, Enumerate, Stream}
+use Rattle.record.specs.declared.Phase.the-variants.{Idle, Vbus, Stream}
 use Rattle.record.specs.declared.Control.{Control}
 use Rattle.record.specs.declared.Settings.{Settings}
 use Rattle.record.specs.Record.{Stats, withOn, Counter, place, counterOf, counted, microframes, «midi_dtds», «midi_asleep», restarts, enumerations}

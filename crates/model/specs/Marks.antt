@@ -6,7 +6,7 @@ use mathlib.Core.List.{List, [], _∷_}
 use lib.Dec.{eqb}
 use Rattle.bits.specs.Pick.{pick}
 use Rattle.dtd.specs.Dtd.{Endpoint}
-use Rattle.record.specs.Change.{Change, bus, ran, lost, count, block, timers, port, audio, request, stream}
+use Rattle.record.specs.Change.{Change, bus, ran, lost, count, timers, port, audio, request, stream}
 
 -- 870, 949: endpoint 3, the input one or the output one
 abbrev pub isAudio : Bool → Endpoint → Bool

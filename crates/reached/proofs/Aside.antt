@@ -12,7 +12,7 @@ use Rattle.record.specs.Record.{wrapped, raised, Counter, place, «midi_asleep�
 use Rattle.record.proofs.Counters.{rose, raised-by, rose-other}
 use Rattle.record.specs.World.{World}
 use Rattle.record.specs.Parts as Part
-use Rattle.record.specs.Change.{Change, bus, ran, lost, count, phase, gone, suspended, block, timers, device, midi, apply, left, nothing, one, here, port, audio, request, stream}
+use Rattle.record.specs.Change.{Change, bus, ran, lost, count, phase, block, timers, midi, apply, left, nothing, one, here, port, audio, request, stream}
 use Rattle.record.proofs.Beside.{port-beside, request-beside, stream-beside}
 use Rattle.model.specs.Phases.{within, sleeps, suspends, leaves, startsFrame}
 use Rattle.model.specs.Control.{controls}

@@ -5,7 +5,7 @@ use mathlib.Core.Bool.{Bool, true, false, not, _&&_, _||_}
 use Rattle.bus.proofs.Sizes.{and-true}
 use lib.Dec.{eqb}
 use Rattle.bits.specs.Pick.{pick}
-use Rattle.bits.proofs.Tests.{false-true, or-false}
+use Rattle.bits.proofs.Tests.{or-false}
 use Rattle.bus.specs.Steps.{andThen, exec-then}
 use Rattle.record.specs.declared.Phase.{Phase}
 use Rattle.record.specs.declared.Phase.the-variants.{Idle, Vbus, Reset, Enumerate, Stream}

@@ -2,13 +2,11 @@
 use Prim.Native.Nat.{ℕ, suc, _≤_}
 use mathlib.Core.Path.{_≡_, refl, sym, ap, _∙_}
 use mathlib.Core.Bool.{Bool, true, false}
-use mathlib.Core.List.{List}
 use native.Mathlib.Omega.{arith}
 use lib.Dec.{eqb, leb, ltb}
 use lib.ListN.{length}
 use borrow.Author.Tests.{eqb-true, leb-true, ne-eqb}
 use Rattle.bits.specs.Pick.{pick}
-use Rattle.bus.specs.Memory.{Memory}
 use Rattle.bus.specs.Sized.{Sized, isSized}
 use Rattle.bus.proofs.Sizes.{and-true, is-sized}
 use Rattle.midi.specs.declared.Packer.{Packer}

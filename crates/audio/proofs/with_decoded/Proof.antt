@@ -1,8 +1,7 @@
 -- `audio::with_decoded` meets its contract.
 use mathlib.Core.Path.{ap, _∙_}
-use Prim.Native.Nat.{ℕ}
 use Rattle.record.specs.declared.State.{State}
-use Rattle.record.specs.Record.{Stats, withStats, withCounterAt, withAudio, withReceived, withCredit}
+use Rattle.record.specs.Record.{withStats, withCounterAt, withAudio, withReceived, withCredit}
 use borrow.Author.Needs.{needs}
 use Rattle.audio.proofs.with_decoded.Statement.{statement}
 use Rattle.audio.proofs.with_decoded.Tie as tie
