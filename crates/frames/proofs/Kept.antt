@@ -13,7 +13,7 @@ use Rattle.record.specs.declared.Audio.{Audio}
 use Rattle.record.specs.declared.Control.{Control}
 use Rattle.record.specs.declared.Settings.{Settings}
 use Rattle.record.specs.declared.State.{State}
-use Rattle.record.specs.Record.{withOn, withCredit, withBudget, Counter}
+use Rattle.record.specs.Record.{withOn, withCredit, withBudget, Counter, microframes, restarts}
 use Rattle.record.specs.World.{World, withState, atPage}
 use Rattle.record.specs.Change.{bus, count, uf, phase, started, gone, suspended, wasRunning, credit, budget, timers, control, cleared, forgot, apply, Step}
 use Rattle.record.specs.Did.{Alone, Paged}
