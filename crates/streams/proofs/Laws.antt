@@ -4,19 +4,18 @@ use mathlib.Core.Bool.{Bool, true, false, not, _&&_}
 use mathlib.Core.List.{List, [], _++_}
 use mathlib.Core.Path.{_≡_, refl, sym, ap, ap₂, subst, _∙_}
 use native.Mathlib.Omega.{arith}
-use native.Mathlib.Nat.{min-le-right, le-refl, le-trans}
+use native.Mathlib.Nat.{min-le-right, le-refl, le-trans, div-mul-le-self}
 use lib.Dec.{eqb}
 use borrow.Author.Tests.{eq-eqb, ne-eqb}
 use lib.ListN.{length, getD, take, drop, set, length-drop}
 use lib.Seq.{sets, take-all, length-take-le, getD-append-add, getD-drop, paste, paste-suc}
 use Rattle.bits.proofs.Tests.{and-false}
 use Rattle.bus.specs.Memory.{Memory, memory}
-use Rattle.bus.specs.Sized.{Sized}
 use Rattle.bus.specs.Stores as S
 use Rattle.usbdev.specs.Transfer.{totalOf}
 use Rattle.dtd.specs.declared.Ran.{Ran}
 use Rattle.dtd.specs.declared.Found.the-variants.{Unprimed, Ended, Active}
-use Rattle.dtd.specs.Dtd.{Endpoint, endpoint, primed, nextActive, runDtds, found}
+use Rattle.dtd.specs.Dtd.{Endpoint, endpoint, primed, nextActive, nextDtd, tokenOf, runDtds, found}
 use Rattle.dtd.specs.Promises.{Runs}
 use Rattle.runs.specs.declared.Filled.{Filled}
 use Rattle.runs.specs.Turns.{kept, keptEnd, RunsIn}
@@ -28,7 +27,9 @@ use Rattle.record.specs.Change.{count, received, serial, midi, drained, apply, 
 use Rattle.record.specs.Did.{Leads, Did, afterRun}
 use Rattle.record.proofs.Laws.{in-turn, by-true, by-false, unchanged, once, from-here, leads-as, leads-by, run-then}
 use Rattle.model.specs.Streams.{ready, fitting, drainsSerial, serialStep, drainsMidi, midiOut, readsVendor}
-use Rattle.streams.specs.Promises.{atSerial, atMidi, atReceive, packetOf, Fewer, Receives, Serves, Writes, ServesBoth}
+use Rattle.streams.specs.declared.Took.{Took}
+use Rattle.streams.specs.declared.Took.the-variants.{Nothing, Bytes}
+use Rattle.streams.specs.Promises.{atSerial, atMidi, atReceive, packetOf, served, Fewer, GivesNothing, GivesBytes, Gives, Receives, Serves, Writes, ServesBoth}
 use Rattle.model.specs.Streams.{takesSerial, givesSerial}
 use Rattle.streams.proofs.Found.{unprimed-not, ended-not, active-ready, active-token, brings}
 
@@ -122,17 +123,33 @@ module _ (e : Endpoint) (held : World → ℕ) (f : ℕ → Step) (a : World) wh
   abbrev sends : Step
   sends = when (λ w. not (eqb (held w) 0) && ready e w) (here (λ v. f (fitting e (held v) v)))
 
-  pub none-held : held a ≡ 0 → Leads sends a a
-  none-held h = by-false _ _ _ (ap (λ (t : Bool). not t && ready e a) (eq-eqb (held a) 0 h)) (unchanged a)
+  none-sent : served e (held a) (a .lent .memory) ≡ false → Leads sends a a
+  none-sent h = by-false _ _ _ h (unchanged a)
 
-  pub none-ready : ready e a ≡ false → Leads sends a a
-  none-ready h = by-false _ _ _ (ap (λ (t : Bool). not (eqb (held a) 0) && t) h ∙ and-false (not (eqb (held a) 0))) (unchanged a)
+  some-sent : served e (held a) (a .lent .memory) ≡ true → {b : World} → Leads (f (fitting e (held a) a)) a b → Leads sends a b
+  some-sent h p = by-true _ _ _ h (from-here (λ v. f (fitting e (held v) v)) a p)
 
-  pub some-sent : (held a ≡ 0 → ⊥) → (qh n tok : ℕ) → found e (a .lent .memory) ≡ Active qh n tok → {b : World} → Leads (f (packetOf tok (held a))) a b → Leads sends a b
-  some-sent some qh n tok is p =
-      by-true _ _ _ (ap₂ (λ (t u : Bool). not t && u) (ne-eqb (held a) 0 some) (active-ready e (a .lent .memory) qh n tok is))
-      (from-here (λ v. f (fitting e (held v) v)) a
-      (leads-by {f = f (packetOf tok (held a))} (ap (λ (x : ℕ). f (packetOf x (held a)) a) (active-token e (a .lent .memory) qh n tok is)) p))
+-- whether it is served, by what `find` says
+module _ (e : Endpoint) (held : ℕ) (m : Memory) where
+  pub served-none : held ≡ 0 → served e held m ≡ false
+  served-none h = ap (λ (t : Bool). not t && (primed e (m .page) && nextActive e m)) (eq-eqb held 0 h)
+
+  served-not : primed e (m .page) && nextActive e m ≡ false → served e held m ≡ false
+  served-not h = ap (λ (t : Bool). not (eqb held 0) && t) h ∙ and-false (not (eqb held 0))
+
+  pub served-unprimed : found e m ≡ Unprimed → served e held m ≡ false
+  served-unprimed f = served-not (unprimed-not e m f)
+
+  pub served-ended : found e m ≡ Ended → served e held m ≡ false
+  served-ended f = served-not (ended-not e m f)
+
+  pub served-active : (held ≡ 0 → ⊥) → (qh n tok : ℕ) → found e m ≡ Active qh n tok → served e held m ≡ true
+  served-active some qh n tok f = ap₂ (λ (t u : Bool). not t && u) (ne-eqb held 0 some) (active-ready e m qh n tok f)
+
+-- what fits, by the token that `find` says
+pub fits-active : (e : Endpoint) (m : Memory) (qh n tok : ℕ) → found e m ≡ Active qh n tok → (held unit k : ℕ) → k ≡ packetOf tok held
+    → k / unit * unit ≡ packetOf (tokenOf (nextDtd e m) m) held / unit * unit
+fits-active e m qh n tok f held unit k is = ap (λ (x : ℕ). x / unit * unit) (is ∙ ap (λ (x : ℕ). packetOf x held) (active-token e m qh n tok f))
 
 -- ---- serial
 
@@ -167,26 +184,39 @@ module _ (s : State) (m m′ : Memory) (out out′ : List ℕ) (filled : Filled)
         few = fewer-same (ap (λ (x : State). x .lengths) (e ∙ ap (λ (x : State). arrived x (filled .at)) is));
       }
 
-module _ (s : State) (m m′ : Memory) (q : List ℕ) (n : ℕ) (r : Ran) (run : Runs (endpoint 2 false) (take n q) (S.bus m (s .port .line)) (S.bus m′ (r .line)) r)
-    (next : State) (is : next ≡ afterRun s r) (p : ℕ) (fits : n ≡ p) where
-  abbrev lefts : State → State
-  lefts t = withLengths t (withSerial (t .lengths) (s .lengths .serial - n))
-
-  less : Fewer (s .lengths) (lefts s .lengths)
-  less = record { setups = refl; midi = le-refl (s .lengths .midi); serial = omega arith; device = refl; config = refl }
-
-  pub serial-sent : {t : State} → t ≡ lefts next → {q′ : List ℕ} → q′ ≡ drained q (s .lengths .serial) n → Serves (drainsSerial p) s m q t m′ q′
-  unfolding drainsSerial apply
-  serial-sent {t} e {q′} drains =
-      subst (λ (x : ℕ). Serves (drainsSerial x) s m q t m′ q′) fits
+module _ (s : State) (m m′ : Memory) (q q′ : List ℕ) where
+  serial-none : GivesNothing (endpoint 2 false) m q (s .lengths .serial) m′ q′ → Serves givesSerial s m q s m′ q′
+  serial-none g =
       record {
-        leads = λ w. from-here _ (atSerial w s m q)
-            (in-turn (once (λ v. serial n) (atSerial w s m q) (atSerial w (lefts s) m (drained q (s .lengths .serial) n)) refl)
-            (run-then (endpoint 2 false) (take n q) (λ x. nothing) (withSerialQueue w (drained q (s .lengths .serial) n)) (lefts s) m m′ r run
-            (leads-as (unchanged (atSerial w (lefts (afterRun s r)) m′ (drained q (s .lengths .serial) n))) (ap₂ (λ (x : State) (y : List ℕ). atSerial w x m′ y) (e ∙ ap lefts is) drains))));
-        sized = run .does .sized;
-        few = subst (λ (x : State). Fewer (s .lengths) (x .lengths)) (sym (e ∙ ap lefts is)) less;
+        leads = λ w. leads-as (none-sent (endpoint 2 false) (λ v. v .state .lengths .serial) drainsSerial (atSerial w s m q) (g .none)) (ap₂ (atSerial w s) (g .memory) (g .queue));
+        sized = g .sized;
+        few = fewer-same refl;
       }
+
+  module _ (r : Ran) (n : ℕ) (g : GivesBytes (endpoint 2 false) 1 (s .port .line) m q (s .lengths .serial) r n m′ q′) where
+    abbrev lefts : State → State
+    lefts t = withLengths t (withSerial (t .lengths) (s .lengths .serial - n))
+
+    less : Fewer (s .lengths) (lefts s .lengths)
+    less = record { setups = refl; midi = le-refl (s .lengths .midi); serial = omega arith; device = refl; config = refl }
+
+    -- a unit of one byte leaves none out
+    whole-bytes : n ≡ packetOf (tokenOf (nextDtd (endpoint 2 false) m) m) (s .lengths .serial)
+    whole-bytes = omega (arith, g .fits)
+
+    serial-some : {t : State} → t ≡ lefts (afterRun s r) → Serves givesSerial s m q t m′ q′
+    unfolding drainsSerial apply
+    serial-some {t} e =
+        record {
+          leads = λ w. some-sent (endpoint 2 false) (λ v. v .state .lengths .serial) drainsSerial (atSerial w s m q) (g .some)
+              (leads-by {f = drainsSerial n} (ap (λ (k : ℕ). drainsSerial k (atSerial w s m q)) whole-bytes)
+              (from-here _ (atSerial w s m q)
+              (in-turn (once (λ v. serial n) (atSerial w s m q) (atSerial w (lefts s) m (drained q (s .lengths .serial) n)) refl)
+              (run-then (endpoint 2 false) (take n q) (λ x. nothing) (withSerialQueue w (drained q (s .lengths .serial) n)) (lefts s) m m′ r (g .run)
+              (leads-as (unchanged (atSerial w (lefts (afterRun s r)) m′ (drained q (s .lengths .serial) n))) (ap₂ (λ (x : State) (y : List ℕ). atSerial w x m′ y) e (g .queue)))))));
+          sized = g .run .does .sized;
+          few = subst (λ (x : State). Fewer (s .lengths) (x .lengths)) (sym e) less;
+        }
 
 -- both directions
 module _ (s s₁ s₂ : State) (m m₁ m₂ : Memory) (q q′ out out′ : List ℕ) (taken : Receives takesSerial s m out s₁ m₁ out′) (given : Serves givesSerial s₁ m₁ q s₂ m₂ q′) where
@@ -201,94 +231,84 @@ module _ (s s₁ s₂ : State) (m m₁ m₂ : Memory) (q q′ out out′ : List 
 
 -- ---- MIDI to the device
 
-module _ (s : State) (m m′ : Memory) (q : List ℕ) (fit : ℕ) (r : Ran) (run : Runs (endpoint 1 false) (take (fit / 4 * 4) q) (S.bus m (s .port .line)) (S.bus m′ (r .line)) r)
-    (next : State) (is : next ≡ afterRun s r) (counting : State) (counts : counting ≡ withStats next (counted «midi_packets_out» (fit / 4) (next .stats))) (p : ℕ) (fits : fit ≡ p) where
-  abbrev whole-packets : ℕ
-  whole-packets = fit / 4 * 4
-
-  abbrev behind : List ℕ
-  behind = drained q (s .lengths .midi) whole-packets
-
-  abbrev fewer : State → State
-  fewer t = withLengths t (withMidi (t .lengths) (s .lengths .midi - whole-packets))
-
-  abbrev more : ℕ → State → State
-  more x t = withStats t (counted «midi_packets_out» x (t .stats))
-
-  packets : fit / 4 ≡ whole-packets / 4
-  packets = omega arith
-
-  less-midi : Fewer (s .lengths) (fewer s .lengths)
-  less-midi = record { setups = refl; midi = omega arith; serial = le-refl (s .lengths .serial); device = refl; config = refl }
-
-  pub midi-sent : {t : State} → t ≡ fewer counting → {q′ : List ℕ} → q′ ≡ behind → Writes (drainsMidi (p / 4 * 4)) s m q t m′ q′
-  unfolding drainsMidi apply
-  midi-sent {t} e {q′} drains =
-      subst (λ (x : ℕ). Writes (drainsMidi (x / 4 * 4)) s m q t m′ q′) fits
+module _ (s : State) (m m′ : Memory) (q q′ : List ℕ) where
+  midi-none : GivesNothing (endpoint 1 false) m q (s .lengths .midi) m′ q′ → Writes midiOut s m q s m′ q′
+  unfolding midiOut
+  midi-none g =
       record {
-        leads = λ w. from-here _ (atMidi w s m q)
-            (in-turn (once (λ v. midi whole-packets) (atMidi w s m q) (atMidi w (fewer s) m behind) refl)
-            (run-then (endpoint 1 false) (take whole-packets q) (λ x. one (λ v. count «midi_packets_out» (whole-packets / 4))) (withMidiQueue w behind) (fewer s) m m′ r run
-            (once (λ v. count «midi_packets_out» (whole-packets / 4)) (atMidi w (fewer (afterRun s r)) m′ behind) _
-            (ap₂ (λ (x : State) (y : List ℕ). atMidi w x m′ y) (e ∙ ap fewer (counts ∙ ap₂ more packets is)) drains))));
-        sized = run .does .sized;
-        few = subst (λ (x : State). Fewer (s .lengths) (x .lengths)) (sym (e ∙ ap fewer (counts ∙ ap (more (fit / 4)) is))) less-midi;
+        leads = λ w. leads-as (none-sent (endpoint 1 false) (λ v. v .state .lengths .midi) (λ n. drainsMidi (n / 4 * 4)) (atMidi w s m q) (g .none)) (ap₂ (atMidi w s) (g .memory) (g .queue));
+        sized = g .sized;
+        few = fewer-same refl;
       }
 
--- what a packet carries waits
-pub packet-held : (tok held n : ℕ) → n ≡ packetOf tok held → n ≤ held
-packet-held tok held n e = omega (arith, e, min-le-right (min (totalOf tok) 512) held)
+  module _ (r : Ran) (n : ℕ) (g : GivesBytes (endpoint 1 false) 4 (s .port .line) m q (s .lengths .midi) r n m′ q′) where
+    abbrev behind : List ℕ
+    behind = drained q (s .lengths .midi) n
 
--- and so do the whole packets of four bytes in it
-pub packets-held : (tok held n : ℕ) → n ≡ packetOf tok held → n / 4 * 4 ≤ held
-packets-held tok held n e = omega (arith, packet-held tok held n e)
+    abbrev fewer : State → State
+    fewer t = withLengths t (withMidi (t .lengths) (s .lengths .midi - n))
 
--- ---- the outputs by what `find` says
+    abbrev more : State → State
+    more t = withStats t (counted «midi_packets_out» (n / 4) (t .stats))
 
-module _ (s : State) (m : Memory) (q : List ℕ) where
-  module _ (z : Sized m) where
-    pub serial-none : s .lengths .serial ≡ 0 → Serves givesSerial s m q s m q
-    serial-none h = record { leads = λ w. none-held (endpoint 2 false) (λ v. v .state .lengths .serial) drainsSerial (atSerial w s m q) h; sized = z; few = fewer-same refl }
+    less-midi : Fewer (s .lengths) (fewer s .lengths)
+    less-midi = record { setups = refl; midi = omega arith; serial = le-refl (s .lengths .serial); device = refl; config = refl }
 
-    serial-not : primed (endpoint 2 false) (m .page) && nextActive (endpoint 2 false) m ≡ false → Serves givesSerial s m q s m q
-    serial-not h = record { leads = λ w. none-ready (endpoint 2 false) (λ v. v .state .lengths .serial) drainsSerial (atSerial w s m q) h; sized = z; few = fewer-same refl }
-
-    pub serial-unprimed : found (endpoint 2 false) m ≡ Unprimed → Serves givesSerial s m q s m q
-    serial-unprimed f = serial-not (unprimed-not (endpoint 2 false) m f)
-
-    pub serial-ended : found (endpoint 2 false) m ≡ Ended → Serves givesSerial s m q s m q
-    serial-ended f = serial-not (ended-not (endpoint 2 false) m f)
-
-    pub midi-none : s .lengths .midi ≡ 0 → Writes midiOut s m q s m q
-    unfolding midiOut
-    midi-none h = record { leads = λ w. none-held (endpoint 1 false) (λ v. v .state .lengths .midi) (λ n. drainsMidi (n / 4 * 4)) (atMidi w s m q) h; sized = z; few = fewer-same refl }
-
-    midi-not : primed (endpoint 1 false) (m .page) && nextActive (endpoint 1 false) m ≡ false → Writes midiOut s m q s m q
-    unfolding midiOut
-    midi-not h = record { leads = λ w. none-ready (endpoint 1 false) (λ v. v .state .lengths .midi) (λ n. drainsMidi (n / 4 * 4)) (atMidi w s m q) h; sized = z; few = fewer-same refl }
-
-    pub midi-unprimed : found (endpoint 1 false) m ≡ Unprimed → Writes midiOut s m q s m q
-    midi-unprimed f = midi-not (unprimed-not (endpoint 1 false) m f)
-
-    pub midi-ended : found (endpoint 1 false) m ≡ Ended → Writes midiOut s m q s m q
-    midi-ended f = midi-not (ended-not (endpoint 1 false) m f)
-
-  module _ (qh n tok : ℕ) (s′ : State) (m′ : Memory) (q′ : List ℕ) where
-    pub serial-given : (s .lengths .serial ≡ 0 → ⊥) → found (endpoint 2 false) m ≡ Active qh n tok
-        → Serves (drainsSerial (packetOf tok (s .lengths .serial))) s m q s′ m′ q′ → Serves givesSerial s m q s′ m′ q′
-    serial-given some f p =
+    midi-some : {t : State} → t ≡ fewer (more (afterRun s r)) → Writes midiOut s m q t m′ q′
+    unfolding midiOut drainsMidi apply
+    midi-some {t} e =
         record {
-          leads = λ w. some-sent (endpoint 2 false) (λ v. v .state .lengths .serial) drainsSerial (atSerial w s m q) some qh n tok f (p .leads w);
-          sized = p .sized;
-          few = p .few;
+          leads = λ w. some-sent (endpoint 1 false) (λ v. v .state .lengths .midi) (λ k. drainsMidi (k / 4 * 4)) (atMidi w s m q) (g .some)
+              (leads-by {f = drainsMidi n} (ap (λ (k : ℕ). drainsMidi k (atMidi w s m q)) (g .fits))
+              (from-here _ (atMidi w s m q)
+              (in-turn (once (λ v. midi n) (atMidi w s m q) (atMidi w (fewer s) m behind) refl)
+              (run-then (endpoint 1 false) (take n q) (λ x. one (λ v. count «midi_packets_out» (n / 4))) (withMidiQueue w behind) (fewer s) m m′ r (g .run)
+              (once (λ v. count «midi_packets_out» (n / 4)) (atMidi w (fewer (afterRun s r)) m′ behind) _
+              (ap₂ (λ (x : State) (y : List ℕ). atMidi w x m′ y) e (g .queue)))))));
+          sized = g .run .does .sized;
+          few = subst (λ (x : State). Fewer (s .lengths) (x .lengths)) (sym e) less-midi;
         }
 
-    pub midi-given : (s .lengths .midi ≡ 0 → ⊥) → found (endpoint 1 false) m ≡ Active qh n tok
-        → Writes (drainsMidi (packetOf tok (s .lengths .midi) / 4 * 4)) s m q s′ m′ q′ → Writes midiOut s m q s′ m′ q′
-    unfolding midiOut
-    midi-given some f p =
-        record {
-          leads = λ w. some-sent (endpoint 1 false) (λ v. v .state .lengths .midi) (λ k. drainsMidi (k / 4 * 4)) (atMidi w s m q) some qh n tok f (p .leads w);
-          sized = p .sized;
-          few = p .few;
-        }
+-- whole units of what a packet carries wait
+pub units-held : (tok held k unit : ℕ) → k ≡ packetOf tok held → k / unit * unit ≤ held
+units-held tok held k unit e = le-trans (div-mul-le-self k unit) (omega (arith, e, min-le-right (min (totalOf tok) 512) held))
+
+-- ---- the outputs by what `give` answers
+
+module _ (s : State) (m m′ : Memory) (q q′ : List ℕ) (k : Took) where
+  module _ (g : Gives (endpoint 2 false) 1 (s .port .line) m q (s .lengths .serial) k m′ q′) where
+    abbrev AsSerial : Took → Type 0
+    AsSerial x = Gives (endpoint 2 false) 1 (s .port .line) m q (s .lengths .serial) x m′ q′
+
+    pub serial-nothing : k ≡ Nothing → Serves givesSerial s m q s m′ q′
+    unfolding Gives
+    serial-nothing is = serial-none s m m′ q q′ (subst AsSerial is g)
+
+    pub serial-held : {r : Ran} {n : ℕ} → k ≡ Bytes r n → n ≤ s .lengths .serial
+    unfolding Gives
+    serial-held is = subst AsSerial is g .few
+
+    pub serial-bytes : {r : Ran} {n : ℕ} → k ≡ Bytes r n → {t next : State} → next ≡ afterRun s r
+        → t ≡ withLengths next (withSerial (next .lengths) (s .lengths .serial - n)) → Serves givesSerial s m q t m′ q′
+    unfolding Gives
+    serial-bytes {r} {n} is e l = serial-some s m m′ q q′ r n (subst AsSerial is g) (l ∙ ap (λ (x : State). withLengths x (withSerial (x .lengths) (s .lengths .serial - n))) e)
+
+  module _ (g : Gives (endpoint 1 false) 4 (s .port .line) m q (s .lengths .midi) k m′ q′) where
+    abbrev AsMidi : Took → Type 0
+    AsMidi x = Gives (endpoint 1 false) 4 (s .port .line) m q (s .lengths .midi) x m′ q′
+
+    pub midi-nothing : k ≡ Nothing → Writes midiOut s m q s m′ q′
+    unfolding Gives
+    midi-nothing is = midi-none s m m′ q q′ (subst AsMidi is g)
+
+    pub midi-held : {r : Ran} {n : ℕ} → k ≡ Bytes r n → n ≤ s .lengths .midi
+    unfolding Gives
+    midi-held is = subst AsMidi is g .few
+
+    pub midi-bytes : {r : Ran} {n : ℕ} → k ≡ Bytes r n → {t next counting : State} → next ≡ afterRun s r
+        → counting ≡ withStats next (counted «midi_packets_out» (n / 4) (next .stats))
+        → t ≡ withLengths counting (withMidi (counting .lengths) (s .lengths .midi - n)) → Writes midiOut s m q t m′ q′
+    unfolding Gives
+    midi-bytes {r} {n} is e counts l =
+        midi-some s m m′ q q′ r n (subst AsMidi is g)
+        (l ∙ ap (λ (x : State). withLengths x (withMidi (x .lengths) (s .lengths .midi - n))) (counts ∙ ap (λ (x : State). withStats x (counted «midi_packets_out» (n / 4) (x .stats))) e))

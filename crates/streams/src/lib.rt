@@ -1,20 +1,19 @@
 // Streams of bytes of a configured host: serial, MIDI to the device, and the vendor interface's.
 ghost use mathlib.Core.Path.{_≡_};
 ghost use mathlib.Core.Bool.{false};
-ghost use Prim.Native.Nat.{_+_, _*_, _/_, _<_, _≤_};
+ghost use Prim.Native.Nat.{_+_, _<_, _≤_};
 ghost use lib.ListN.{length};
 ghost use Rattle.bus.specs.Memory.{shown};
 ghost use Rattle.bus.specs.Sized.{Sized};
 ghost use Rattle.dtd.specs.Dtd as D;
-ghost use Rattle.dtd.specs.declared.Found.the-variants.{Active};
 ghost use Rattle.record.specs.Change as C;
 ghost use Rattle.record.specs.Did as R;
 ghost use Rattle.record.specs.Record as Rec;
 ghost use Rattle.model.specs.Streams as M;
 ghost use Rattle.streams.specs.Promises as P;
 use dtd::Found;
+use dtd::Ran;
 use record::State;
-use std::num::wrapping_add_u64;
 
 // The bits of the endpoints in EPSR: MIDI out (1), serial or vendor in and serial out (2).
 const MIDI_OUT: u32 = 0x2;
@@ -25,6 +24,12 @@ const SECOND_OUT: u32 = 0x4;
 
 // The bytes of one bulk packet at high speed.
 const PACKET: usize = 512;
+
+// What an output endpoint took of a queue: nothing, or so many bytes by a run.
+enum Took {
+    Nothing,
+    Bytes(Ran, usize),
+}
 
 // A queue of `len` bytes without its first n: the others move up.
 pub fn drain(q: &mut [u8], len: usize, n: usize)
@@ -42,7 +47,7 @@ pub fn drain(q: &mut [u8], len: usize, n: usize)
 fn packet_of(tok: u32, queued: usize) -> usize
     ensures { λ r. ⌜ r ≡ P.packetOf tok queued ⌝ }
 {
-    dtd::fewer(dtd::fewer(usbdev::total(tok) as usize, PACKET), queued)
+    bits::least(bits::least(usbdev::total(tok) as usize, PACKET), queued)
 }
 
 // Serial input: its bytes go into the receive area.
@@ -76,40 +81,36 @@ fn serial_in(
     next
 }
 
-// Serial output into an active descriptor.
-fn serial_packet(
-    s: State,
+// Bytes that wait go to an output endpoint whose next descriptor is active: whole units, as many as fit.
+fn give(
     dynamic: &mut [u8],
     sram: &mut [u8],
     page: &mut [u8],
-    serial: &mut [u8],
-    qh: u32,
-    td: u32,
-    tok: u32,
-) -> State
+    queue: &mut [u8],
+    held: usize,
+    unit: usize,
+    ep: u32,
+    bit: u32,
+    line: bool,
+) -> Took
     requires { ⌜ Sized (shown dynamic sram page) ⌝ }
-    requires { ⌜ s .lengths .serial ≤ length (now serial) ⌝ }
-    requires { ⌜ D.found (D.endpoint 2 false) (shown dynamic sram page) ≡ Active qh td tok ⌝ }
-    ensures { λ r. ⌜ P.Serves (M.drainsSerial (P.packetOf tok (s .lengths .serial))) s (shown (dynamic .entry) (sram .entry) (page .entry)) (now (serial .entry)) r (shown (dynamic .exit) (sram .exit) (page .exit)) (now (serial .exit)) ⌝ }
+    requires { ⌜ (held ≤ length (now queue)) × (1 ≤ unit) ⌝ }
+    requires { ⌜ (1 ≤ ep) × ((ep < 16) × (bit ≡ D.bitOf (D.endpoint ep false))) ⌝ }
+    ensures { λ r. ⌜ P.Gives (D.endpoint ep false) unit line (shown (dynamic .entry) (sram .entry) (page .entry)) (now (queue .entry)) held r (shown (dynamic .exit) (sram .exit) (page .exit)) (now (queue .exit)) ⌝ }
 {
-    let queued = s.lengths.serial;
-    let n = packet_of(tok, queued);
-    let ran = dtd::send_one(
-        dynamic,
-        sram,
-        page,
-        qh,
-        td,
-        tok,
-        SECOND_OUT,
-        &serial[..n],
-        s.port.line,
-    );
-    drain(serial, queued, n);
-    let mut next = record::after_run(s, ran);
-    let rest = queued - n;
-    next.lengths.serial = rest;
-    next
+    if held == 0 {
+        return Took::Nothing;
+    }
+    match dtd::find(&*dynamic, &*sram, &*page, ep, false, bit) {
+        Found::Unprimed => Took::Nothing,
+        Found::Ended => Took::Nothing,
+        Found::Active(qh, td, tok) => {
+            let n = packet_of(tok, held) / unit * unit;
+            let ran = dtd::send_one(dynamic, sram, page, qh, td, tok, bit, &queue[..n], line);
+            drain(queue, held, n);
+            Took::Bytes(ran, n)
+        }
+    }
 }
 
 // Serial output, where bytes wait and a descriptor is active.
@@ -124,13 +125,25 @@ fn serial_out(
     requires { ⌜ s .lengths .serial ≤ length (now serial) ⌝ }
     ensures { λ r. ⌜ P.Serves M.givesSerial s (shown (dynamic .entry) (sram .entry) (page .entry)) (now (serial .entry)) r (shown (dynamic .exit) (sram .exit) (page .exit)) (now (serial .exit)) ⌝ }
 {
-    if s.lengths.serial == 0 {
-        return s;
-    }
-    match dtd::find(&*dynamic, &*sram, &*page, 2, false, SECOND_OUT) {
-        Found::Unprimed => s,
-        Found::Ended => s,
-        Found::Active(qh, td, tok) => { serial_packet(s, dynamic, sram, page, serial, qh, td, tok) }
+    let queued = s.lengths.serial;
+    match give(
+        dynamic,
+        sram,
+        page,
+        serial,
+        queued,
+        1,
+        2,
+        SECOND_OUT,
+        s.port.line,
+    ) {
+        Took::Nothing => s,
+        Took::Bytes(ran, n) => {
+            let mut next = record::after_run(s, ran);
+            let rest = queued - n;
+            next.lengths.serial = rest;
+            next
+        }
     }
 }
 
@@ -151,48 +164,7 @@ pub fn serial_step(
     serial_out(next, dynamic, sram, page, serial)
 }
 
-// MIDI output into an active descriptor: whole packets of four bytes.
-fn midi_packet(
-    s: State,
-    dynamic: &mut [u8],
-    sram: &mut [u8],
-    page: &mut [u8],
-    midi: &mut [u8],
-    qh: u32,
-    td: u32,
-    tok: u32,
-) -> State
-    requires { ⌜ Sized (shown dynamic sram page) ⌝ }
-    requires { ⌜ s .lengths .midi ≤ length (now midi) ⌝ }
-    requires { ⌜ D.found (D.endpoint 1 false) (shown dynamic sram page) ≡ Active qh td tok ⌝ }
-    ensures { λ r. ⌜ P.Writes (M.drainsMidi (P.packetOf tok (s .lengths .midi) / 4 * 4)) s (shown (dynamic .entry) (sram .entry) (page .entry)) (now (midi .entry)) r (shown (dynamic .exit) (sram .exit) (page .exit)) (now (midi .exit)) ⌝ }
-{
-    let queued = s.lengths.midi;
-    let packets = packet_of(tok, queued) / 4;
-    let n = packets * 4;
-    let ran = dtd::send_one(
-        dynamic,
-        sram,
-        page,
-        qh,
-        td,
-        tok,
-        MIDI_OUT,
-        &midi[..n],
-        s.port.line,
-    );
-    drain(midi, queued, n);
-    let mut next = record::count(
-        record::after_run(s, ran),
-        record::MIDI_PACKETS_OUT,
-        packets as u64,
-    );
-    let rest = queued - n;
-    next.lengths.midi = rest;
-    next
-}
-
-// MIDI output, where packets wait and a descriptor is active.
+// MIDI output, where packets wait and a descriptor is active: whole packets of four bytes, which are counted.
 pub fn midi_out(
     s: State,
     dynamic: &mut [u8],
@@ -204,13 +176,30 @@ pub fn midi_out(
     requires { ⌜ s .lengths .midi ≤ length (now midi) ⌝ }
     ensures { λ r. ⌜ P.Writes M.midiOut s (shown (dynamic .entry) (sram .entry) (page .entry)) (now (midi .entry)) r (shown (dynamic .exit) (sram .exit) (page .exit)) (now (midi .exit)) ⌝ }
 {
-    if s.lengths.midi == 0 {
-        return s;
-    }
-    match dtd::find(&*dynamic, &*sram, &*page, 1, false, MIDI_OUT) {
-        Found::Unprimed => s,
-        Found::Ended => s,
-        Found::Active(qh, td, tok) => midi_packet(s, dynamic, sram, page, midi, qh, td, tok),
+    let queued = s.lengths.midi;
+    match give(
+        dynamic,
+        sram,
+        page,
+        midi,
+        queued,
+        4,
+        1,
+        MIDI_OUT,
+        s.port.line,
+    ) {
+        Took::Nothing => s,
+        Took::Bytes(ran, n) => {
+            let packets = (n / 4) as u64;
+            let mut next = record::count(
+                record::after_run(s, ran),
+                record::MIDI_PACKETS_OUT,
+                packets,
+            );
+            let rest = queued - n;
+            next.lengths.midi = rest;
+            next
+        }
     }
 }
 

@@ -1,32 +1,34 @@
 -- `streams::midi_out` meets its contract.
-use mathlib.Core.Path.{sym, _∙_}
+use native.Mathlib.Omega.{arith}
+use mathlib.Core.Path.{refl}
 use Rattle.bus.specs.Memory.{shown}
-use Rattle.streams.proofs.Laws.{midi-none, midi-unprimed, midi-ended, midi-given}
+use Rattle.streams.proofs.Laws.{midi-nothing, midi-held, midi-bytes}
 use borrow.Author.Needs.{needs}
 use Rattle.streams.proofs.midi_out.Statement.{statement}
 use Rattle.streams.proofs.midi_out.Tie as tie
 
-returns : tie.Need-returns
-returns c =
-    let start = c .before .before .before .before .before .before in
-    midi-none (start .args .s) _ (start .args .midi .now) (start .pre .0) (c .if1 .taken)
-
-find-requires : tie.Need-find-requires
-find-requires c κs = search needs
+give-requires : tie.Need-give-requires
+give-requires c κs =
+    let start = c .before .before .before .before .before .before .before .before in
+    (start .pre .0, ((start .pre .1, omega arith), (omega arith, (omega arith, refl))))
 
 enum-told : tie.Need-enum-told
 enum-told c = search needs
 
-enum-told-2 : tie.Need-enum-told-2
-enum-told-2 c = search needs
+enum-known-ran : tie.Need-enum-known-ran
+enum-known-ran c = search needs
 
-enum-known-qh : tie.Need-enum-known-qh
-enum-known-qh c = search needs
+after-run-requires : tie.Need-after-run-requires
+after-run-requires c κs = search needs
 
-midi-packet-requires : tie.Need-midi-packet-requires
-midi-packet-requires c κs =
-    let start = c .before .before .before .before .before .before .before .before .before .before .before .before .before .before .before .before .before in
-    (start .pre .0, (start .pre .1, sym (c .before .before .before .before .before .before .before .find .ensures) ∙ c .before .before .before .before .before .qh .given .1))
+count-requires : tie.Need-count-requires
+count-requires c κs = search needs
+
+sub-rest : tie.Need-sub-rest
+sub-rest c =
+    let given = c .before .before .before .before .before .before .before .before .before .before .before .before .before in
+    let start = given .before .before .before .before .before .before .before .before .before in
+    midi-held (start .args .s) (shown (start .args .dynamic) (start .args .sram) (start .args .page)) _ (start .args .midi .now) _ _ (given .give .ensures) (c .before .before .before .ran .given .1)
 
 same-length : tie.Need-same-length
 same-length c = search needs
@@ -37,24 +39,20 @@ same-length-2 c = search needs
 same-length-3 : tie.Need-same-length-3
 same-length-3 c = search needs
 
-returns-2 : tie.Need-returns-2
-returns-2 c =
-    let start = c .before .before .before .before .before .before .before .before .before .before .before .before in
-    midi-unprimed (start .args .s) (shown (start .args .dynamic) (start .args .sram) (start .args .page)) (start .args .midi .now) (start .pre .0) (sym (c .before .before .find .ensures) ∙ c .enum-told .given .1)
-
 same-length-4 : tie.Need-same-length-4
 same-length-4 c = search needs
 
+returns : tie.Need-returns
+returns c =
+    let given = c .before .before .before .before .before .before .before .before .before .before in
+    let start = given .before .before .before .before .before .before .before .before .before in
+    midi-nothing (start .args .s) (shown (start .args .dynamic) (start .args .sram) (start .args .page)) _ (start .args .midi .now) _ _ (given .give .ensures) (c .enum-told .given .1)
+
 same-length-5 : tie.Need-same-length-5
-same-length-5 c = search needs
+same-length-5 c = c .before .before .before .before .before .before .before .before .before .before .before .before .before .dynamic .given
 
 same-length-6 : tie.Need-same-length-6
-same-length-6 c = search needs
-
-returns-3 : tie.Need-returns-3
-returns-3 c =
-    let start = c .before .before .before .before .before .before .before .before .before .before .before .before in
-    midi-ended (start .args .s) (shown (start .args .dynamic) (start .args .sram) (start .args .page)) (start .args .midi .now) (start .pre .0) (sym (c .before .before .find .ensures) ∙ c .enum-told2 .given .1)
+same-length-6 c = c .before .before .before .before .before .before .before .before .before .before .before .sram .given
 
 same-length-7 : tie.Need-same-length-7
 same-length-7 c = search needs
@@ -62,37 +60,29 @@ same-length-7 c = search needs
 same-length-8 : tie.Need-same-length-8
 same-length-8 c = search needs
 
-same-length-9 : tie.Need-same-length-9
-same-length-9 c = search needs
-
-same-length-10 : tie.Need-same-length-10
-same-length-10 c = search needs
-
-returns-4 : tie.Need-returns-4
-returns-4 c =
-    let start = c .before .before .before .before .before .before .before .before .before .before .before .before .before .before .before .before .before .before .before .before .before .before .before .before .before .before in
-    midi-given (start .args .s) (shown (start .args .dynamic) (start .args .sram) (start .args .page)) (start .args .midi .now) _ _ _ _ _ _ (c .before .before .before .before .before .before .before .before .before .before .before .before .before .before .before .before .before .before .before .before .if1 .left) (sym (c .before .before .before .before .before .before .before .before .before .before .before .before .before .before .before .before .find .ensures) ∙ c .before .before .before .before .before .before .before .before .before .before .before .before .before .before .qh .given .1) (c .before .before .before .before .before .before .before .before .midi-packet .ensures)
+returns-2 : tie.Need-returns-2
+returns-2 c =
+    let given = c .before .before .before .before .before .before .before .before .before .before .before .before .before .before in
+    let start = given .before .before .before .before .before .before .before .before .before in
+    midi-bytes (start .args .s) (shown (start .args .dynamic) (start .args .sram) (start .args .page)) _ (start .args .midi .now) _ _ (given .give .ensures) (c .before .before .before .before .ran .given .1) (c .before .before .after-run .ensures) (c .before .count .ensures) refl
 
 pub midi-out-spec : {M : Type 1} → statement M
 midi-out-spec =
     tie.close
     (tie.spec
-    returns
-    find-requires
+    give-requires
     enum-told
-    enum-told-2
-    enum-known-qh
-    midi-packet-requires
+    enum-known-ran
+    after-run-requires
+    count-requires
+    sub-rest
     same-length
     same-length-2
     same-length-3
-    returns-2
     same-length-4
+    returns
     same-length-5
     same-length-6
-    returns-3
     same-length-7
     same-length-8
-    same-length-9
-    same-length-10
-    returns-4)
+    returns-2)
