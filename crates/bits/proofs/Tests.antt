@@ -45,6 +45,10 @@ pub or-case : {P : Type 0} (a b : Bool) → (a || b) ≡ true → (a ≡ true �
 or-case true b e p q = p refl
 or-case false b e p q = q e
 
+pub or-first : (a b : Bool) → a ≡ true → (a || b) ≡ true
+or-first true b e = refl
+or-first false b e = absurd (false-true e)
+
 pub or-second : (a b : Bool) → b ≡ true → (a || b) ≡ true
 or-second true b e = refl
 or-second false b e = e

@@ -12,7 +12,7 @@ use Rattle.bus.proofs.Sizes.{and-true}
 use Rattle.midi.specs.declared.Packer.{Packer}
 use Rattle.midi.specs.Packer.{messageLength, PackerBound}
 use Rattle.record.specs.declared.Ring.{Ring}
-use Rattle.record.specs.Record.{Stats, counterAt, counterOf, microframes}
+use Rattle.record.specs.Record.{Stats, COUNTERS, counterAt, counterOf, microframes}
 use Rattle.record.proofs.Counters.{counter-element}
 use Rattle.bounds.specs.Bounds.{madeAt, allMade, other, noneAsks, times, noneAbove, countersOk, packerOk, ringOk}
 
@@ -46,9 +46,9 @@ all-below m r zero h = refl
 all-below m r (suc n) h = simp (all-below m r n (λ k l. h k (omega arith)), h n (omega arith))
 
 -- a counter of a record that is in its bounds, by its place behind that of the microframes
-pub counter-below : (r : Stats) → countersOk r ≡ true → (k : ℕ) → k < 12 → leb (counterAt (suc k) r) (times 32767 (counterOf microframes r)) ≡ true
+pub counter-below : (r : Stats) → countersOk r ≡ true → (k : ℕ) → k < COUNTERS - 1 → leb (counterAt (suc k) r) (times 32767 (counterOf microframes r)) ≡ true
 unfolding countersOk
-counter-below r e = none-above (times 32767 (counterOf microframes r)) r 12 e
+counter-below r e = none-above (times 32767 (counterOf microframes r)) r (COUNTERS - 1) e
 
 -- a test or one that holds
 pub or-true : (b : Bool) → (b || true) ≡ true

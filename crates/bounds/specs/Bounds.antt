@@ -1,7 +1,7 @@
 -- The bounds of a host record (document 01, "Numbers of refusal", 5): each clause of that text stands in one of the named parts below.
 use Prim.Native.Nat.{ℕ, zero, suc, _+_, _-_, _*_, _/_, _%_, _^_, min}
-use mathlib.Core.Bool.{Bool, true, not, _&&_, _||_}
-use mathlib.Core.List.{List}
+use mathlib.Core.Bool.{Bool, true, false, not, _&&_, _||_}
+use mathlib.Core.List.{List, [], _∷_}
 use lib.Dec.{eqb, leb, ltb}
 use Rattle.midi.specs.declared.Packer.{Packer}
 use Rattle.midi.specs.Packer.{messageLength}
@@ -13,9 +13,9 @@ use Rattle.record.specs.declared.Audio.{Audio}
 use Rattle.record.specs.declared.Control.{Control}
 use Rattle.record.specs.declared.Lengths.{Lengths}
 use Rattle.record.specs.declared.State.{State}
-use Rattle.record.specs.Change.{FRAMES, WORDS}
+use Rattle.record.specs.Sizes.{SETUPS, QUEUE, DEVICE, FRAMES, WORDS}
 use Rattle.record.specs.Setups.{little}
-use Rattle.record.specs.Record.{Stats, counterAt, counterOf, microframes}
+use Rattle.record.specs.Record.{Stats, COUNTERS, counterAt, counterOf, microframes}
 use Rattle.model.specs.Control.{wLength, enumerating}
 
 -- ---- setups that the source makes (usbhost.rs 477-482, 713, 723-735)
@@ -28,15 +28,42 @@ le a b c d = a + 2 ^ 8 * b + 2 ^ 16 * c + 2 ^ 24 * d
 abbrev pub asksConfiguration : ℕ → Bool
 asksConfiguration first = eqb first (le 0x80 6 0 2)
 
--- device descriptor of 64 or of 18 bytes (478, 480); address 7 (479); configuration of any length (481, 713); set configuration 1 (723, 730);
+-- a shape of setups: what its first and its second word are
+pub record Shape : Type 0 where
+  pub first : ℕ → Bool
+  pub second : ℕ → Bool
+
+-- device descriptor of 64 or of 18 bytes (478, 480)
+abbrev pub deviceShape : Shape
+deviceShape = record { first = λ a. eqb a (le 0x80 6 0 1); second = λ b. eqb b (le 0 0 64 0) || eqb b (le 0 0 18 0) }
+
+-- address 7 (479)
+abbrev pub addressShape : Shape
+addressShape = record { first = λ a. eqb a (le 0 5 7 0); second = λ b. eqb b 0 }
+
+-- configuration of any length (481, 713)
+abbrev pub configurationShape : Shape
+configurationShape = record { first = asksConfiguration; second = λ b. eqb (b % 2 ^ 16) 0 }
+
+-- set configuration 1 (723, 730)
+abbrev pub chosenShape : Shape
+chosenShape = record { first = λ a. eqb a (le 0 9 1 0); second = λ b. eqb b 0 }
+
 -- set interface with an alternate that is not 0 (79, 725, 731-732)
+abbrev pub interfaceShape : Shape
+interfaceShape =
+    record { first = λ a. eqb (a % 2 ^ 16) (le 1 11 0 0) && (ltb 0 (a / 2 ^ 16) && ltb (a / 2 ^ 16) 256); second = λ b. ltb b 256 }
+
+abbrev pub shapes : List Shape
+shapes = deviceShape ∷ addressShape ∷ configurationShape ∷ chosenShape ∷ interfaceShape ∷ []
+
+-- two words are those of one of the shapes
+abbrev pub shaped : List Shape → ℕ → ℕ → Bool
+shaped [] a b = false
+shaped (x ∷ xs) a b = (x .first a && x .second b) || shaped xs a b
+
 unfoldable pub made : ℕ → ℕ → Bool
-made first second =
-    (eqb first (le 0x80 6 0 1) && (eqb second (le 0 0 64 0) || eqb second (le 0 0 18 0)))
-    || ((eqb first (le 0 5 7 0) && eqb second 0)
-    || ((asksConfiguration first && eqb (second % 2 ^ 16) 0)
-    || ((eqb first (le 0 9 1 0) && eqb second 0)
-    || (eqb (first % 2 ^ 16) (le 1 11 0 0) && (ltb 0 (first / 2 ^ 16) && (ltb (first / 2 ^ 16) 256 && ltb second 256))))))
+made first second = shaped shapes first second
 
 -- each of the first n setups that wait is one that the source makes, and none of the first n is a configuration request
 unfoldable pub madeAt : List ℕ → ℕ → Bool
@@ -55,7 +82,7 @@ noneAsks q (suc n) = noneAsks q n && other q n
 
 -- at most 257, each made by the source, and a configuration request only as the last
 unfoldable pub setupsOk : ℕ → List ℕ → Bool
-setupsOk n q = leb n 257 && (allMade q n && noneAsks q (n - 1))
+setupsOk n q = leb n SETUPS && (allMade q n && noneAsks q (n - 1))
 
 -- none waits and none runs outside enumeration
 unfoldable pub enumeratingOk : State → Bool
@@ -74,7 +101,7 @@ requestOk c waiting uf =
 
 -- MIDI queue over 4,096 or not a multiple of four, serial queue over 4,096, device descriptor over the 64 bytes of the record
 unfoldable pub queuesOk : Lengths → Bool
-queuesOk l = leb (l .midi) 4096 && (eqb (l .midi % 4) 0 && (leb (l .serial) 4096 && leb (l .device) 64))
+queuesOk l = leb (l .midi) QUEUE && (eqb (l .midi % 4) 0 && (leb (l .serial) QUEUE && leb (l .device) DEVICE))
 
 -- over two held MIDI bytes, or any with a two-byte status outside SysEx
 unfoldable pub packerOk : Packer → Bool
@@ -100,9 +127,9 @@ unfoldable pub noneAbove : ℕ → Stats → ℕ → Bool
 noneAbove m r zero = true
 noneAbove m r (suc n) = noneAbove m r n && leb (counterAt (suc n) r) m
 
--- every other counter: the twelve of usbhost.rs 293-309, at most 32,767 a microframe
+-- every other counter (usbhost.rs 293-309): at most 32,767 a microframe
 unfoldable pub countersOk : Stats → Bool
-countersOk r = noneAbove (times 32767 (counterOf microframes r)) r 12
+countersOk r = noneAbove (times 32767 (counterOf microframes r)) r (COUNTERS - 1)
 
 -- credit: a multiple of seven, at most 623 a microframe (a total of 32,767 bytes has 89 whole blocks of 368, of seven frames each)
 unfoldable pub creditOk : ℕ → ℕ → Bool

@@ -3,15 +3,20 @@ ghost use mathlib.Core.Path.{_≡_};
 ghost use mathlib.Core.Bool.{Bool};
 ghost use Prim.Native.Nat.{_+_, _-_, _≤_, _<_, min};
 ghost use Rattle.model.specs.Control.{enumerating as Control·enumerating};
+ghost use Rattle.record.specs.Sizes as Sizes;
 ghost use Rattle.bounds.specs.Bounds as B;
 use gptimers::Timer;
 use gptimers::Timers;
 use midi::Packer;
 use record::Audio;
 use record::Control;
+use record::DEVICE;
 use record::Lengths;
 use record::Phase;
+use record::QUEUE;
 use record::Ring;
+use record::SETUP_BYTES;
+use record::SETUPS;
 use record::State;
 use record::word_from;
 
@@ -33,14 +38,14 @@ pub fn made(first: u32, second: u32) -> bool
     let configuration = (first == ASKS_CONFIGURATION) & (second % 0x1_0000 == 0);
     let set = (first == 0x0001_0900) & (second == 0);
     let alternate = first / 0x1_0000;
-    let interface = (first % 0x1_0000 == 0x0B01)
-        & ((0 < alternate) & ((alternate < 256) & (second < 256)));
+    let interface = ((first % 0x1_0000 == 0x0B01) & ((0 < alternate) & (alternate < 256)))
+        & (second < 256);
     device | (address | (configuration | (set | interface)))
 }
 
 // Whether the source makes setup i of the queue.
-fn made_at(setups: &[u8; 2056], i: usize) -> bool
-    requires { ⌜ i < 257 ⌝ }
+fn made_at(setups: &[u8; SETUP_BYTES], i: usize) -> bool
+    requires { ⌜ i < Sizes.SETUPS ⌝ }
     ensures { λ r. ⌜ r ≡ B.madeAt (now (setups .entry)) i ⌝ }
 {
     let first = word_from(setups, 8 * i);
@@ -49,8 +54,8 @@ fn made_at(setups: &[u8; 2056], i: usize) -> bool
 }
 
 // Whether the source makes each of the first n setups.
-fn all_made(setups: &[u8; 2056], n: usize) -> bool
-    requires { ⌜ n ≤ 257 ⌝ }
+fn all_made(setups: &[u8; SETUP_BYTES], n: usize) -> bool
+    requires { ⌜ n ≤ Sizes.SETUPS ⌝ }
     ensures { λ r. ⌜ r ≡ B.allMade (now (setups .entry)) n ⌝ }
 {
     let mut ok = true;
@@ -64,8 +69,8 @@ fn all_made(setups: &[u8; 2056], n: usize) -> bool
 }
 
 // Whether setup i of the queue asks for something else than the configuration.
-fn other_at(setups: &[u8; 2056], i: usize) -> bool
-    requires { ⌜ i < 257 ⌝ }
+fn other_at(setups: &[u8; SETUP_BYTES], i: usize) -> bool
+    requires { ⌜ i < Sizes.SETUPS ⌝ }
     ensures { λ r. ⌜ r ≡ B.other (now (setups .entry)) i ⌝ }
 {
     let first = word_from(setups, 8 * i);
@@ -73,8 +78,8 @@ fn other_at(setups: &[u8; 2056], i: usize) -> bool
 }
 
 // Whether none of the first n setups is a configuration request.
-fn none_asks(setups: &[u8; 2056], n: usize) -> bool
-    requires { ⌜ n ≤ 257 ⌝ }
+fn none_asks(setups: &[u8; SETUP_BYTES], n: usize) -> bool
+    requires { ⌜ n ≤ Sizes.SETUPS ⌝ }
     ensures { λ r. ⌜ r ≡ B.noneAsks (now (setups .entry)) n ⌝ }
 {
     let mut ok = true;
@@ -98,10 +103,10 @@ fn before(n: usize) -> usize
 }
 
 // The setups that wait.
-pub fn setups_ok(n: usize, setups: &[u8; 2056]) -> bool
+pub fn setups_ok(n: usize, setups: &[u8; SETUP_BYTES]) -> bool
     ensures { λ r. ⌜ r ≡ B.setupsOk n (now (setups .entry)) ⌝ }
 {
-    if 257 < n {
+    if SETUPS < n {
         return false;
     }
     let each = all_made(setups, n);
@@ -148,7 +153,7 @@ pub fn request_ok(c: Control, waiting: usize, uf: u64) -> bool
 pub fn queues_ok(l: Lengths) -> bool
     ensures { λ r. ⌜ r ≡ B.queuesOk l ⌝ }
 {
-    (l.midi <= 4096) & ((l.midi % 4 == 0) & ((l.serial <= 4096) & (l.device <= 64)))
+    (l.midi <= QUEUE) & ((l.midi % 4 == 0) & ((l.serial <= QUEUE) & (l.device <= DEVICE)))
 }
 
 // The bytes that the packer holds.
@@ -258,7 +263,7 @@ fn counted_ok(s: State) -> bool
 }
 
 // The whole record, but for what an area bounds.
-pub fn in_bounds(s: State, p: Packer, setups: &[u8; 2056]) -> bool
+pub fn in_bounds(s: State, p: Packer, setups: &[u8; SETUP_BYTES]) -> bool
     ensures { λ r. ⌜ r ≡ B.inBounds s p (now (setups .entry)) ⌝ }
 {
     let control = s.control;

@@ -1,12 +1,12 @@
 -- Setups in a queue: which ones are made by the source, as they move up, and as lists of them are put at the start.
 use Prim.Native.Nat.{ℕ, zero, suc, _+_, _-_, _*_, _/_, _%_, _^_, _≤_, _<_}
 use mathlib.Core.Path.{_≡_, refl, sym, ap, ap₂, subst, _∙_}
-use mathlib.Core.Bool.{Bool, true, not, _&&_, _||_}
+use mathlib.Core.Bool.{Bool, true, not, _&&_}
 use mathlib.Core.List.{List, [], _∷_, _++_, flatMap}
 use native.Mathlib.Nat.{add-zero}
 use native.Mathlib.Omega.{arith}
 use borrow.Author.Tests.{eq-eqb, ne-eqb, lt-ltb, ltb-true, ltb-false}
-use lib.Dec.{eqb, ltb, lit<}
+use lib.Dec.{ltb, lit<}
 use lib.ListN.{length, getD, take, drop, length-take, length-drop, length-append, List·getD-append}
 use lib.Seq.{sets, sets-eq, getD-take, getD-drop, getD-append-add}
 use Rattle.config.specs.Config.{Bytes}
@@ -16,10 +16,11 @@ use Rattle.record.specs.Change.{drained}
 use Rattle.record.specs.Setups.{little}
 use Rattle.model.specs.Phases.{firstSetups}
 use Rattle.model.specs.Control.{setsConfiguration, setsInterface, interfaceSetups, fixedSetups}
-use Rattle.bounds.specs.Bounds.{le, asksConfiguration, made, madeAt, allMade, other, noneAsks}
+use Rattle.bounds.specs.Bounds.{le, asksConfiguration, deviceShape, addressShape, configurationShape, chosenShape, interfaceShape, made, madeAt, allMade, other, noneAsks}
+use Rattle.bounds.proofs.Shapes.{shape-there}
 use Rattle.kept.proofs.Fits.{bytes-none, bytes-append}
 use Rattle.kept.proofs.Pairs.{Pair, Pairs}
-use Rattle.bits.proofs.Tests.{and-first, and-second, and-both, or-second}
+use Rattle.bits.proofs.Tests.{and-first, and-second, and-both}
 
 -- ---- a test of each of the first n
 
@@ -217,23 +218,16 @@ plain-configuration : Plain setsConfiguration
 unfolding madeAt made other inBytes
 plain-configuration = record { size = refl; is-made = refl; is-other = refl; bytes = bytes-by setsConfiguration refl }
 
--- the last of the five kinds
-sets-made : (f s : ℕ) → (eqb (f % 2 ^ 16) (le 1 11 0 0) && (ltb 0 (f / 2 ^ 16) && (ltb (f / 2 ^ 16) 256 && ltb s 256))) ≡ true → made f s ≡ true
-unfolding made
-sets-made f s e =
-    or-second (eqb f (le 0x80 6 0 1) && (eqb s (le 0 0 64 0) || eqb s (le 0 0 18 0))) _
-    (or-second (eqb f (le 0 5 7 0) && eqb s 0) _
-    (or-second (asksConfiguration f && eqb (s % 2 ^ 16) 0) _ (or-second (eqb f (le 0 9 1 0) && eqb s 0) _ e)))
-
 module _ (i a : ℕ) (p : Pair i a) where
   interface-made : made (1 + 2 ^ 8 * 11 + 2 ^ 16 * a + 2 ^ 24 * 0) (i + 2 ^ 8 * 0 + 2 ^ 16 * 0 + 2 ^ 24 * 0) ≡ true
+  unfolding made
   interface-made =
       let f = 1 + 2 ^ 8 * 11 + 2 ^ 16 * a + 2 ^ 24 * 0 in
       let s = i + 2 ^ 8 * 0 + 2 ^ 16 * 0 + 2 ^ 24 * 0 in
-      sets-made f s
+      shape-there (deviceShape ∷ addressShape ∷ configurationShape ∷ chosenShape ∷ []) interfaceShape [] f s
       (and-both _ _ (eq-eqb (f % 2 ^ 16) (le 1 11 0 0) (omega arith))
-      (and-both _ _ (lt-ltb 0 (f / 2 ^ 16) (omega (arith, p .some)))
-      (and-both _ _ (lt-ltb (f / 2 ^ 16) 256 (omega (arith, p .alternate-lt))) (lt-ltb s 256 (omega (arith, p .interface-lt))))))
+      (and-both _ _ (lt-ltb 0 (f / 2 ^ 16) (omega (arith, p .some))) (lt-ltb (f / 2 ^ 16) 256 (omega (arith, p .alternate-lt)))))
+      (lt-ltb s 256 (omega (arith, p .interface-lt)))
 
   interface-other : not (asksConfiguration (1 + 2 ^ 8 * 11 + 2 ^ 16 * a + 2 ^ 24 * 0)) ≡ true
   interface-other =

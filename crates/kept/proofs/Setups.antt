@@ -1,7 +1,7 @@
 -- A microframe keeps the bounds on setups and requests: those that wait, the one that runs, and what they bring (document 01, number 5).
-use Prim.Native.Nat.{ℕ, suc, _+_, _-_, _*_, _/_, _%_, _^_, _≤_, _<_, min}
+use Prim.Native.Nat.{ℕ, suc, _+_, _-_, _*_, _/_, _^_, _≤_, _<_, min}
 use mathlib.Core.Path.{_≡_, refl, sym, ap, subst, _∙_}
-use mathlib.Core.Bool.{Bool, true, false, not, _&&_, _||_}
+use mathlib.Core.Bool.{Bool, true, false, not, _||_}
 use mathlib.Core.List.{List, [], _∷_, _++_}
 use native.Mathlib.Omega.{arith}
 use borrow.Author.Tests.{eqb-true, eqb-false, leb-true, ltb-true, ltb-false, eq-eqb, le-leb, not-true}
@@ -27,12 +27,13 @@ use Rattle.record.specs.Setups.{little}
 use Rattle.record.specs.World.{World, busOf}
 use Rattle.record.specs.Change.{Change, uf, phase, block, control, queued, popped, pushed, cleared, reply, device, config, forgot, drained, apply, Step, left, _then_, nothing, if, when, one, here, onPage, runs}
 use Rattle.model.specs.Phases.{now, counts, ticks, dropsRequest, forgets, returns, cable, sleeps, suspends, enters, departs, leaves, idles, powers, resets, startsFrame, firstSetups}
-use Rattle.model.specs.Control.{requestType, request, wLength, begun, posted, posts, enumerating, configured, toStatus, keepsReply, dataStage, asksFor, replied, asksWhole, setsConfiguration, interfaceSetups, fixedSetups, chooses, configures, finishes, statusEnds, statusStage, unstalls, stages, controls}
+use Rattle.model.specs.Control.{request, wLength, begun, posted, posts, enumerating, configured, toStatus, keepsReply, dataStage, asksFor, replied, asksWhole, setsConfiguration, interfaceSetups, fixedSetups, chooses, configures, finishes, statusEnds, statusStage, unstalls, stages, controls}
 use Rattle.model.specs.Microframe.{rsSet, goneAt, asleepAt, transfers, enumerates, talks, atPhase, byPhase, opens, frameOf, microframe}
 use Rattle.model.proofs.Fields.{Keeps, fields-then, left-runs, fields-ran, ranWorld, keeps-then, keeps-if, keeps-nothing, keeps-one, keeps-bus, keeps-page}
-use Rattle.bounds.specs.Bounds.{le, asksConfiguration, made, madeAt, allMade, other, setupsOk, enumeratingOk, requestOk}
+use Rattle.bounds.proofs.Shapes.{made-device, made-configuration}
+use Rattle.bounds.specs.Bounds.{asksConfiguration, made, madeAt, allMade, other, setupsOk, enumeratingOk, requestOk}
 use Rattle.model.proofs.Holding.{Holds, holds-then, holds-seq, holds-if, holds-nothing}
-use Rattle.bits.proofs.Tests.{false-true, and-first, and-second, and-both, or-case, or-other, or-by, imp-other, imp-by}
+use Rattle.bits.proofs.Tests.{false-true, and-first, and-second, and-both, or-other, or-by, imp-other, imp-by}
 use Rattle.kept.proofs.Asked.{Asked, askedOf, askedOn, asked, asked-apply}
 use Rattle.kept.proofs.Unasked.{keeps-ticks, keeps-unplugs, keeps-sleeps, keeps-suspends, keeps-frame, keeps-transfers}
 use Rattle.kept.proofs.Fits.{InBytes, bytes-ticks, bytes-wakes, bytes-frame, bytes-read, sets-bytes}
@@ -59,40 +60,6 @@ pub record Entry (w : World) : Type 0 where
   pub memory-bytes : Bytes (w .lent .memory)
   pub setups-bytes : AllBytes (w .own .setups)
   pub reply-bytes : AllBytes (w .lent .reply)
-
--- ---- what a request that the source makes asks for
-
-pub made-device : (c : Control) → made (c .first) (c .second) ≡ true → asksFor 1 c ≡ true → wLength c ≤ 64
-unfolding made
-made-device c m e =
-    let type : c .first / 2 ^ 24 ≡ 1 = eqb-true (c .first / 2 ^ 24) 1 (and-second (eqb (request c) 6) _ (and-second (eqb (requestType c) 0x80) _ e)) in
-    or-case (eqb (c .first) (le 0x80 6 0 1) && (eqb (c .second) (le 0 0 64 0) || eqb (c .second) (le 0 0 18 0))) _ m
-    (λ x. or-case (eqb (c .second) (le 0 0 64 0)) (eqb (c .second) (le 0 0 18 0)) (and-second (eqb (c .first) (le 0x80 6 0 1)) _ x)
-    (λ y. omega (arith, eqb-true (c .second) (le 0 0 64 0) y))
-    (λ y. omega (arith, eqb-true (c .second) (le 0 0 18 0) y)))
-    (λ x. or-case (eqb (c .first) (le 0 5 7 0) && eqb (c .second) 0) _ x
-    (λ y. absurd (omega (arith, eqb-true (c .first) (le 0 5 7 0) (and-first (eqb (c .first) (le 0 5 7 0)) _ y))))
-    (λ y. or-case (asksConfiguration (c .first) && eqb (c .second % 2 ^ 16) 0) _ y
-    (λ z. absurd (omega (arith, eqb-true (c .first) (le 0x80 6 0 2) (and-first (asksConfiguration (c .first)) _ z))))
-    (λ z. or-case (eqb (c .first) (le 0 9 1 0) && eqb (c .second) 0) _ z
-    (λ u. absurd (omega (arith, eqb-true (c .first) (le 0 9 1 0) (and-first (eqb (c .first) (le 0 9 1 0)) _ u))))
-    (λ u. absurd
-    (omega (arith, ltb-true (c .first / 2 ^ 16) 256 (and-first (ltb (c .first / 2 ^ 16) 256) _ (and-second (ltb 0 (c .first / 2 ^ 16)) _ (and-second (eqb (c .first % 2 ^ 16) (le 1 11 0 0)) _ u)))))))))
-
-pub made-configuration : (c : Control) → made (c .first) (c .second) ≡ true → asksFor 2 c ≡ true → asksConfiguration (c .first) ≡ true
-unfolding made
-made-configuration c m e =
-    let type : c .first / 2 ^ 24 ≡ 2 = eqb-true (c .first / 2 ^ 24) 2 (and-second (eqb (request c) 6) _ (and-second (eqb (requestType c) 0x80) _ e)) in
-    or-case (eqb (c .first) (le 0x80 6 0 1) && (eqb (c .second) (le 0 0 64 0) || eqb (c .second) (le 0 0 18 0))) _ m
-    (λ x. absurd (omega (arith, eqb-true (c .first) (le 0x80 6 0 1) (and-first (eqb (c .first) (le 0x80 6 0 1)) _ x))))
-    (λ x. or-case (eqb (c .first) (le 0 5 7 0) && eqb (c .second) 0) _ x
-    (λ y. absurd (omega (arith, eqb-true (c .first) (le 0 5 7 0) (and-first (eqb (c .first) (le 0 5 7 0)) _ y))))
-    (λ y. or-case (asksConfiguration (c .first) && eqb (c .second % 2 ^ 16) 0) _ y
-    (λ z. and-first (asksConfiguration (c .first)) _ z)
-    (λ z. or-case (eqb (c .first) (le 0 9 1 0) && eqb (c .second) 0) _ z
-    (λ u. absurd (omega (arith, eqb-true (c .first) (le 0 9 1 0) (and-first (eqb (c .first) (le 0 9 1 0)) _ u))))
-    (λ u. absurd
-    (omega (arith, ltb-true (c .first / 2 ^ 16) 256 (and-first (ltb (c .first / 2 ^ 16) 256) _ (and-second (ltb 0 (c .first / 2 ^ 16)) _ (and-second (eqb (c .first % 2 ^ 16) (le 1 11 0 0)) _ u)))))))))
 
 -- ---- the same bounds as facts
 

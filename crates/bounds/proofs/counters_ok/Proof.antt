@@ -4,7 +4,7 @@ use mathlib.Core.Bool.{Bool, _&&_}
 use mathlib.Core.Path.{_≡_, refl, sym, ap, ap₂, _∙_}
 use lib.Dec.{leb}
 use lib.ListN.{getD}
-use Rattle.record.specs.Record.{counterOf, microframes}
+use Rattle.record.specs.Record.{COUNTERS, counterOf, microframes}
 use native.Mathlib.Omega.{arith}
 use Rattle.record.proofs.Counters.{counter-element}
 use Rattle.bounds.specs.Bounds.{MOST, noneAbove, countersOk}
@@ -14,10 +14,10 @@ use Rattle.bounds.proofs.counters_ok.Statement.{statement}
 use Rattle.bounds.proofs.counters_ok.Tie as tie
 
 abbrev Inv-loop : tie.InvT-loop
-Inv-loop r most ok₀ k₀ ok k = (k ≤ 12) × (ok ≡ noneAbove most r k)
+Inv-loop r most ok₀ k₀ ok k = (k ≤ COUNTERS - 1) × (ok ≡ noneAbove most r k)
 
 abbrev μ-loop : tie.MeasureT-loop
-μ-loop r most ok₀ k₀ ok k = 12 - k
+μ-loop r most ok₀ k₀ ok k = COUNTERS - 1 - k
 
 array-read-at-most : tie.Need-array-read-at-most Inv-loop μ-loop
 array-read-at-most c = search needs
@@ -60,7 +60,7 @@ returns : tie.Need-returns Inv-loop μ-loop
 unfolding countersOk
 returns c =
     let r = c .before .before .before .args .t1 in
-    let all : c .before .loop .k ≡ 12 = omega arith in
+    let all : c .before .loop .k ≡ COUNTERS - 1 = omega arith in
     let most : c .before .before .at-most .result ≡ min (counterOf microframes r) MOST = c .before .before .at-most .ensures .0 ∙ ap (λ (x : ℕ). min x MOST) (sym (counter-element 0 r)) in
     c .before .loop .inv .1 ∙ ap₂ (λ (m k : ℕ). noneAbove (32767 * m) r k) most all
 
