@@ -19,6 +19,7 @@ use Rattle.record.specs.Did.{Leads}
 use Rattle.model.specs.Audio.{audioIn, unprimes}
 use Rattle.blocks.specs.declared.Decoded.{Decoded}
 use Rattle.blocks.specs.Promises.{InRing}
+use Rattle.record.specs.Sizes.{FRAMES}
 use Rattle.audio.specs.declared.Paced.{Paced}
 
 -- ---- input
@@ -62,7 +63,7 @@ pub record Hears (f : Step) (s : State) (m : Memory) (l : List ℕ) (s′ : Stat
 pub record InSending (r : Ring) (capacity : ℕ) : Type 0 where
   pub start : r .start < capacity
   pub len : r .len ≤ capacity
-  pub few : capacity ≤ 48000
+  pub few : capacity ≤ FRAMES
 
 -- the sending ring is in order, and a block has room for its frames
 pub record CanSend (s : State) (l : List ℕ) : Type 0 where

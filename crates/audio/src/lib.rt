@@ -8,6 +8,7 @@ ghost use Rattle.dtd.specs.Dtd as D;
 ghost use Rattle.dtd.specs.declared.Found.the-variants.{Active};
 ghost use Rattle.model.specs.Audio as Steps;
 ghost use Rattle.blocks.specs.Promises.{InRing, withDecoded};
+ghost use Rattle.record.specs.Sizes as Sizes;
 ghost use Rattle.audio.specs.Promises as P;
 use blocks::Decoded;
 use dtd::Found;
@@ -111,7 +112,7 @@ fn take_blocks(
     tok: u32,
 ) -> State
     requires { ⌜ Sized (shown dynamic sram page) ⌝ }
-    requires { ⌜ InRing (s .audio .received) × (length (now received) ≡ 576000) ⌝ }
+    requires { ⌜ InRing (s .audio .received) × (length (now received) ≡ Sizes.RING) ⌝ }
     requires { ⌜ D.found Steps.audioIn (shown dynamic sram page) ≡ Active qh td tok ⌝ }
     ensures { λ r. ⌜ P.Hears Steps.inputs s (shown (dynamic .entry) (sram .entry) (page .entry)) (now (received .entry)) r (shown (dynamic .exit) (sram .exit) (page .exit)) (now (received .exit)) ⌝ }
 {
@@ -133,7 +134,7 @@ fn take_input(
     received: &mut [u32],
 ) -> State
     requires { ⌜ Sized (shown dynamic sram page) ⌝ }
-    requires { ⌜ InRing (s .audio .received) × (length (now received) ≡ 576000) ⌝ }
+    requires { ⌜ InRing (s .audio .received) × (length (now received) ≡ Sizes.RING) ⌝ }
     ensures { λ r. ⌜ P.Hears Steps.inputs s (shown (dynamic .entry) (sram .entry) (page .entry)) (now (received .entry)) r (shown (dynamic .exit) (sram .exit) (page .exit)) (now (received .exit)) ⌝ }
 {
     match dtd::find(&*dynamic, &*sram, &*page, 3, true, AUDIO_IN) {
@@ -155,7 +156,7 @@ pub fn stream_in(
     received: &mut [u32],
 ) -> State
     requires { ⌜ Sized (shown dynamic sram page) ⌝ }
-    requires { ⌜ InRing (s .audio .received) × (length (now received) ≡ 576000) ⌝ }
+    requires { ⌜ InRing (s .audio .received) × (length (now received) ≡ Sizes.RING) ⌝ }
     ensures { λ r. ⌜ P.Hears Steps.streamIn s (shown (dynamic .entry) (sram .entry) (page .entry)) (now (received .entry)) r (shown (dynamic .exit) (sram .exit) (page .exit)) (now (received .exit)) ⌝ }
 {
     let paced = pace(&*dynamic, &*sram, &*page, s.audio.budget);
@@ -174,7 +175,7 @@ fn after_block(s: State, capacity: usize) -> State
     ensures { λ r. ⌜ r ≡ P.sentBlock s capacity ⌝ }
 {
     let ring = s.audio.sending;
-    let count = dtd::fewer(Audio::FRAMES_PER_BLOCK, ring.len);
+    let count = bits::least(Audio::FRAMES_PER_BLOCK, ring.len);
     let missing = (Audio::FRAMES_PER_BLOCK - count) as u64;
     let start = blocks::place(ring.start, count, capacity);
     let counter = wrapping_add_u16(s.audio.counter, Audio::FRAMES_PER_BLOCK as u16);
@@ -276,7 +277,7 @@ pub fn stream(
     sending: &[u32],
 ) -> State
     requires { ⌜ Sized (shown dynamic sram page) ⌝ }
-    requires { ⌜ InRing (s .audio .received) × (length (now received) ≡ 576000) ⌝ }
+    requires { ⌜ InRing (s .audio .received) × (length (now received) ≡ Sizes.RING) ⌝ }
     requires { ⌜ P.CanSend s (now sending) ⌝ }
     ensures { λ r. ⌜ P.Streams Steps.streams s (shown (dynamic .entry) (sram .entry) (page .entry)) (now (received .entry)) (now (sending .entry)) r (shown (dynamic .exit) (sram .exit) (page .exit)) (now (received .exit)) ⌝ }
 {

@@ -8,12 +8,13 @@ use Rattle.record.specs.World.{World, withState, withReceivedRing, inAudio}
 use Rattle.record.specs.Change.{Step}
 use Rattle.record.specs.Did.{Leads}
 use Rattle.model.specs.Audio.{keepsFrames}
+use Rattle.record.specs.Sizes.{FRAMES}
 use Rattle.blocks.specs.declared.Decoded.{Decoded}
 
 -- a place and a length of the received ring
 pub record InRing (r : Ring) : Type 0 where
-  pub start : r .start < 48000
-  pub len : r .len ≤ 48000
+  pub start : r .start < FRAMES
+  pub len : r .len ≤ FRAMES
 
 -- a World with the received ring in it
 abbrev pub atRing : World → Ring → List ℕ → World

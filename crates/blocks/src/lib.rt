@@ -8,17 +8,16 @@ ghost use Rattle.bus.specs.Sized.{Sized};
 ghost use Rattle.transfer.specs.Transfer.{bytesIn, bytesFrom};
 ghost use Rattle.record.specs.Change.{ringedPlace};
 ghost use Rattle.model.specs.Audio.{wordsOf, keepsBlock, keepsBlocks, blocksOf};
+ghost use Rattle.record.specs.Sizes as Sizes;
 ghost use Rattle.blocks.specs.Promises.{InRing, Keeps, KeepsFrames, oneBad, oneGood};
 use record::Audio;
+use record::RING_FRAMES;
 use record::Ring;
 use std::num::wrapping_add_u64;
 
-// How many frames the received ring has room for.
-pub const RECEIVED: usize = 48000;
-
 // The place `ahead` frames behind place `start` of a ring with this capacity.
 pub fn place(start: usize, ahead: usize, capacity: usize) -> usize
-    requires { ⌜ (start < capacity) × ((ahead ≤ capacity) × (capacity ≤ 48000)) ⌝ }
+    requires { ⌜ (start < capacity) × ((ahead ≤ capacity) × (capacity ≤ Sizes.FRAMES)) ⌝ }
     ensures { λ r. ⌜ r ≡ (start + ahead) % capacity ⌝ }
 {
     let sum = start + ahead;
@@ -33,22 +32,22 @@ fn pushed(ring: Ring) -> Ring
     requires { ⌜ InRing ring ⌝ }
     ensures { λ r. ⌜ r ≡ ringedPlace ring ⌝ }
 {
-    if ring.len < RECEIVED {
+    if ring.len < RING_FRAMES {
         return Ring {
             start: ring.start,
             len: ring.len + 1,
         };
     }
     Ring {
-        start: place(ring.start, 1, RECEIVED),
-        len: RECEIVED,
+        start: place(ring.start, 1, RING_FRAMES),
+        len: RING_FRAMES,
     }
 }
 
 // Frame f of a block goes to a place of the received ring.
 fn decode_frame(block: &[u8], f: usize, received: &mut [u32], at: usize)
     requires { ⌜ (length (now block) ≡ 368) × (f < 7) ⌝ }
-    requires { ⌜ (at < 48000) × (length (now received) ≡ 576000) ⌝ }
+    requires { ⌜ (at < Sizes.FRAMES) × (length (now received) ≡ Sizes.RING) ⌝ }
     ensures { λ _. ⌜ now (received .exit) ≡ sets (now (received .entry)) (at * 12) (wordsOf (take 48 (drop (48 * f) (drop 32 (now (block .entry)))))) ⌝ }
 {
     let mut c = 0;
@@ -64,13 +63,13 @@ fn decode_frame(block: &[u8], f: usize, received: &mut [u32], at: usize)
 // The seven frames of a block go behind those in the received ring.
 fn decode_frames(block: &[u8], received: &mut [u32], before: Ring) -> Ring
     requires { ⌜ length (now block) ≡ 368 ⌝ }
-    requires { ⌜ InRing before × (length (now received) ≡ 576000) ⌝ }
+    requires { ⌜ InRing before × (length (now received) ≡ Sizes.RING) ⌝ }
     ensures { λ r. ⌜ KeepsFrames (drop 32 (now (block .entry))) before (now (received .entry)) r (now (received .exit)) ⌝ }
 {
     let mut ring = before;
     let mut f = 0;
     while f < Audio::FRAMES_PER_BLOCK {
-        let at = place(ring.start, ring.len, RECEIVED);
+        let at = place(ring.start, ring.len, RING_FRAMES);
         decode_frame(block, f, received, at);
         ring = pushed(ring);
         f += 1;
@@ -119,7 +118,7 @@ fn decode_block(
 ) -> Decoded
     requires { ⌜ Sized (shown dynamic sram page) ⌝ }
     requires { ⌜ from + 368 ≤ 32767 ⌝ }
-    requires { ⌜ InRing (d .ring) × (length (now received) ≡ 576000) ⌝ }
+    requires { ⌜ InRing (d .ring) × (length (now received) ≡ Sizes.RING) ⌝ }
     ensures { λ r. ⌜ Keeps (keepsBlock (bytesFrom (shown (dynamic .entry) (sram .entry) (page .entry)) (now (pointers .entry)) from 368)) d (now (received .entry)) r (now (received .exit)) ⌝ }
 {
     let mut block = [0u8; Audio::BLOCK];
@@ -144,7 +143,7 @@ pub fn decode_run(
 ) -> Decoded
     requires { ⌜ Sized (shown dynamic sram page) ⌝ }
     requires { ⌜ total ≤ 32767 ⌝ }
-    requires { ⌜ InRing (before .ring) × (length (now received) ≡ 576000) ⌝ }
+    requires { ⌜ InRing (before .ring) × (length (now received) ≡ Sizes.RING) ⌝ }
     ensures { λ r. ⌜ Keeps (keepsBlocks (blocksOf (bytesIn (shown (dynamic .entry) (sram .entry) (page .entry)) (now (pointers .entry)) total))) before (now (received .entry)) r (now (received .exit)) ⌝ }
 {
     let mut d = before;

@@ -7,6 +7,13 @@ use lib.Dec.{eqb, leb}
 use lib.ListN.{length}
 use Rattle.bus.specs.Memory.{Memory}
 
+-- bytes of static memory and of the register page
+abbrev pub SRAM : ℕ
+SRAM = 65536
+
+abbrev pub PAGE : ℕ
+PAGE = 4096
+
 -- n is a power of two from 4,096 to 67,108,864
 pub record Power (n : ℕ) : Type 0 where
   pub exponent : ℕ
@@ -16,8 +23,8 @@ pub record Power (n : ℕ) : Type 0 where
 
 pub record Sized (m : Memory) : Type 0 where
   pub dynamic-length : Power (length (m .dynamic))
-  pub sram-length : length (m .sram) ≡ 65536
-  pub page-length : length (m .page) ≡ 4096
+  pub sram-length : length (m .sram) ≡ SRAM
+  pub page-length : length (m .page) ≡ PAGE
 
 -- what a function leaves in the windows: m, which is what a definition says, and is sized again
 pub record Left (m said : Memory) : Type 0 where
@@ -30,4 +37,4 @@ isPower n = leb 4096 n && (leb n 67108864 && eqb (bitAnd n (n - 1)) 0)
 
 -- the test for Sized (laws is-sized and sized-is)
 unfoldable pub isSized : Memory → Bool
-isSized m = eqb (length (m .sram)) 65536 && (eqb (length (m .page)) 4096 && isPower (length (m .dynamic)))
+isSized m = eqb (length (m .sram)) SRAM && (eqb (length (m .page)) PAGE && isPower (length (m .dynamic)))

@@ -1,13 +1,19 @@
-// The three windows of memory: reads and writes of bytes and of big-endian words.
+// The three windows of memory: reads and writes of bytes and of big-endian words; bytes stored in an area.
 ghost use mathlib.Core.Path.{_≡_};
 ghost use Prim.Native.Nat.{ℕ, _+_, _≤_};
 ghost use lib.ListN.{length};
+ghost use lib.Seq.{sets};
 ghost use Rattle.bus.specs.Memory as M;
 ghost use Rattle.bus.specs.Memory.{shown};
 ghost use Rattle.bus.specs.Sized.{Power, Sized, Left, isPower, isSized};
 ghost use Rattle.bus.specs.Words as W;
 ghost use Rattle.bus.specs.Checked.{peeked, poked, kept};
 use std::num::wrapping_add_u32;
+
+// Bytes of static memory and of the register page.
+pub const SRAM: usize = 65_536;
+
+pub const PAGE: usize = 4096;
 
 // Where an address leads: a byte of one of the windows, or nowhere.
 pub enum Place {
@@ -30,7 +36,7 @@ pub fn locate(n: usize, a: u32) -> Place
         return Place::Dynamic((a as usize) & mask);
     }
     if a < 0x8C00_0000 {
-        return Place::Static((a as usize) % 65536);
+        return Place::Static((a as usize) % SRAM);
     }
     if a < 0xFC0B_0000 {
         return Place::Nowhere;
@@ -200,10 +206,10 @@ pub fn power(n: usize) -> bool
 pub fn sized(dynamic: &[u8], sram: &[u8], page: &[u8]) -> bool
     ensures { λ r. ⌜ r ≡ isSized (shown (dynamic .entry) (sram .entry) (page .entry)) ⌝ }
 {
-    if sram.len() != 65536 {
+    if sram.len() != SRAM {
         return false;
     }
-    if page.len() != 4096 {
+    if page.len() != PAGE {
         return false;
     }
     power(dynamic.len())
@@ -281,4 +287,13 @@ pub fn checked_poke32(dynamic: &mut [u8], sram: &mut [u8], page: &mut [u8], a: u
         refusal: 1,
         dropped: 0,
     }
+}
+
+// Stores bytes in an area, from a place on.
+pub fn put_bytes(area: &mut [u8], at: usize, source: &[u8])
+    requires { ⌜ at + length (now source) ≤ length (now area) ⌝ }
+    ensures { λ _. ⌜ now (area .exit) ≡ sets (now (area .entry)) at (now (source .entry)) ⌝ }
+{
+    let end = at + source.len();
+    bytes::copy(source, &mut area[at..end]);
 }

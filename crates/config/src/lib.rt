@@ -127,7 +127,7 @@ fn endpoint(
         return p;
     }
     let input = x[2] & 0x80 != 0;
-    let size = (wide(x[4]) + wide(x[5]) * 256) & 0x7FF;
+    let size = (bits::wide(x[4]) + bits::wide(x[5]) * 256) & 0x7FF;
     choose(p, interfaces, alternates, input, size)
 }
 
@@ -207,12 +207,6 @@ fn select(first: bool, a: u32, b: u32) -> u32
         return a;
     }
     b
-}
-
-fn wide(b: u8) -> u32
-    ensures { λ r. ⌜ (r ≡ b) × (r < 256) ⌝ }
-{
-    b as u32
 }
 
 fn place(b: u8) -> usize

@@ -103,10 +103,6 @@ fn number(out: &mut [u8; 65536], at: usize, n: u64, after: u8) -> usize
     text::put(out, end, after)
 }
 
-fn wide(b: u8) -> u64 {
-    b as u64
-}
-
 // A line for each pair.
 fn pairs(
     out: &mut [u8; 65536],
@@ -121,8 +117,8 @@ fn pairs(
     let mut end = at;
     let mut i = 0;
     while i < count {
-        end = number(out, end, wide(interfaces[i]), b' ');
-        end = number(out, end, wide(alternates[i]), b'\n');
+        end = number(out, end, bits::widest(interfaces[i]), b' ');
+        end = number(out, end, bits::widest(alternates[i]), b'\n');
         i += 1;
     }
     end

@@ -16,6 +16,7 @@ use Rattle.record.specs.Change.{Step}
 use Rattle.record.specs.Did.{Leads}
 use Rattle.model.specs.Control.{endsBy, statusStage}
 use Rattle.finished.specs.Promises.{Ready}
+use Rattle.record.specs.Sizes.{SETUPS, REPLY}
 use Rattle.control.specs.declared.Next.{Next}
 use Rattle.control.specs.declared.Next.the-variants.{Setup, Empty}
 use Rattle.control.specs.declared.Acknowledged.{Acknowledged}
@@ -50,11 +51,11 @@ pub record Acknowledges (s : State) (m : Memory) (a : Acknowledged) (m′ : Memo
   pub leads : (stack : Bool) (w : World) {b : World} → Leads (endsBy stack (a .done)) (atBus w (a .state) m′) b → Leads (statusStage stack) (atBus w s m) b
   pub sized : Sized m′
   pub ready : Ready (a .state)
-  pub few : a .state .control .got ≤ 65535
+  pub few : a .state .control .got ≤ REPLY
 
 -- what is tested of the record before a microframe (document 01, refusal 5)
 pub record Bounded (s : State) : Type 0 where
-  pub few : s .lengths .setups ≤ 257
+  pub few : s .lengths .setups ≤ SETUPS
   pub running : s .control .on ≡ true → Ready s
 
 -- with all that control takes in its place: state, memory, setups, device descriptor, reply and configuration

@@ -6,7 +6,7 @@ ghost use Prim.Native.Nat.{ℕ, _+_, _*_, _<_, _≤_};
 ghost use lib.ListN.{length};
 ghost use Rattle.bits.specs.Word as W;
 ghost use Rattle.bus.specs.Memory.{shown};
-ghost use Rattle.bus.specs.Sized.{Sized};
+ghost use Rattle.bus.specs.Sized.{PAGE, Sized};
 ghost use Rattle.bus.specs.Stores.{bus as Stores·bus, Does};
 ghost use Rattle.usbdev.specs.Registers.{registers, done as Registers·done, raising, _then_};
 ghost use Rattle.dtd.specs.Dtd as D;
@@ -17,13 +17,16 @@ ghost use Rattle.record.specs.Did.{Alone};
 ghost use Rattle.model.specs.Phases.{changing, dropsRequest};
 ghost use Rattle.model.specs.Control as C;
 ghost use Rattle.finished.specs.Promises.{Ready};
+ghost use Rattle.record.specs.Sizes as Sizes;
 ghost use Rattle.control.specs.Promises as P;
 use bus::poke32;
 use bus::put_at;
 use bus::word_at;
 use finished::ended;
 use record::Control;
+use record::DEVICE;
 use record::Phase;
+use record::SETUP_BYTES;
 use record::Stage;
 use record::State;
 use record::word_from;
@@ -45,7 +48,7 @@ pub enum Next {
 }
 
 // The first of `count` setups that wait.
-fn next_setup(setups: &[u8; 2056], count: usize) -> Next
+fn next_setup(setups: &[u8; SETUP_BYTES], count: usize) -> Next
     ensures { λ r. ⌜ r ≡ P.nextOf (now (setups .entry)) count ⌝ }
 {
     if count == 0 {
@@ -94,7 +97,7 @@ fn put_words(dynamic: &mut [u8], sram: &mut [u8], page: &mut [u8], first: u32, s
 
 // The firmware is told that a setup packet stands.
 fn flag_setup(page: &mut [u8], flag: bool) -> bool
-    requires { ⌜ length (now page) ≡ 4096 ⌝ }
+    requires { ⌜ length (now page) ≡ PAGE ⌝ }
     ensures { λ r. ⌜ registers (now (page .exit)) r ≡ Registers·done (changing 0x1AC (λ v. W.set v 1) then raising 1) (registers (now (page .entry)) flag) ⌝ }
 {
     let waiting = word_at(&*page, EPSETUPSR);
@@ -122,7 +125,7 @@ fn begun(s: State, first: u32, second: u32) -> State
 // The first setup leaves the queue and is posted.
 fn post(
     s: State,
-    setups: &mut [u8; 2056],
+    setups: &mut [u8; SETUP_BYTES],
     dynamic: &mut [u8],
     sram: &mut [u8],
     page: &mut [u8],
@@ -130,7 +133,7 @@ fn post(
     second: u32,
 ) -> State
     requires { ⌜ Sized (shown dynamic sram page) ⌝ }
-    requires { ⌜ (1 ≤ s .lengths .setups) × (s .lengths .setups ≤ 257) ⌝ }
+    requires { ⌜ (1 ≤ s .lengths .setups) × (s .lengths .setups ≤ Sizes.SETUPS) ⌝ }
     ensures { λ r. ⌜ P.Posts (C.posted (D.queueHead (D.endpoint 0 false) (now (page .entry))) first second) s (shown (dynamic .entry) (sram .entry) (page .entry)) (now (setups .entry)) r (shown (dynamic .exit) (sram .exit) (page .exit)) (now (setups .exit)) ⌝ }
 {
     let count = s.lengths.setups;
@@ -169,7 +172,7 @@ fn unless_late(s: State) -> State
 
 // The length that the request asks for (`wLength`).
 fn asked(s: State) -> usize
-    ensures { λ r. ⌜ (r ≡ C.wLength (s .control)) × (r ≤ 65535) ⌝ }
+    ensures { λ r. ⌜ (r ≡ C.wLength (s .control)) × (r ≤ Sizes.REPLY) ⌝ }
 {
     (s.control.second / 0x1_0000) as usize
 }
@@ -190,7 +193,7 @@ fn data_in(
     reply: &mut [u8],
 ) -> State
     requires { ⌜ Sized (shown dynamic sram page) ⌝ }
-    requires { ⌜ Ready s × (65535 ≤ length (now reply)) ⌝ }
+    requires { ⌜ Ready s × (Sizes.REPLY ≤ length (now reply)) ⌝ }
     ensures { λ r. ⌜ P.Stages C.dataIn s (shown (dynamic .entry) (sram .entry) (page .entry)) (now (reply .entry)) r (shown (dynamic .exit) (sram .exit) (page .exit)) (now (reply .exit)) ⌝ }
 {
     let limit = asked(s);
@@ -228,7 +231,7 @@ fn data_stage(
     reply: &mut [u8],
 ) -> State
     requires { ⌜ Sized (shown dynamic sram page) ⌝ }
-    requires { ⌜ Ready s × (65535 ≤ length (now reply)) ⌝ }
+    requires { ⌜ Ready s × (Sizes.REPLY ≤ length (now reply)) ⌝ }
     ensures { λ r. ⌜ P.Stages C.dataStage s (shown (dynamic .entry) (sram .entry) (page .entry)) (now (reply .entry)) r (shown (dynamic .exit) (sram .exit) (page .exit)) (now (reply .exit)) ⌝ }
 {
     if asked(s) == 0 {
@@ -277,8 +280,8 @@ fn status_stage(
 fn acknowledge(
     s: State,
     device_stack: bool,
-    setups: &mut [u8; 2056],
-    device: &mut [u8; 64],
+    setups: &mut [u8; SETUP_BYTES],
+    device: &mut [u8; DEVICE],
     dynamic: &mut [u8],
     sram: &mut [u8],
     page: &mut [u8],
@@ -286,7 +289,7 @@ fn acknowledge(
     config: &mut [u8],
 ) -> State
     requires { ⌜ Sized (shown dynamic sram page) ⌝ }
-    requires { ⌜ Ready s × ((65535 ≤ length (now reply)) × (65535 ≤ length (now config))) ⌝ }
+    requires { ⌜ Ready s × ((Sizes.REPLY ≤ length (now reply)) × (Sizes.REPLY ≤ length (now config))) ⌝ }
     ensures { λ r. ⌜ P.Controls (C.statusStage «device_stack») s (shown (dynamic .entry) (sram .entry) (page .entry)) (now (setups .entry)) (now (device .entry)) (now (reply .entry)) (now (config .entry)) r (shown (dynamic .exit) (sram .exit) (page .exit)) (now (setups .exit)) (now (device .exit)) (now (reply .exit)) (now (config .exit)) ⌝ }
 {
     let status = status_stage(s, dynamic, sram, page, reply);
@@ -301,8 +304,8 @@ fn acknowledge(
 fn served(
     s: State,
     device_stack: bool,
-    setups: &mut [u8; 2056],
-    device: &mut [u8; 64],
+    setups: &mut [u8; SETUP_BYTES],
+    device: &mut [u8; DEVICE],
     dynamic: &mut [u8],
     sram: &mut [u8],
     page: &mut [u8],
@@ -310,7 +313,7 @@ fn served(
     config: &mut [u8],
 ) -> State
     requires { ⌜ Sized (shown dynamic sram page) ⌝ }
-    requires { ⌜ Ready s × ((65535 ≤ length (now reply)) × (65535 ≤ length (now config))) ⌝ }
+    requires { ⌜ Ready s × ((Sizes.REPLY ≤ length (now reply)) × (Sizes.REPLY ≤ length (now config))) ⌝ }
     ensures { λ r. ⌜ P.Controls (C.dataThenStatus «device_stack») s (shown (dynamic .entry) (sram .entry) (page .entry)) (now (setups .entry)) (now (device .entry)) (now (reply .entry)) (now (config .entry)) r (shown (dynamic .exit) (sram .exit) (page .exit)) (now (setups .exit)) (now (device .exit)) (now (reply .exit)) (now (config .exit)) ⌝ }
 {
     let next = data_stage(s, dynamic, sram, page, reply);
@@ -336,8 +339,8 @@ fn served(
 fn answered(
     s: State,
     device_stack: bool,
-    setups: &mut [u8; 2056],
-    device: &mut [u8; 64],
+    setups: &mut [u8; SETUP_BYTES],
+    device: &mut [u8; DEVICE],
     dynamic: &mut [u8],
     sram: &mut [u8],
     page: &mut [u8],
@@ -345,7 +348,7 @@ fn answered(
     config: &mut [u8],
 ) -> State
     requires { ⌜ Sized (shown dynamic sram page) ⌝ }
-    requires { ⌜ Ready s × ((65535 ≤ length (now reply)) × (65535 ≤ length (now config))) ⌝ }
+    requires { ⌜ Ready s × ((Sizes.REPLY ≤ length (now reply)) × (Sizes.REPLY ≤ length (now config))) ⌝ }
     ensures { λ r. ⌜ P.Controls (C.stages «device_stack») s (shown (dynamic .entry) (sram .entry) (page .entry)) (now (setups .entry)) (now (device .entry)) (now (reply .entry)) (now (config .entry)) r (shown (dynamic .exit) (sram .exit) (page .exit)) (now (setups .exit)) (now (device .exit)) (now (reply .exit)) (now (config .exit)) ⌝ }
 {
     let running = s.control;
@@ -380,8 +383,8 @@ fn answered(
 fn request(
     s: State,
     device_stack: bool,
-    setups: &mut [u8; 2056],
-    device: &mut [u8; 64],
+    setups: &mut [u8; SETUP_BYTES],
+    device: &mut [u8; DEVICE],
     dynamic: &mut [u8],
     sram: &mut [u8],
     page: &mut [u8],
@@ -389,7 +392,7 @@ fn request(
     config: &mut [u8],
 ) -> State
     requires { ⌜ Sized (shown dynamic sram page) ⌝ }
-    requires { ⌜ Ready s × ((65535 ≤ length (now reply)) × (65535 ≤ length (now config))) ⌝ }
+    requires { ⌜ Ready s × ((Sizes.REPLY ≤ length (now reply)) × (Sizes.REPLY ≤ length (now config))) ⌝ }
     ensures { λ r. ⌜ P.Controls (C.requests «device_stack») s (shown (dynamic .entry) (sram .entry) (page .entry)) (now (setups .entry)) (now (device .entry)) (now (reply .entry)) (now (config .entry)) r (shown (dynamic .exit) (sram .exit) (page .exit)) (now (setups .exit)) (now (device .exit)) (now (reply .exit)) (now (config .exit)) ⌝ }
 {
     let epcr0 = word_at(&*page, EPCR0);
@@ -415,8 +418,8 @@ fn request(
 pub fn control(
     s: State,
     device_stack: bool,
-    setups: &mut [u8; 2056],
-    device: &mut [u8; 64],
+    setups: &mut [u8; SETUP_BYTES],
+    device: &mut [u8; DEVICE],
     dynamic: &mut [u8],
     sram: &mut [u8],
     page: &mut [u8],
@@ -424,7 +427,7 @@ pub fn control(
     config: &mut [u8],
 ) -> State
     requires { ⌜ Sized (shown dynamic sram page) ⌝ }
-    requires { ⌜ P.Bounded s × ((65535 ≤ length (now reply)) × (65535 ≤ length (now config))) ⌝ }
+    requires { ⌜ P.Bounded s × ((Sizes.REPLY ≤ length (now reply)) × (Sizes.REPLY ≤ length (now config))) ⌝ }
     ensures { λ r. ⌜ P.Controls (C.controls «device_stack») s (shown (dynamic .entry) (sram .entry) (page .entry)) (now (setups .entry)) (now (device .entry)) (now (reply .entry)) (now (config .entry)) r (shown (dynamic .exit) (sram .exit) (page .exit)) (now (setups .exit)) (now (device .exit)) (now (reply .exit)) (now (config .exit)) ⌝ }
 {
     if s.control.on {

@@ -2,10 +2,10 @@
 ghost use mathlib.Core.Path.{_≡_};
 ghost use mathlib.Core.Bool.{Bool, true, false};
 ghost use mathlib.Core.List.{[]};
-ghost use Prim.Native.Nat.{ℕ, _<_, _≤_, min};
+ghost use Prim.Native.Nat.{ℕ, _<_, _≤_};
 ghost use lib.ListN.{length};
 ghost use Rattle.bus.specs.Memory.{shown, peek32 as Memory·peek32};
-ghost use Rattle.bus.specs.Sized.{Sized};
+ghost use Rattle.bus.specs.Sized.{PAGE, Sized};
 ghost use Rattle.bus.specs.Stores.{bus as Stores·bus, Does};
 ghost use Rattle.bus.specs.Steps.{exec};
 ghost use Rattle.usbdev.specs.Registers.{registers, done};
@@ -30,7 +30,7 @@ pub enum Found {
 
 // The queue head of an endpoint's direction.
 pub fn qh(page: &[u8], ep: u32, dir_in: bool) -> u32
-    requires { ⌜ (length (now page) ≡ 4096) × (ep < 16) ⌝ }
+    requires { ⌜ (length (now page) ≡ PAGE) × (ep < 16) ⌝ }
     ensures { λ r. ⌜ r ≡ D.queueHead (D.endpoint ep «dir_in») (now (page .entry)) ⌝ }
 {
     let list = bits::clear(word_at(page, EPLISTADDR), 0x7FF);
@@ -116,7 +116,7 @@ fn close(
 
 // The completion bit, where the token asks for an interrupt.
 fn complete(page: &mut [u8], tok: u32, bit: u32)
-    requires { ⌜ length (now page) ≡ 4096 ⌝ }
+    requires { ⌜ length (now page) ≡ PAGE ⌝ }
     ensures { λ _. ⌜ ((l : Bool) → registers (now (page .exit)) l ≡ done (D.completing tok bit) (registers (now (page .entry)) l)) ⌝ }
 {
     if bits::any(tok, 0x8000) {
@@ -191,7 +191,7 @@ fn list_ends(dynamic: &[u8], sram: &[u8], page: &[u8], n: u32) -> bool
 
 // The endpoint's bit of EPSR goes where its list ends.
 fn unprime(page: &mut [u8], ends: bool, bit: u32)
-    requires { ⌜ length (now page) ≡ 4096 ⌝ }
+    requires { ⌜ length (now page) ≡ PAGE ⌝ }
     ensures { λ _. ⌜ ((l : Bool) → registers (now (page .exit)) l ≡ done (D.unpriming ends bit) (registers (now (page .entry)) l)) ⌝ }
 {
     if ends {
@@ -202,7 +202,7 @@ fn unprime(page: &mut [u8], ends: bool, bit: u32)
 
 // A flagged completion raises UI.
 fn report(page: &mut [u8], completed: bool, flag: bool) -> bool
-    requires { ⌜ length (now page) ≡ 4096 ⌝ }
+    requires { ⌜ length (now page) ≡ PAGE ⌝ }
     ensures { λ r. ⌜ registers (now (page .exit)) r ≡ done (D.reporting completed) (registers (now (page .entry)) flag) ⌝ }
 {
     if completed {
@@ -283,16 +283,6 @@ pub fn none_ran(line: bool) -> Ran
     }
 }
 
-// The smaller of a token's total and what there is to send or room for.
-pub fn fewer(total: usize, held: usize) -> usize
-    ensures { λ r. ⌜ r ≡ min total held ⌝ }
-{
-    if total < held {
-        return total;
-    }
-    held
-}
-
 // An active output descriptor takes what it can of `bytes`, and is retired.
 pub fn send_one(
     dynamic: &mut [u8],
@@ -308,7 +298,7 @@ pub fn send_one(
     requires { ⌜ Sized (shown dynamic sram page) ⌝ }
     ensures { λ r. ⌜ P.SendsOne qh n tok bit (now (bytes .entry)) (Stores·bus (shown (dynamic .entry) (sram .entry) (page .entry)) flag) (Stores·bus (shown (dynamic .exit) (sram .exit) (page .exit)) (r .line)) r ⌝ }
 {
-    let count = fewer(usbdev::total(tok) as usize, bytes.len());
+    let count = bits::least(usbdev::total(tok) as usize, bytes.len());
     let td = bits::clear(n, 0x1F);
     let ps = transfer::pointers_for(&*dynamic, &*sram, &*page, td, count);
     let lost = transfer::copy_out(dynamic, sram, page, &ps, bytes, count);

@@ -110,17 +110,6 @@ fn new_run(
     Next { state, at: end }
 }
 
-// The first `count` bytes go behind the `held` bytes of the queue.
-fn enqueue(queue: &mut [u8; 4096], held: usize, bytes: &[u8; 4096], count: usize)
-    requires { ⌜ held + count ≤ 4096 ⌝ }
-{
-    let mut i = 0;
-    while i < count {
-        queue[held + i] = bytes[i];
-        i += 1;
-    }
-}
-
 // The queue without its first `count` bytes.
 fn dequeue(queue: &mut [u8; 4096], held: usize, count: usize)
     requires { ⌜ (count ≤ held) × (held ≤ 4096) ⌝ }
@@ -170,7 +159,7 @@ fn serial_send(
     let count = got.count;
     if got.good {
         if count <= 4096 - queued {
-            enqueue(queue, queued, &bytes, count);
+            bus::put_bytes(queue, queued, &bytes[..count]);
             let end = text::outcome(out, at, 0);
             let next = with_queued(state, queued + count);
             return Next {
@@ -299,7 +288,7 @@ fn show_step(
 {
     let request = shown_request(step.request, step.running);
     let reply = request.reply;
-    let filled = frames::least(request.filled, 64);
+    let filled = bits::least(request.filled, 64);
     let mut end = text::put(out, at, b'u');
     end = text::flag(out, end, step.line);
     end = text::flag(out, end, step.running);

@@ -50,7 +50,7 @@ fn data(dynamic: &mut [u8], sram: &mut [u8], page: &mut [u8], request: Request, 
     ensures { λ r. ⌜ Sized (shown (dynamic .exit) (sram .exit) (page .exit)) ⌝ }
 {
     let mut reply = request.reply;
-    let at = frames::least(request.filled, 64);
+    let at = bits::least(request.filled, 64);
     let filled = fill(dynamic, sram, page, &mut reply, at, flag);
     let ran = filled.ran;
     let end = filled.at;

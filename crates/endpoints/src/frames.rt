@@ -17,16 +17,6 @@ pub struct Served {
     pub dropped: bool,
 }
 
-// The smaller of two counts.
-pub fn least(a: usize, b: usize) -> usize
-    ensures { λ r. ⌜ (r ≤ a) × (r ≤ b) ⌝ }
-{
-    if a < b {
-        return a;
-    }
-    b
-}
-
 // A microframe's start: FRINDEX counts, and SRI is raised.
 pub fn begin(page: &mut [u8], flag: bool) -> bool
     requires { ⌜ length (now page) ≡ 4096 ⌝ }
@@ -45,7 +35,7 @@ fn take_in(dynamic: &[u8], sram: &[u8], page: &[u8], input: &mut [u8; 32768]) ->
         Found::Unprimed => 0,
         Found::Ended => 0,
         Found::Active(_, n, tok) => {
-            let count = least(usbdev::total(tok) as usize, 32767);
+            let count = bits::least(usbdev::total(tok) as usize, 32767);
             let ps = transfer::pointers_for(dynamic, sram, page, bits::clear(n, 0x1F), count);
             transfer::copy_in(dynamic, sram, page, &ps, count, input, 0);
             count
@@ -74,7 +64,7 @@ fn wanted(dynamic: &[u8], sram: &[u8], page: &[u8], queued: usize) -> Asked
         },
         Found::Active(_, _, tok) => Asked {
             active: true,
-            count: least(least(usbdev::total(tok) as usize, 512), queued),
+            count: bits::least(bits::least(usbdev::total(tok) as usize, 512), queued),
         },
     }
 }

@@ -12,10 +12,6 @@ fn show_line(out: &mut [u8; 65536], at: usize, n: u64) -> usize
     text::put(out, end, b'\n')
 }
 
-fn wide(b: u8) -> u64 {
-    b as u64
-}
-
 // First pointer 40000FFE, total 4: two bytes there, two from the start of the second page.
 fn two_pages(out: &mut [u8; 65536], at: usize) -> usize
     requires { ⌜ at ≤ 1000 ⌝ }
@@ -34,11 +30,11 @@ fn two_pages(out: &mut [u8; 65536], at: usize) -> usize
     let mut bytes = [0u8; 4];
     let refusal = transfer::checked_copy_in(&dynamic, &sram, &page, &pointers, 4, &mut bytes, 0);
     let mut end = text::append(out, at, b"two pages: refusal and bytes\n");
-    end = show_line(out, end, wide(refusal));
-    end = show_line(out, end, wide(bytes[0]));
-    end = show_line(out, end, wide(bytes[1]));
-    end = show_line(out, end, wide(bytes[2]));
-    show_line(out, end, wide(bytes[3]))
+    end = show_line(out, end, bits::widest(refusal));
+    end = show_line(out, end, bits::widest(bytes[0]));
+    end = show_line(out, end, bits::widest(bytes[1]));
+    end = show_line(out, end, bits::widest(bytes[2]));
+    show_line(out, end, bits::widest(bytes[3]))
 }
 
 // At 4,092 held MIDI bytes F8 is accepted; at 4,096 it meets 7.
@@ -54,9 +50,9 @@ fn queue_space(out: &mut [u8; 65536], at: usize, held: usize) -> usize
         b"F8 with so many held: refusal, held then, last byte but three\n",
     );
     end = show_line(out, end, held as u64);
-    end = show_line(out, end, wide(sent.refusal));
+    end = show_line(out, end, bits::widest(sent.refusal));
     end = show_line(out, end, sent.held as u64);
-    show_line(out, end, wide(queue[4092]))
+    show_line(out, end, bits::widest(queue[4092]))
 }
 
 fn main() {

@@ -6,12 +6,12 @@ use lib.Dec.{eqb, leb}
 use Rattle.bits.specs.Pick.{pick}
 use Rattle.midi.specs.declared.Packer.{Packer}
 use Rattle.midi.specs.declared.Sent.{Sent}
-use Rattle.midi.specs.Packer.{sentOf, queueAfter}
+use Rattle.midi.specs.Packer.{QUEUE, sentOf, queueAfter}
 use Rattle.bounds.specs.Bounds.{packerOk}
 
 -- document 01, number 5, of what a send is given: a packer inside its bound, and a MIDI queue not over 4,096 and a multiple of four
 unfoldable pub bounded : Packer → ℕ → Bool
-bounded p held = packerOk p && (leb held 4096 && eqb (held % 4) 0)
+bounded p held = packerOk p && (leb held QUEUE && eqb (held % 4) 0)
 
 -- 5 with all as it was, and otherwise what number 7 decides
 unfoldable pub midiSent : Packer → List ℕ → ℕ → Sent

@@ -139,7 +139,7 @@ fn bounded(p: Packer, held: u16) -> bool
     ensures { λ r. ⌜ r ≡ Send.bounded p held ⌝ }
 {
     let inside = bounds::packer_ok(p);
-    inside & ((held <= 4096) & (held % 4 == 0))
+    inside & ((held as usize <= midi::QUEUE) & (held % 4 == 0))
 }
 
 // The packets of bytes behind the held ones of a queue: refusal (5 or 7) * 2^56 + held * 2^40 + packer. A new packer is 0, and an answer is the next.
@@ -148,7 +148,7 @@ pub extern "C" fn usb_midi_send(
     packer: u64,
     cable: u8,
     bytes: &[u8],
-    queue: &mut [u8; 4096],
+    queue: &mut [u8; midi::QUEUE],
     held: u16,
 ) -> u64
     ensures { λ r. ⌜ (r ≡ Answers.ofSent (Send.midiSent (Answers.packerOf packer) (now (bytes .entry)) held)) × (now (queue .exit) ≡ Send.midiQueue cable (Answers.packerOf packer) (now (bytes .entry)) held (now (queue .entry))) ⌝ }

@@ -1,4 +1,4 @@
--- Facts on copies, on the bytes of the setups that are made here, and on pairs in a table.
+-- Facts on replies that are kept, on the bytes of the setups that are made here, and on pairs in a table.
 use mathlib.Core.Bool.{Bool, true, false, _&&_}
 use lib.Dec.{eqb, ltb}
 use borrow.Author.Tests.{eq-eqb, ne-eqb, eqb-true}
@@ -13,8 +13,8 @@ use native.Mathlib.Numerals.{add-one}
 use native.Mathlib.Omega.{arith}
 use mathlib.Core.List.{List, [], _∷_, _++_, flatMap}
 use mathlib.Core.Path.{_≡_, refl, sym, ap, ap₂, subst, _∙_}
-use lib.ListN.{length, getD, take, set, length-append}
-use lib.Seq.{sets, take-suc, length-take-le, length-sets}
+use lib.ListN.{length, getD, take, length-append}
+use lib.Seq.{sets, length-take-le}
 use Rattle.bits.proofs.Lists.{sets-append}
 use Rattle.record.specs.declared.State.{State}
 use Rattle.record.specs.Record.{withBlock, withOn, withSetups, withDevice, withConfig, withAudio, withControl, withLengths}
@@ -27,21 +27,6 @@ use Rattle.model.specs.Phases.{dropsRequest}
 use Rattle.model.specs.Control.{requestType, request, descriptorType, asksFor, replied, setsInterface, interfaceSetups, asksWhole, setsConfiguration, chooses, fixedSetups, configures, finishes}
 use Rattle.finished.specs.Promises.{atRequest, Brings, pairsFrom}
 use Rattle.model.specs.Control.{keepsDevice, keepsConfig, choosesByReply, queuesFixed, takesConfiguration}
-
--- ---- copies
-
--- one byte more
-pub copied-more : (to from : List ℕ) (i : ℕ) → i < length from → set (sets to 0 (take i from)) i (getD from i 0) ≡ sets to 0 (take (i + 1) from)
-copied-more to from i h =
-    let long : length (take i from) ≡ i = length-take-le i from (omega arith) in
-    sym
-    (ap (λ (n : ℕ). sets to 0 (take n from)) (add-one i)
-    ∙ ap (sets to 0) (take-suc from i 0 h)
-    ∙ sets-append to 0 (take i from) (getD from i 0 ∷ [])
-    ∙ ap (λ (n : ℕ). set (sets to 0 (take i from)) n (getD from i 0)) (omega (arith, long)))
-
-pub copied-long : (to from : List ℕ) (i : ℕ) {x : List ℕ} → x ≡ sets to 0 (take i from) → length x ≡ length to
-copied-long to from i e = ap length e ∙ length-sets to 0 (take i from)
 
 -- a reply that is kept
 module _ (s : State) (q d p c : List ℕ) (inside : s .control .got ≤ length p) where

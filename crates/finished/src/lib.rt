@@ -8,10 +8,13 @@ ghost use lib.Seq.{sets};
 ghost use Rattle.config.specs.Config.{outBlock};
 ghost use Rattle.record.specs.Record.{withOn, withDevice, withConfig, withControl, withLengths};
 ghost use Rattle.model.specs.Control as C;
+ghost use Rattle.record.specs.Sizes as Sizes;
 ghost use Rattle.finished.specs.Promises as P;
 use config::OutBlock;
 use record::Audio;
 use record::Control;
+use record::DEVICE;
+use record::SETUP_BYTES;
 use record::State;
 
 // The first words of the setups that are made here: a configuration request, set configuration 1, and set interface without its alternate.
@@ -28,12 +31,6 @@ fn asks_for(c: Control, kind: u32) -> bool
     (c.first % 256 == 0x80) & ((c.first / 256 % 256 == 6) & (c.first / 0x100_0000 == kind))
 }
 
-fn wide(b: u8) -> u32
-    ensures { λ r. ⌜ (r ≡ b) × (r < 256) ⌝ }
-{
-    b as u32
-}
-
 // The state with its request ended or dropped.
 pub fn ended(s: State) -> State
     ensures { λ r. ⌜ r ≡ withControl s (withOn (s .control) false) ⌝ }
@@ -43,25 +40,13 @@ pub fn ended(s: State) -> State
     next
 }
 
-// The first `count` bytes of `from` go to the start of `to`.
-fn copy(to: &mut [u8], from: &[u8], count: usize)
-    requires { ⌜ (count ≤ length (now to)) × (count ≤ length (now from)) ⌝ }
-    ensures { λ _. ⌜ now (to .exit) ≡ sets (now (to .entry)) 0 (take count (now (from .entry))) ⌝ }
-{
-    let mut i = 0;
-    while i < count {
-        to[i] = from[i];
-        i += 1;
-    }
-}
-
 // The reply becomes the device descriptor.
-fn keep_device(s: State, device: &mut [u8; 64], reply: &[u8]) -> State
-    requires { ⌜ (s .control .got ≤ 64) × (64 ≤ length (now reply)) ⌝ }
+fn keep_device(s: State, device: &mut [u8; DEVICE], reply: &[u8]) -> State
+    requires { ⌜ (s .control .got ≤ Sizes.DEVICE) × (Sizes.DEVICE ≤ length (now reply)) ⌝ }
     ensures { λ r. ⌜ (r ≡ withLengths s (withDevice (s .lengths) (s .control .got))) × (now (device .exit) ≡ sets (now (device .entry)) 0 (take (s .control .got) (now (reply .entry)))) ⌝ }
 {
     let count = s.control.got;
-    copy(device, reply, count);
+    bus::put_bytes(device, 0, &reply[..count]);
     let mut next = s;
     next.lengths.device = count;
     next
@@ -73,18 +58,18 @@ fn keep_config(s: State, reply: &[u8], config: &mut [u8]) -> State
     ensures { λ r. ⌜ (r ≡ withLengths s (withConfig (s .lengths) (s .control .got))) × (now (config .exit) ≡ sets (now (config .entry)) 0 (take (s .control .got) (now (reply .entry)))) ⌝ }
 {
     let count = s.control.got;
-    copy(config, reply, count);
+    bus::put_bytes(config, 0, &reply[..count]);
     let mut next = s;
     next.lengths.config = count;
     next
 }
 
 // A header's total length is asked for; no setup waits.
-fn ask_whole(s: State, setups: &mut [u8; 2056], reply: &[u8]) -> State
+fn ask_whole(s: State, setups: &mut [u8; SETUP_BYTES], reply: &[u8]) -> State
     requires { ⌜ (s .lengths .setups ≡ 0) × (4 ≤ length (now reply)) ⌝ }
     ensures { λ r. ⌜ ((d c : List ℕ) → P.Brings C.asksWhole s (now (setups .entry)) d (now (reply .entry)) c r (now (setups .exit)) d c) ⌝ }
 {
-    let total = wide(reply[2]) + wide(reply[3]) * 256;
+    let total = bits::wide(reply[2]) + bits::wide(reply[3]) * 256;
     record::put_setup(setups, 0, GET_CONFIGURATION, total * 0x1_0000);
     let mut next = s;
     next.lengths.setups = 1;
@@ -92,14 +77,19 @@ fn ask_whole(s: State, setups: &mut [u8; 2056], reply: &[u8]) -> State
 }
 
 // Set interface for each of the first `pairs` pairs, behind the first setup.
-fn push_pairs(setups: &mut [u8; 2056], interfaces: &[u8; 256], alternates: &[u8; 256], pairs: usize)
+fn push_pairs(
+    setups: &mut [u8; SETUP_BYTES],
+    interfaces: &[u8; 256],
+    alternates: &[u8; 256],
+    pairs: usize,
+)
     requires { ⌜ pairs ≤ 256 ⌝ }
     ensures { λ _. ⌜ now (setups .exit) ≡ sets (now (setups .entry)) 8 (C.interfaceSetups (P.pairsFrom (now (interfaces .entry)) (now (alternates .entry)) 0 pairs)) ⌝ }
 {
     let mut i = 0;
     while i < pairs {
-        let alternate = wide(alternates[i]) * 0x1_0000;
-        let interface = wide(interfaces[i]);
+        let alternate = bits::wide(alternates[i]) * 0x1_0000;
+        let interface = bits::wide(interfaces[i]);
         record::put_setup(setups, i + 1, SET_INTERFACE + alternate, interface);
         i += 1;
     }
@@ -119,7 +109,7 @@ fn out_block(size: u32, old: OutBlock) -> OutBlock
 }
 
 // What the configuration asks for: the block, set configuration, and set interface for each pair; no setup waits.
-fn choose(s: State, setups: &mut [u8; 2056], reply: &[u8]) -> State
+fn choose(s: State, setups: &mut [u8; SETUP_BYTES], reply: &[u8]) -> State
     requires { ⌜ (s .lengths .setups ≡ 0) × (s .control .got ≤ length (now reply)) ⌝ }
     ensures { λ r. ⌜ ((d c : List ℕ) → P.Brings C.choosesByReply s (now (setups .entry)) d (now (reply .entry)) c r (now (setups .exit)) d c) ⌝ }
 {
@@ -143,7 +133,7 @@ fn choose(s: State, setups: &mut [u8; 2056], reply: &[u8]) -> State
 }
 
 // The fixed three: set configuration 1, and interfaces 1 and 2 at alternate 3; no setup waits.
-fn fixed_setups(s: State, setups: &mut [u8; 2056]) -> State
+fn fixed_setups(s: State, setups: &mut [u8; SETUP_BYTES]) -> State
     requires { ⌜ s .lengths .setups ≡ 0 ⌝ }
     ensures { λ r. ⌜ ((d p c : List ℕ) → P.Brings C.queuesFixed s (now (setups .entry)) d p c r (now (setups .exit)) d c) ⌝ }
 {
@@ -159,12 +149,12 @@ fn fixed_setups(s: State, setups: &mut [u8; 2056]) -> State
 fn configuration(
     s: State,
     device_stack: bool,
-    setups: &mut [u8; 2056],
+    setups: &mut [u8; SETUP_BYTES],
     reply: &[u8],
     config: &mut [u8],
 ) -> State
-    requires { ⌜ (s .lengths .setups ≡ 0) × (s .control .got ≤ 65535) ⌝ }
-    requires { ⌜ (65535 ≤ length (now reply)) × (65535 ≤ length (now config)) ⌝ }
+    requires { ⌜ (s .lengths .setups ≡ 0) × (s .control .got ≤ Sizes.REPLY) ⌝ }
+    requires { ⌜ (Sizes.REPLY ≤ length (now reply)) × (Sizes.REPLY ≤ length (now config)) ⌝ }
     ensures { λ r. ⌜ ((d : List ℕ) → P.Brings (C.takesConfiguration «device_stack») s (now (setups .entry)) d (now (reply .entry)) (now (config .entry)) r (now (setups .exit)) d (now (config .exit))) ⌝ }
 {
     if s.control.got == 9 {
@@ -181,13 +171,13 @@ fn configuration(
 pub fn finished(
     s: State,
     device_stack: bool,
-    setups: &mut [u8; 2056],
-    device: &mut [u8; 64],
+    setups: &mut [u8; SETUP_BYTES],
+    device: &mut [u8; DEVICE],
     reply: &[u8],
     config: &mut [u8],
 ) -> State
-    requires { ⌜ P.Ready s × (s .control .got ≤ 65535) ⌝ }
-    requires { ⌜ (65535 ≤ length (now reply)) × (65535 ≤ length (now config)) ⌝ }
+    requires { ⌜ P.Ready s × (s .control .got ≤ Sizes.REPLY) ⌝ }
+    requires { ⌜ (Sizes.REPLY ≤ length (now reply)) × (Sizes.REPLY ≤ length (now config)) ⌝ }
     ensures { λ r. ⌜ P.Brings (C.finishes «device_stack») s (now (setups .entry)) (now (device .entry)) (now (reply .entry)) (now (config .entry)) r (now (setups .exit)) (now (device .exit)) (now (config .exit)) ⌝ }
 {
     let next = ended(s);

@@ -19,13 +19,14 @@ use Rattle.model.specs.Phases.{sleeps, suspends, leaves}
 use Rattle.model.specs.Control.{asksFor, wLength}
 use Rattle.model.specs.Microframe.{byPhase, microframe}
 use Rattle.framing.specs.Promises.{Flows}
+use Rattle.record.specs.Sizes.{SETUPS, REPLY, RECEIVE, RING}
 
 -- ---- what the steps ask of the host record (document 01, refusal 5)
 
 -- setups that wait, by phase, request and their count: there is room for them and for the four of a reset, and a running request is one
 -- that can end: none waits behind one for the configuration, a device descriptor fits its 64 bytes, and its reply is no longer than asked
 pub record Asks (p : Phase) (c : Control) (n : ℕ) : Type 0 where
-  pub few : n ≤ 257
+  pub few : n ≤ SETUPS
   pub room : p ≡ Reset → n ≡ 0
   pub alone : c .on ≡ true → asksFor 2 c ≡ true → n ≡ 0
   pub short : c .on ≡ true → asksFor 1 c ≡ true → wLength c ≤ 64
@@ -57,10 +58,10 @@ afterGone c t rs false s = suspends s then afterSuspend c t rs s
 
 -- the areas are long enough
 pub record Long (reply config receive received : List ℕ) : Type 0 where
-  pub reply-long : 65535 ≤ length reply
-  pub config-long : 65535 ≤ length config
-  pub receive-long : 196608 ≤ length receive
-  pub received-whole : length received ≡ 576000
+  pub reply-long : REPLY ≤ length reply
+  pub config-long : REPLY ≤ length config
+  pub receive-long : RECEIVE ≤ length receive
+  pub received-whole : length received ≡ RING
 
 abbrev pub atAll : World → State → Own → Lent → World
 atAll w s o l = world (w .settings) (w .packer) s o l

@@ -8,7 +8,10 @@ ghost use Rattle.record.specs.World.{own, lent};
 ghost use Rattle.model.specs.Phases.{within, anySpan};
 ghost use Rattle.model.specs.Microframe as M;
 ghost use Rattle.frames.specs.Promises as P;
+use record::DEVICE;
 use record::Phase;
+use record::QUEUE;
+use record::SETUP_BYTES;
 use record::Settings;
 use record::State;
 use usbdev::USBCMD;
@@ -17,10 +20,10 @@ use usbdev::USBCMD;
 fn connected(
     s: State,
     c: Settings,
-    setups: &mut [u8; 2056],
-    midi: &mut [u8; 4096],
-    serial: &mut [u8; 4096],
-    device: &mut [u8; 64],
+    setups: &mut [u8; SETUP_BYTES],
+    midi: &mut [u8; QUEUE],
+    serial: &mut [u8; QUEUE],
+    device: &mut [u8; DEVICE],
     dynamic: &mut [u8],
     sram: &mut [u8],
     page: &mut [u8],
@@ -71,10 +74,10 @@ fn connected(
 fn by_phase(
     s: State,
     c: Settings,
-    setups: &mut [u8; 2056],
-    midi: &mut [u8; 4096],
-    serial: &mut [u8; 4096],
-    device: &mut [u8; 64],
+    setups: &mut [u8; SETUP_BYTES],
+    midi: &mut [u8; QUEUE],
+    serial: &mut [u8; QUEUE],
+    device: &mut [u8; DEVICE],
     dynamic: &mut [u8],
     sram: &mut [u8],
     page: &mut [u8],
@@ -121,10 +124,10 @@ fn by_phase(
 fn after_suspend(
     s: State,
     c: Settings,
-    setups: &mut [u8; 2056],
-    midi: &mut [u8; 4096],
-    serial: &mut [u8; 4096],
-    device: &mut [u8; 64],
+    setups: &mut [u8; SETUP_BYTES],
+    midi: &mut [u8; QUEUE],
+    serial: &mut [u8; QUEUE],
+    device: &mut [u8; DEVICE],
     dynamic: &mut [u8],
     sram: &mut [u8],
     page: &mut [u8],
@@ -170,10 +173,10 @@ fn after_suspend(
 fn after_gone(
     s: State,
     c: Settings,
-    setups: &mut [u8; 2056],
-    midi: &mut [u8; 4096],
-    serial: &mut [u8; 4096],
-    device: &mut [u8; 64],
+    setups: &mut [u8; SETUP_BYTES],
+    midi: &mut [u8; QUEUE],
+    serial: &mut [u8; QUEUE],
+    device: &mut [u8; DEVICE],
     dynamic: &mut [u8],
     sram: &mut [u8],
     page: &mut [u8],
@@ -234,10 +237,10 @@ fn in_gone(c: Settings, time: u64) -> bool
 pub fn microframe(
     s: State,
     c: Settings,
-    setups: &mut [u8; 2056],
-    midi: &mut [u8; 4096],
-    serial: &mut [u8; 4096],
-    device: &mut [u8; 64],
+    setups: &mut [u8; SETUP_BYTES],
+    midi: &mut [u8; QUEUE],
+    serial: &mut [u8; QUEUE],
+    device: &mut [u8; DEVICE],
     dynamic: &mut [u8],
     sram: &mut [u8],
     page: &mut [u8],

@@ -11,6 +11,7 @@ use Rattle.record.specs.Change.{Step}
 use Rattle.record.specs.Did.{Leads}
 use Rattle.blocks.specs.Promises.{InRing}
 use Rattle.audio.specs.Promises.{InSending}
+use Rattle.record.specs.Sizes.{QUEUE}
 
 -- ---- what the streams ask of the host record (document 01, refusal 5)
 
@@ -23,8 +24,8 @@ pub record Rings (a : Audio) (words : ℕ) : Type 0 where
 
 -- what the streams ask: queues within their arrays, rings, and a receive area with nothing in it
 pub record Flows (s : State) (words : ℕ) : Type 0 where
-  pub midi : s .lengths .midi ≤ 4096
-  pub serial : s .lengths .serial ≤ 4096
+  pub midi : s .lengths .midi ≤ QUEUE
+  pub serial : s .lengths .serial ≤ QUEUE
   pub rings : Rings (s .audio) words
   pub none : s .answer .received ≡ 0
 

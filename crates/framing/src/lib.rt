@@ -4,7 +4,7 @@ ghost use mathlib.Core.Path.{_≡_};
 ghost use Prim.Native.Nat.{_+_, _≤_};
 ghost use lib.ListN.{length};
 ghost use Rattle.bus.specs.Memory.{shown};
-ghost use Rattle.bus.specs.Sized.{Sized};
+ghost use Rattle.bus.specs.Sized.{PAGE, Sized};
 ghost use Rattle.gptimers.specs.Timer.{inRange};
 ghost use Rattle.record.specs.Change.{when};
 ghost use Rattle.record.specs.Did.{Paged};
@@ -12,7 +12,9 @@ ghost use Rattle.model.specs.Phases.{ticks};
 ghost use Rattle.model.specs.Microframe as M;
 ghost use Rattle.streams.specs.Promises.{Receives};
 ghost use Rattle.framing.specs.Promises as P;
+ghost use Rattle.record.specs.Sizes as Sizes;
 use record::Phase;
+use record::QUEUE;
 use record::Settings;
 use record::State;
 
@@ -44,13 +46,13 @@ fn midi_in(
 fn stack_step(
     s: State,
     device_stack: bool,
-    midi: &mut [u8; 4096],
+    midi: &mut [u8; QUEUE],
     dynamic: &mut [u8],
     sram: &mut [u8],
     page: &mut [u8],
 ) -> State
     requires { ⌜ Sized (shown dynamic sram page) ⌝ }
-    requires { ⌜ s .lengths .midi ≤ 4096 ⌝ }
+    requires { ⌜ s .lengths .midi ≤ Sizes.QUEUE ⌝ }
     ensures { λ r. ⌜ P.Stacks (M.stackSteps «device_stack») s (shown (dynamic .entry) (sram .entry) (page .entry)) (now (midi .entry)) r (shown (dynamic .exit) (sram .exit) (page .exit)) (now (midi .exit)) ⌝ }
 {
     if !device_stack {
@@ -64,7 +66,7 @@ fn stack_step(
 fn overbridge(
     s: State,
     c: Settings,
-    midi: &mut [u8; 4096],
+    midi: &mut [u8; QUEUE],
     dynamic: &mut [u8],
     sram: &mut [u8],
     page: &mut [u8],
@@ -74,7 +76,7 @@ fn overbridge(
     time: u64,
 ) -> State
     requires { ⌜ Sized (shown dynamic sram page) ⌝ }
-    requires { ⌜ (196608 ≤ length (now receive)) × (length (now received) ≡ 576000) ⌝ }
+    requires { ⌜ (Sizes.RECEIVE ≤ length (now receive)) × (length (now received) ≡ Sizes.RING) ⌝ }
     requires { ⌜ P.Flows s (length (now sending)) ⌝ }
     ensures { λ r. ⌜ P.Bridges (M.bridgeSteps c time) s (shown (dynamic .entry) (sram .entry) (page .entry)) (now (midi .entry)) (now (receive .entry)) (now (received .entry)) (now (sending .entry)) r (shown (dynamic .exit) (sram .exit) (page .exit)) (now (midi .exit)) (now (receive .exit)) (now (received .exit)) ⌝ }
 {
@@ -87,8 +89,8 @@ fn overbridge(
 pub fn streaming(
     s: State,
     c: Settings,
-    midi: &mut [u8; 4096],
-    serial: &mut [u8; 4096],
+    midi: &mut [u8; QUEUE],
+    serial: &mut [u8; QUEUE],
     dynamic: &mut [u8],
     sram: &mut [u8],
     page: &mut [u8],
@@ -98,7 +100,7 @@ pub fn streaming(
     time: u64,
 ) -> State
     requires { ⌜ Sized (shown dynamic sram page) ⌝ }
-    requires { ⌜ (196608 ≤ length (now receive)) × (length (now received) ≡ 576000) ⌝ }
+    requires { ⌜ (Sizes.RECEIVE ≤ length (now receive)) × (length (now received) ≡ Sizes.RING) ⌝ }
     requires { ⌜ P.Flows s (length (now sending)) ⌝ }
     ensures { λ r. ⌜ P.Transfers (M.transfers c time) s (shown (dynamic .entry) (sram .entry) (page .entry)) (now (midi .entry)) (now (serial .entry)) (now (receive .entry)) (now (received .entry)) (now (sending .entry)) r (shown (dynamic .exit) (sram .exit) (page .exit)) (now (midi .exit)) (now (serial .exit)) (now (receive .exit)) (now (received .exit)) ⌝ }
 {
@@ -125,7 +127,7 @@ pub fn streaming(
 
 // The timers run where MIDI input is set.
 fn ticked(s: State, midi_in: bool, page: &mut [u8]) -> State
-    requires { ⌜ length (now page) ≡ 4096 ⌝ }
+    requires { ⌜ length (now page) ≡ PAGE ⌝ }
     requires { ⌜ (inRange (s .timers .zero) ≡ true) × (inRange (s .timers .one) ≡ true) ⌝ }
     ensures { λ r. ⌜ Paged (when (λ w. «midi_in») ticks) s (now (page .entry)) r (now (page .exit)) ⌝ }
 {
@@ -137,7 +139,7 @@ fn ticked(s: State, midi_in: bool, page: &mut [u8]) -> State
 
 // What a microframe begins with: counts, timers, and the host gone or back.
 pub fn opened(s: State, c: Settings, page: &mut [u8], gone: bool) -> State
-    requires { ⌜ length (now page) ≡ 4096 ⌝ }
+    requires { ⌜ length (now page) ≡ PAGE ⌝ }
     requires { ⌜ (inRange (s .timers .zero) ≡ true) × (inRange (s .timers .one) ≡ true) ⌝ }
     ensures { λ r. ⌜ Paged (M.opens c gone) s (now (page .entry)) r (now (page .exit)) ⌝ }
 {

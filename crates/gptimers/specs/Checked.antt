@@ -5,6 +5,7 @@ use Prim.Native.Nat.{ℕ}
 use lib.Dec.{eqb}
 use lib.ListN.{length}
 use Rattle.bits.specs.Pick.{pick}
+use Rattle.bus.specs.Sized.{PAGE}
 use Rattle.usbdev.specs.Registers.{Registers, done}
 use Rattle.gptimers.specs.declared.Timers.{Timers}
 use Rattle.gptimers.specs.declared.Ticked.{Ticked}
@@ -12,7 +13,7 @@ use Rattle.gptimers.specs.Timer.{STEP, inRange, tickingBoth, tickedBoth}
 
 -- 1 for a page of another length, 5 for a count outside its bounds, 0 for neither
 unfoldable pub refusal : Timers → ℕ → ℕ
-refusal ts len = pick (eqb len 4096) (pick (inRange (ts .zero) && inRange (ts .one)) 0 5) 1
+refusal ts len = pick (eqb len PAGE) (pick (inRange (ts .zero) && inRange (ts .one)) 0 5) 1
 
 -- the answer: a refusal with timers and flag as they were, or both after the microframe
 unfoldable pub tickedAnswer : Timers → Registers → Ticked

@@ -6,6 +6,7 @@ ghost use lib.ListN.{length};
 ghost use Rattle.usbdev.specs.Registers.{registers, done};
 ghost use Rattle.gptimers.specs.Timer as T;
 ghost use Rattle.gptimers.specs.Checked as C;
+ghost use Rattle.bus.specs.Sized.{PAGE};
 use bus::put_at;
 use bus::word_at;
 
@@ -86,7 +87,7 @@ impl Timer {
 
 // The 24 bits of timer k's load register.
 fn load_of(page: &[u8], k: usize) -> u64
-    requires { ⌜ (length (now page) ≡ 4096) × (k < 2) ⌝ }
+    requires { ⌜ (length (now page) ≡ PAGE) × (k < 2) ⌝ }
     ensures { λ r. ⌜ (r ≡ T.loadOf k (now (page .entry))) × (r < 2 ^ 24) ⌝ }
 {
     (word_at(page, 0x80 + 8 * k) & 0xFF_FFFF) as u64
@@ -94,7 +95,7 @@ fn load_of(page: &[u8], k: usize) -> u64
 
 // Takes the reset bit out of timer k's control word.
 fn reset(page: &mut [u8], k: usize, c: u32)
-    requires { ⌜ (length (now page) ≡ 4096) × (k < 2) ⌝ }
+    requires { ⌜ (length (now page) ≡ PAGE) × (k < 2) ⌝ }
     ensures { λ _. ⌜ ((l : Bool) → registers (now (page .exit)) l ≡ done (T.resetting k c) (registers (now (page .entry)) l)) ⌝ }
 {
     if bits::any(c, RESET) {
@@ -104,7 +105,7 @@ fn reset(page: &mut [u8], k: usize, c: u32)
 
 // Where the count of timer k starts in a microframe.
 fn start_of(page: &[u8], k: usize, t: Timer) -> u64
-    requires { ⌜ (length (now page) ≡ 4096) × (k < 2) ⌝ }
+    requires { ⌜ (length (now page) ≡ PAGE) × (k < 2) ⌝ }
     requires { ⌜ T.inRange t ≡ true ⌝ }
     ensures { λ r. ⌜ (r ≡ T.startOf k t (now (page .entry))) × ((1000 ≤ r) × (r ≤ T.HIGHEST)) ⌝ }
 {
@@ -116,7 +117,7 @@ fn start_of(page: &[u8], k: usize, t: Timer) -> u64
 
 // Stops timer k unless it repeats: the control word is stored as first read, without its run bit.
 fn stop(page: &mut [u8], k: usize, c: u32)
-    requires { ⌜ (length (now page) ≡ 4096) × (k < 2) ⌝ }
+    requires { ⌜ (length (now page) ≡ PAGE) × (k < 2) ⌝ }
     ensures { λ _. ⌜ ((l : Bool) → registers (now (page .exit)) l ≡ done (T.stopping k c) (registers (now (page .entry)) l)) ⌝ }
 {
     if bits::any(c, REPEAT) {
@@ -127,7 +128,7 @@ fn stop(page: &mut [u8], k: usize, c: u32)
 
 // How timer k stands after it expired with `left` below zero.
 fn next_of(page: &[u8], k: usize, c: u32, left: u64) -> Timer
-    requires { ⌜ (length (now page) ≡ 4096) × ((k < 2) × (left < T.ZERO)) ⌝ }
+    requires { ⌜ (length (now page) ≡ PAGE) × ((k < 2) × (left < T.ZERO)) ⌝ }
     ensures { λ r. ⌜ r ≡ T.next k c left (now (page .entry)) ⌝ }
 {
     if bits::any(c, REPEAT) {
@@ -141,7 +142,7 @@ fn next_of(page: &[u8], k: usize, c: u32, left: u64) -> Timer
 
 // Timer k, whose bit of USBSTS is `bit`, expires with `left` below zero.
 fn expire(page: &mut [u8], k: usize, bit: u32, c: u32, left: u64, flag: bool) -> Timed
-    requires { ⌜ (length (now page) ≡ 4096) × ((k < 2) × (left < T.ZERO)) ⌝ }
+    requires { ⌜ (length (now page) ≡ PAGE) × ((k < 2) × (left < T.ZERO)) ⌝ }
     requires { ⌜ bit ≡ 2 ^ (24 + k) ⌝ }
     ensures { λ r. ⌜ (registers (now (page .exit)) (r .line) ≡ done (T.expiring k c) (registers (now (page .entry)) flag)) × (r .timer ≡ T.expired k c left (registers (now (page .entry)) flag)) ⌝ }
 {
@@ -153,7 +154,7 @@ fn expire(page: &mut [u8], k: usize, bit: u32, c: u32, left: u64, flag: bool) ->
 
 // Timer k after the reset, in one microframe of `step` microseconds.
 fn count(page: &mut [u8], k: usize, bit: u32, c: u32, t: Timer, step: u64, flag: bool) -> Timed
-    requires { ⌜ (length (now page) ≡ 4096) × ((k < 2) × (step ≤ 1000)) ⌝ }
+    requires { ⌜ (length (now page) ≡ PAGE) × ((k < 2) × (step ≤ 1000)) ⌝ }
     requires { ⌜ (bit ≡ 2 ^ (24 + k)) × (T.inRange t ≡ true) ⌝ }
     ensures { λ r. ⌜ (registers (now (page .exit)) (r .line) ≡ done (T.counted step k c t) (registers (now (page .entry)) flag)) × (r .timer ≡ T.countedTimer step k c t (registers (now (page .entry)) flag)) ⌝ }
 {
@@ -178,7 +179,7 @@ fn count(page: &mut [u8], k: usize, bit: u32, c: u32, t: Timer, step: u64, flag:
 
 // One microframe of timer k, whose bit of USBSTS is `bit`.
 fn gptimer(page: &mut [u8], k: usize, bit: u32, t: Timer, step: u64, flag: bool) -> Timed
-    requires { ⌜ (length (now page) ≡ 4096) × ((k < 2) × (step ≤ 1000)) ⌝ }
+    requires { ⌜ (length (now page) ≡ PAGE) × ((k < 2) × (step ≤ 1000)) ⌝ }
     requires { ⌜ (bit ≡ 2 ^ (24 + k)) × (T.inRange t ≡ true) ⌝ }
     ensures { λ r. ⌜ (registers (now (page .exit)) (r .line) ≡ done (T.ticking step k t) (registers (now (page .entry)) flag)) × (r .timer ≡ T.ticked step k t (registers (now (page .entry)) flag)) ⌝ }
 {
@@ -190,7 +191,7 @@ fn gptimer(page: &mut [u8], k: usize, bit: u32, t: Timer, step: u64, flag: bool)
 
 // Both timers in one microframe of `step` microseconds; the line's flag goes in and comes out.
 pub fn gptimers(page: &mut [u8], ts: Timers, step: u64, flag: bool) -> TimedBoth
-    requires { ⌜ (length (now page) ≡ 4096) × (step ≤ 1000) ⌝ }
+    requires { ⌜ (length (now page) ≡ PAGE) × (step ≤ 1000) ⌝ }
     requires { ⌜ (T.inRange (ts .zero) ≡ true) × (T.inRange (ts .one) ≡ true) ⌝ }
     ensures { λ r. ⌜ (registers (now (page .exit)) (r .line) ≡ done (T.tickingBoth step ts) (registers (now (page .entry)) flag)) × (r .timers ≡ T.tickedBoth step ts (registers (now (page .entry)) flag)) ⌝ }
 {
@@ -208,7 +209,7 @@ pub fn gptimers(page: &mut [u8], ts: Timers, step: u64, flag: bool) -> TimedBoth
 fn refusal(ts: Timers, len: usize) -> u8
     ensures { λ r. ⌜ r ≡ C.refusal ts len ⌝ }
 {
-    if len != 4096 {
+    if len != bus::PAGE {
         return 1;
     }
     let zero = ts.zero;

@@ -19,7 +19,8 @@ use Rattle.midi.specs.Packer.{packetsOf}
 use Rattle.midi.proofs.Laws.{packets-size}
 use Rattle.config.specs.Config.{Bytes}
 use Rattle.record.specs.declared.Settings.{Settings}
-use Rattle.record.specs.Change.{FRAMES, WORDS, left}
+use Rattle.record.specs.Sizes.{FRAMES, WORDS}
+use Rattle.record.specs.Change.{left}
 use Rattle.model.specs.Microframe as M
 use Rattle.record.specs.Record.{counterAt}
 use Rattle.bounds.specs.Bounds.{noneAbove, MOST, inBounds, setupsOk, allMade, noneAsks, enumeratingOk, requestOk, queuesOk, packerOk, countsOk, countersOk, creditOk, timersOk, timerOk, audioOk, ringOk, areasOk, receivedOk, sendingOk}

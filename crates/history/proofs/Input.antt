@@ -11,7 +11,7 @@ use Rattle.bits.proofs.Tests.{and-first, and-second, and-both, or-case}
 use Rattle.bus.specs.Sized.{isSized}
 use Rattle.bus.proofs.Sizes.{is-sized, sized-is}
 use Rattle.usbdev.specs.Access.{fits}
-use Rattle.record.specs.Change.{FRAMES, WORDS}
+use Rattle.record.specs.Sizes.{FRAMES, WORDS}
 use Rattle.usbhost.specs.Calls.{unless, sendingLength}
 use Rattle.usbhost.specs.Frame.{lengthsOk, areaLengths}
 use Rattle.record.specs.World.{Lent}

@@ -15,7 +15,8 @@ use Rattle.bits.proofs.Tests.{and-first, and-second}
 use Rattle.usbdev.specs.Access.{writeSized}
 use Rattle.record.specs.declared.Settings.{Settings}
 use Rattle.record.specs.World.{Lent, World}
-use Rattle.record.specs.Change.{FRAMES, WORDS, left, takenFrom}
+use Rattle.record.specs.Sizes.{FRAMES, WORDS}
+use Rattle.record.specs.Change.{left, takenFrom}
 use Rattle.model.specs.Microframe as M
 use Rattle.model.specs.Audio.{BLOCK-FRAMES, capacity, blockOf}
 use Rattle.model.specs.Reach.{atOutput}

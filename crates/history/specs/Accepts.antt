@@ -13,7 +13,7 @@ use Rattle.bus.specs.Sized.{Sized, isSized}
 use Rattle.usbdev.specs.Access.{fits}
 use Rattle.midi.specs.Packer.{packetsOf}
 use Rattle.config.specs.Config.{Bytes}
-use Rattle.record.specs.Change.{FRAMES, WORDS}
+use Rattle.record.specs.Sizes.{FRAMES, WORDS}
 use Rattle.bounds.specs.Bounds.{areasOk, receivedOk}
 use Rattle.usbhost.specs.declared.Host.{Host}
 use Rattle.usbhost.specs.Host.{stateOf}

@@ -16,7 +16,7 @@ use Rattle.dtd.specs.Dtd.{Endpoint, endpoint, Run, runDtds}
 use Rattle.record.specs.declared.Phase.{Phase}
 use Rattle.record.specs.declared.Phase.the-variants.{Idle, Vbus, Reset, Enumerate, Stream}
 use Rattle.record.specs.declared.Settings.{Settings}
-use Rattle.record.specs.Record.{Stats, wrapped, Counter, place, counterAt, counterOf, counted, raised, microframes, «in_transfers», «out_transfers», «in_frames», «out_frames», «bad_blocks», «midi_dtds», «midi_asleep», «out_underruns», «midi_packets_out», «vendor_in_bytes», restarts, enumerations}
+use Rattle.record.specs.Record.{Stats, COUNTERS, wrapped, Counter, place, counterAt, counterOf, counted, raised, microframes, «in_transfers», «out_transfers», «in_frames», «out_frames», «bad_blocks», «midi_dtds», «midi_asleep», «out_underruns», «midi_packets_out», «vendor_in_bytes», restarts, enumerations}
 use Rattle.record.proofs.Counters.{raised-same, raised-other}
 use Rattle.record.specs.World.{World, busOf}
 use Rattle.record.specs.Change.{Change, count, phase, budget, onPage, apply, Step, left, _then_, nothing, if, when, one, here, ranStores, runs, midi}
@@ -498,7 +498,7 @@ at-most x x′ l = omega arith
 
 -- each counter behind that of the microframes, after n of them
 abbrev Below : ℕ → Stats → Type 0
-Below n r = (k : ℕ) → k < 12 → leb (counterAt (suc k) r) (times 32767 n) ≡ true
+Below n r = (k : ℕ) → k < COUNTERS - 1 → leb (counterAt (suc k) r) (times 32767 n) ≡ true
 
 few-a-microframe : (k : ℕ) → most 784 32767 k ≤ 32767
 few-a-microframe k = by-place (eqb k (place «vendor_in_bytes»))
@@ -524,8 +524,8 @@ counters-kept t w e few =
     let n = counterOf microframes r in
     let up = counters-raised t w in
     let more : counterOf microframes (left (microframe t) w .state .stats) ≡ n + 1 = up .microframes ∙ raised-same 0 1 r ∙ one-more n few in
-    subst (λ (k : ℕ). noneAbove (times 32767 k) (left (microframe t) w .state .stats) 12 ≡ true) (sym more)
-    (all-below (times 32767 (n + 1)) (left (microframe t) w .state .stats) 12 (below-next n few r _ (counter-below r e) up))
+    subst (λ (k : ℕ). noneAbove (times 32767 k) (left (microframe t) w .state .stats) (COUNTERS - 1) ≡ true) (sym more)
+    (all-below (times 32767 (n + 1)) (left (microframe t) w .state .stats) (COUNTERS - 1) (below-next n few r _ (counter-below r e) up))
   where
     one-more : (n : ℕ) → n < MOST → wrapped (n + 1) ≡ n + 1
     one-more n few = omega arith
@@ -533,7 +533,7 @@ counters-kept t w e few =
 -- ---- none wraps: each is no less than before, and at most 32,767 more
 
 abbrev pub Risen : Stats → Stats → Type 0
-Risen r r′ = (k : ℕ) → k < 12 → (counterAt (suc k) r ≤ counterAt (suc k) r′) × (counterAt (suc k) r′ ≤ counterAt (suc k) r + 32767)
+Risen r r′ = (k : ℕ) → k < COUNTERS - 1 → (counterAt (suc k) r ≤ counterAt (suc k) r′) × (counterAt (suc k) r′ ≤ counterAt (suc k) r + 32767)
 
 risen-one : (k n x x′ : ℕ) → k ≤ 32767 → leb x (times 32767 n) ≡ true → Rise k x x′ → (x ≤ x′) × (x′ ≤ x + 32767)
 risen-one k n x x′ l e rise =

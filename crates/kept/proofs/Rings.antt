@@ -14,7 +14,8 @@ use Rattle.bus.specs.Steps.{replay}
 use Rattle.record.specs.declared.Ring.{Ring}
 use Rattle.record.specs.World.{World}
 use Rattle.record.specs.Parts as Part
-use Rattle.record.specs.Change.{Change, bus, ran, lost, count, timers, frame, FRAMES, WORDS, ringedPlace, takenFrom, apply, left, port, audio, request, stream}
+use Rattle.record.specs.Sizes.{FRAMES, WORDS}
+use Rattle.record.specs.Change.{Change, bus, ran, lost, count, timers, frame, ringedPlace, takenFrom, apply, left, port, audio, request, stream}
 use Rattle.record.proofs.Beside.{port-beside, request-beside, stream-beside}
 use Rattle.model.specs.Microframe.{microframe}
 use Rattle.bounds.specs.Bounds.{ringOk}

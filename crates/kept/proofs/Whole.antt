@@ -11,7 +11,8 @@ use Rattle.midi.specs.declared.Packer.{Packer}
 use Rattle.config.specs.Config.{Bytes as AllBytes}
 use Rattle.record.specs.declared.State.{State}
 use Rattle.record.specs.World.{World}
-use Rattle.record.specs.Change.{left, FRAMES, WORDS}
+use Rattle.record.specs.Sizes.{FRAMES, WORDS}
+use Rattle.record.specs.Change.{left}
 use Rattle.record.specs.Record.{counterOf, microframes, «in_frames»}
 use Rattle.model.specs.Control.{wLength}
 use Rattle.model.specs.Microframe.{rsSet, goneAt, asleepAt, microframe}

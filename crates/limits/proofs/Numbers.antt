@@ -5,7 +5,7 @@ use mathlib.Core.List.{List, [], _∷_, _++_, map}
 use mathlib.Core.Path.{_≡_, refl, ap, _∙_}
 use lib.Dec.{eqb, leb, ltb}
 use Rattle.bus.specs.Sized.{isPower, isSized}
-use Rattle.record.specs.Change.{FRAMES, WORDS}
+use Rattle.record.specs.Sizes.{FRAMES, WORDS}
 use Rattle.bounds.specs.Bounds.{MOST, receivedOk, sendingOk}
 use Rattle.usbhost.specs.declared.Host.{Host}
 use Rattle.usbhost.specs.Host.{stateOf}

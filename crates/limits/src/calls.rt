@@ -34,8 +34,7 @@ fn added(number: u8, kept: bool, change: usize, adds: usize) -> Seen {
 pub fn least(a: u64, b: usize) -> usize
     ensures { λ r. ⌜ r ≤ b ⌝ }
 {
-    let n = a as usize;
-    if n < b { n } else { b }
+    bits::least(a as usize, b)
 }
 
 fn low(v: u64) -> u32 {
@@ -51,19 +50,19 @@ fn address(i: usize) -> u8 {
     }
 }
 
-pub fn addresses() -> [u8; 2056] {
-    let mut queue = [0u8; 2056];
+pub fn addresses() -> [u8; record::SETUP_BYTES] {
+    let mut queue = [0u8; record::SETUP_BYTES];
     let mut i = 0;
-    while i < 2056 {
+    while i < record::SETUP_BYTES {
         queue[i] = address(i);
         i += 1;
     }
     queue
 }
 
-pub fn are_addresses(queue: &[u8; 2056]) -> bool {
+pub fn are_addresses(queue: &[u8; record::SETUP_BYTES]) -> bool {
     let mut i = 0;
-    while i < 2056 {
+    while i < record::SETUP_BYTES {
         if queue[i] != address(i) {
             return false;
         }
@@ -72,7 +71,7 @@ pub fn are_addresses(queue: &[u8; 2056]) -> bool {
     true
 }
 
-fn queued(queue: &[u8; 4096]) -> usize {
+fn queued(queue: &[u8; record::QUEUE]) -> usize {
     changed(queue)
 }
 
@@ -80,7 +79,7 @@ fn queued(queue: &[u8; 4096]) -> usize {
 pub fn midi_sent(v: [u64; 25]) -> Seen {
     let state = case::state(v);
     let setups = addresses();
-    let mut queue = [MARK; 4096];
+    let mut queue = [MARK; record::QUEUE];
     let spans = v[case::SPANS] as usize;
     let sent = usbhost::send_midi(state, spans, Packer::new(), b"\xF8", &setups, &mut queue);
     let kept = same_state(sent.state, state);
@@ -92,7 +91,7 @@ pub fn serial_sent(v: [u64; 25], bytes: &[u8]) -> Seen {
     let n = least(v[case::BYTES], bytes.len());
     let state = case::state(v);
     let setups = addresses();
-    let mut queue = [MARK; 4096];
+    let mut queue = [MARK; record::QUEUE];
     let spans = v[case::SPANS] as usize;
     let part = &bytes[..n];
     let sent = usbhost::send_serial(state, spans, Packer::new(), part, &setups, &mut queue);

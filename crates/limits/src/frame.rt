@@ -14,15 +14,15 @@ use crate::same::word_marks;
 use midi::Packer;
 
 fn same_arrays(
-    setups: &[u8; 2056],
-    midi: &[u8; 4096],
-    serial: &[u8; 4096],
-    device: &[u8; 64],
+    setups: &[u8; record::SETUP_BYTES],
+    midi: &[u8; record::QUEUE],
+    serial: &[u8; record::QUEUE],
+    device: &[u8; record::DEVICE],
 ) -> bool {
     are_addresses(setups) & (changed(midi) == 0) & (changed(serial) == 0) & (changed(device) == 0)
 }
 
-fn same_area(area: &[u8; 196_608]) -> bool {
+fn same_area(area: &[u8; record::RECEIVE]) -> bool {
     changed(area) == 0
 }
 
@@ -46,8 +46,8 @@ fn run(
     let mut settings = usbhost::no_settings();
     settings.spans = v[case::SPANS] as usize;
     let mut setups = addresses();
-    let mut midi = [MARK; 4096];
-    let mut serial = [MARK; 4096];
+    let mut midi = [MARK; record::QUEUE];
+    let mut serial = [MARK; record::QUEUE];
     let mut device = [MARK; 64];
     let done = usbhost::run_microframe(
         state,

@@ -1,6 +1,7 @@
 // Whether two states are alike in every field, and how much of an area is not as it was filled.
 ghost use mathlib.Core.Path.{_≡_};
 ghost use lib.ListN.{length};
+ghost use Rattle.record.specs.Sizes as Sizes;
 use gptimers::Timers;
 use record::Audio;
 use record::Lengths;
@@ -16,10 +17,10 @@ pub const MARK: u8 = 0xEE;
 pub const WORD_MARK: u32 = 0xEEEE_EEEE;
 
 // An area of marks, as long as the longest of bytes. Its length alone is told, so that a caller's proof does not look at each byte.
-pub fn marks() -> [u8; 196_608]
-    ensures { λ r. ⌜ 196608 ≡ length r ⌝ }
+pub fn marks() -> [u8; record::RECEIVE]
+    ensures { λ r. ⌜ Sizes.RECEIVE ≡ length r ⌝ }
 {
-    [MARK; 196_608]
+    [MARK; record::RECEIVE]
 }
 
 // A ring of marks, longer than the longest.

@@ -63,13 +63,9 @@ fn beside(r: Row) -> bool {
     print(b", ") && set(r.other, r.beside)
 }
 
-fn wide(b: u8) -> u64 {
-    b as u64
-}
-
 // The number, with a mark where the call did not leave what it must.
 fn answer(s: Seen) -> bool {
-    let number = print(b" ") && print_number(wide(s.number));
+    let number = print(b" ") && print_number(bits::widest(s.number));
     if s.right {
         return number;
     }
@@ -105,5 +101,5 @@ pub fn created(spans: usize) -> bool {
     settings.spans = spans;
     let made = usbhost::Host::new(settings);
     let shown = print(b"new with gone spans ") && print_number(spans as u64) && print(b": ");
-    shown && print_number(wide(made.refusal)) && print(b"\n")
+    shown && print_number(bits::widest(made.refusal)) && print(b"\n")
 }

@@ -140,9 +140,13 @@ written form p bs = flatMap form (eventsOf p bs)
 unfoldable pub packetsOf : ℕ → Packer → List ℕ → List ℕ
 packetsOf cable p bs = written (packetBytes cable) p bs
 
--- document 01, number 7: whether the packets of bs fit a queue of 4,096 bytes that holds held
+-- document 01, "MIDI packer and queue": the queue's bytes
+abbrev pub QUEUE : ℕ
+QUEUE = 4096
+
+-- document 01, number 7: whether the packets of bs fit a queue that holds held
 abbrev pub roomFor : Packer → List ℕ → ℕ → Bool
-roomFor p bs held = leb (held + 4 * packetCount p bs) 4096
+roomFor p bs held = leb (held + 4 * packetCount p bs) QUEUE
 
 -- document 01, number 7: a send's answer, 0 with all of it done, or 7 with all as it was
 unfoldable pub sentOf : Packer → List ℕ → ℕ → Sent

@@ -7,6 +7,9 @@ ghost use Prim.Native.Nat.{_+_, _*_, _≤_, _<_};
 ghost use Rattle.midi.specs.Packer as P;
 ghost use Rattle.midi.specs.Packer.{feedOf, fedSysex, fedData, fedStatus, holding, fresh, messageLength, messageCode, byteCount, runningOf, codeOf, packetCount, Puts, Sends};
 
+// Bytes of the queue.
+pub const QUEUE: usize = 4096;
+
 // The packer between bytes: the running status, the bytes held of a message, and whether it is inside SysEx.
 pub struct Packer {
     pub status: u8,
@@ -303,10 +306,10 @@ pub struct Sent {
 }
 
 // Counts the packets of `bytes` and puts them behind the `held` bytes of the queue, or changes nothing where they do not fit.
-pub fn send(p: Packer, cable: u8, bytes: &[u8], queue: &mut [u8; 4096], held: usize) -> Sent
+pub fn send(p: Packer, cable: u8, bytes: &[u8], queue: &mut [u8; QUEUE], held: usize) -> Sent
     ensures { λ r. ⌜ Sends cable p (now (bytes .entry)) held (now (queue .entry)) (now (queue .exit)) r ⌝ }
 {
-    if 4096 < held {
+    if QUEUE < held {
         return Sent {
             refusal: 7,
             packer: p,
@@ -314,7 +317,7 @@ pub fn send(p: Packer, cable: u8, bytes: &[u8], queue: &mut [u8; 4096], held: us
         };
     }
     let count = count_packets(p, bytes);
-    if (4096 - held) / 4 < count {
+    if (QUEUE - held) / 4 < count {
         return Sent {
             refusal: 7,
             packer: p,

@@ -5,7 +5,7 @@ ghost use mathlib.Core.List.{[], _∷_};
 ghost use Prim.Native.Nat.{ℕ, _+_, _*_, _/_, _<_, _≤_};
 ghost use lib.ListN.{length};
 ghost use Rattle.bus.specs.Memory.{shown};
-ghost use Rattle.bus.specs.Sized.{Sized};
+ghost use Rattle.bus.specs.Sized.{PAGE, Sized};
 ghost use Rattle.transfer.specs.Transfer as T;
 ghost use Rattle.dtd.specs.Dtd as D;
 ghost use Rattle.dtd.specs.declared.Found.the-variants.{Active};
@@ -106,7 +106,7 @@ fn decode_run(
     let mut at = start;
     let mut from = 0;
     while from < total {
-        let n = dtd::fewer(512, total - from);
+        let n = bits::least(512, total - from);
         at = decode_some(
             dynamic,
             sram,
@@ -265,7 +265,7 @@ fn read_all(
 
 // Polling MIDI input with nothing primed shows as a NAK.
 fn nak(page: &mut [u8])
-    requires { ⌜ length (now page) ≡ 4096 ⌝ }
+    requires { ⌜ length (now page) ≡ PAGE ⌝ }
     ensures { λ _. ⌜ P.OnPage M.naks (now (page .entry)) (now (page .exit)) ⌝ }
 {
     if bits::any(word_at(&*page, EPSR), MIDI_IN) {

@@ -16,7 +16,8 @@ use Rattle.dtd.specs.Dtd.{Run, runDtds, primed, interrupts, queueHead, dataOut,
 use Rattle.dtd.proofs.Runs.{IsActive, active-stores, active-moved, active-done, active-retired, active-bytes, idle-run}
 use Rattle.record.specs.World.{World, busOf}
 use Rattle.record.specs.Record.{wrapped, «in_transfers», «in_frames», «bad_blocks»}
-use Rattle.record.specs.Change.{Change, bus, ran, lost, count, credit, frame, apply, FRAMES, left, _then_, nothing, one, runs, ranStores}
+use Rattle.record.specs.Sizes.{FRAMES}
+use Rattle.record.specs.Change.{Change, bus, ran, lost, count, credit, frame, apply, left, _then_, nothing, one, runs, ranStores}
 use Rattle.model.specs.Streams.{nonempty, brought}
 use Rattle.model.specs.Audio.{audioIn, BLOCK-FRAMES, overBudget, addsBudget, clearsBudget, good, wordsOf, blocks, blocksOf, keepsFrames, keepsGood, keepsBlock, keepsBlocks, keepsRun, inputs, streamIn, streamOut, streams}
 use Rattle.model.specs.Microframe.{rsSet, goneAt, asleepAt, microframe}

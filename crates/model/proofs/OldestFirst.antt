@@ -11,7 +11,8 @@ use lib.Dec.{leb, ltb}
 use lib.ListN.{length, getD, take, drop, set, length-drop, drop-of-length-le}
 use lib.Seq.{sets, length-take-le, sets-eq, take-at, drop-at, take-set-le, drop-set-lt, take-nil}
 use Rattle.record.specs.declared.Ring.{Ring}
-use Rattle.record.specs.Change.{WORDS, takenFrom}
+use Rattle.record.specs.Sizes.{WORDS}
+use Rattle.record.specs.Change.{takenFrom}
 use Rattle.model.specs.Ring.{frameIn, oldestFirst}
 
 -- ---- lists

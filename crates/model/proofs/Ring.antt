@@ -12,7 +12,8 @@ use lib.Seq.{sets, length-sets, drop-append-le, drop-drop}
 use Rattle.bits.specs.Pick.{pick}
 use Rattle.bus.specs.Steps.{replay, replay-append}
 use Rattle.record.specs.Record.{wrapped, «in_frames», «bad_blocks»}
-use Rattle.record.specs.Change.{Change, count, credit, frame, FRAMES, WORDS, ringed, ringedPlace}
+use Rattle.record.specs.Sizes.{FRAMES, WORDS}
+use Rattle.record.specs.Change.{Change, count, credit, frame, ringed, ringedPlace}
 use Rattle.model.specs.Audio.{BLOCK-FRAMES, wordsOf, good}
 use Rattle.model.specs.Ring.{frameIn, contents, InOrder, framesFrom, framesOfBlock, framesOfBlocks, lastOf, blockChanges, blocksChanges}
 use Rattle.model.proofs.Received.{Kept, keptBy, keptOn}

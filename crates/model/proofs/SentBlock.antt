@@ -10,7 +10,7 @@ use lib.Dec.{ltb}
 use lib.ListN.{length, getD, take, drop, replicate, length-append, length-take, length-replicate, List·getD-append, List·getD-eq-default}
 use lib.Seq.{getD-append-add, getD-take, getD-drop, length-take-le}
 use Rattle.record.specs.World.{World}
-use Rattle.record.specs.Change.{WORDS}
+use Rattle.record.specs.Sizes.{WORDS}
 use Rattle.model.specs.Audio.{BLOCK-FRAMES, capacity, frameAt, bytesOf, channelBytes, frameBytes, blockOf}
 use Rattle.model.specs.Ring.{frameIn, waitingFrames}
 use Rattle.model.specs.SentBlock.{byteAt, BlockBytes}

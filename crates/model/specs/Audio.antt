@@ -12,7 +12,8 @@ use Rattle.transfer.specs.Transfer.{tabulate}
 use Rattle.dtd.specs.Dtd.{Endpoint, endpoint, primed, terminates, nextDtd, nextActive, Run}
 use Rattle.record.specs.Record.{wrapped, «in_transfers», «out_transfers», «in_frames», «out_frames», «bad_blocks», «out_underruns»}
 use Rattle.record.specs.World.{World}
-use Rattle.record.specs.Change.{count, credit, budget, counter, frame, taken, WORDS, Step, _then_, nothing, if, when, one, here, onPage, runs}
+use Rattle.record.specs.Sizes.{WORDS}
+use Rattle.record.specs.Change.{count, credit, budget, counter, frame, taken, Step, _then_, nothing, if, when, one, here, onPage, runs}
 use Rattle.model.specs.Phases.{changing}
 use Rattle.model.specs.Streams.{nextTotal, brought, nonempty}
 

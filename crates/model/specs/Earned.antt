@@ -9,7 +9,8 @@ use Rattle.bits.specs.Pick.{pick}
 use Rattle.record.specs.Record.{wrapped, counterOf, «in_frames», «out_frames»}
 use Rattle.record.specs.declared.Ring.{Ring}
 use Rattle.record.specs.World.{World}
-use Rattle.record.specs.Change.{left, WORDS, takenFrom}
+use Rattle.record.specs.Sizes.{WORDS}
+use Rattle.record.specs.Change.{left, takenFrom}
 use Rattle.model.specs.Audio.{BLOCK-FRAMES, good, blocksOf, streamIn}
 use Rattle.model.specs.Reach.{streamBy, outputBy, inputBy, backBy, leftBy, paced, inputReady, outputReady, bytesAt}
 

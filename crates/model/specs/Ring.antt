@@ -12,7 +12,8 @@ use Rattle.dtd.specs.Dtd.{bitOf, queueHead, nextDtd, tokenOf, interrupts, descr
 use Rattle.record.specs.declared.Ring.{Ring}
 use Rattle.record.specs.Record.{wrapped, «in_transfers», «in_frames», «bad_blocks»}
 use Rattle.record.specs.World.{World, busOf}
-use Rattle.record.specs.Change.{Change, bus, ran, lost, count, credit, frame, FRAMES, WORDS}
+use Rattle.record.specs.Sizes.{FRAMES, WORDS}
+use Rattle.record.specs.Change.{Change, bus, ran, lost, count, credit, frame}
 use Rattle.model.specs.Streams.{nonempty}
 use Rattle.model.specs.Audio.{audioIn, BLOCK-FRAMES, good, wordsOf, blocksOf}
 

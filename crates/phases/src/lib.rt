@@ -10,9 +10,12 @@ ghost use Rattle.record.specs.Change.{onPage};
 ghost use Rattle.record.specs.Did.{Alone, Paged};
 ghost use Rattle.model.specs.Phases as M;
 ghost use Rattle.phases.specs.Promises.{Queued};
+ghost use Rattle.bus.specs.Sized.{PAGE};
+ghost use Rattle.record.specs.Sizes as Sizes;
 use bus::put_at;
 use bus::word_at;
 use record::Phase;
+use record::SETUP_BYTES;
 use record::State;
 use std::num::wrapping_add_u64;
 use usbdev::FRINDEX;
@@ -62,7 +65,7 @@ pub fn counts(s: State) -> State
 
 // The general-purpose timers.
 pub fn timers(s: State, page: &mut [u8]) -> State
-    requires { ⌜ length (now page) ≡ 4096 ⌝ }
+    requires { ⌜ length (now page) ≡ PAGE ⌝ }
     requires { ⌜ (inRange (s .timers .zero) ≡ true) × (inRange (s .timers .one) ≡ true) ⌝ }
     ensures { λ r. ⌜ Paged M.ticks s (now (page .entry)) r (now (page .exit)) ⌝ }
 {
@@ -100,7 +103,7 @@ pub fn any_span(gone: &[u64; 32], count: usize, t: u64) -> bool
 
 // The cable comes out: VBUS goes, the port is detached, and the device sees the session change.
 fn cable_out(s: State, page: &mut [u8]) -> State
-    requires { ⌜ length (now page) ≡ 4096 ⌝ }
+    requires { ⌜ length (now page) ≡ PAGE ⌝ }
     ensures { λ r. ⌜ Paged (onPage M.unplugging) s (now (page .entry)) r (now (page .exit)) ⌝ }
 {
     let otg = word_at(&*page, OTGSC);
@@ -137,7 +140,7 @@ fn host_back(s: State) -> State
 
 // The host goes or comes back where `gone` differs from what the record says.
 pub fn gone_step(s: State, page: &mut [u8], gone: bool) -> State
-    requires { ⌜ length (now page) ≡ 4096 ⌝ }
+    requires { ⌜ length (now page) ≡ PAGE ⌝ }
     ensures { λ r. ⌜ Paged (M.cable gone) s (now (page .entry)) r (now (page .exit)) ⌝ }
 {
     let mut next = s;
@@ -163,7 +166,7 @@ pub fn asleep(s: State) -> State
 
 // The host suspends the bus.
 fn suspend(s: State, page: &mut [u8]) -> State
-    requires { ⌜ length (now page) ≡ 4096 ⌝ }
+    requires { ⌜ length (now page) ≡ PAGE ⌝ }
     ensures { λ r. ⌜ Paged M.suspending s (now (page .entry)) r (now (page .exit)) ⌝ }
 {
     let port = word_at(&*page, PORTSC1);
@@ -177,7 +180,7 @@ fn suspend(s: State, page: &mut [u8]) -> State
 
 // The host resumes the bus: a port change.
 fn resume(s: State, page: &mut [u8]) -> State
-    requires { ⌜ length (now page) ≡ 4096 ⌝ }
+    requires { ⌜ length (now page) ≡ PAGE ⌝ }
     ensures { λ r. ⌜ Paged M.resuming s (now (page .entry)) r (now (page .exit)) ⌝ }
 {
     let port = word_at(&*page, PORTSC1);
@@ -191,7 +194,7 @@ fn resume(s: State, page: &mut [u8]) -> State
 
 // The bus is suspended or resumed where `asleep` differs from what the record says.
 pub fn suspend_step(s: State, page: &mut [u8], asleep: bool) -> State
-    requires { ⌜ length (now page) ≡ 4096 ⌝ }
+    requires { ⌜ length (now page) ≡ PAGE ⌝ }
     ensures { λ r. ⌜ Paged (M.suspends asleep) s (now (page .entry)) r (now (page .exit)) ⌝ }
 {
     if asleep {
@@ -235,7 +238,7 @@ pub fn left_step(s: State, running: bool, device_stack: bool) -> State
 
 // Cable in: VBUS is valid, and the line follows the session's interrupt.
 pub fn idle(s: State, page: &mut [u8]) -> State
-    requires { ⌜ length (now page) ≡ 4096 ⌝ }
+    requires { ⌜ length (now page) ≡ PAGE ⌝ }
     ensures { λ r. ⌜ Paged M.idles s (now (page .entry)) r (now (page .exit)) ⌝ }
 {
     let otg = word_at(&*page, OTGSC);
@@ -248,7 +251,7 @@ pub fn idle(s: State, page: &mut [u8]) -> State
 
 // The bus reset, once the firmware runs and VBUS has stood long enough.
 pub fn vbus(s: State, page: &mut [u8], running: bool) -> State
-    requires { ⌜ length (now page) ≡ 4096 ⌝ }
+    requires { ⌜ length (now page) ≡ PAGE ⌝ }
     ensures { λ r. ⌜ Paged (M.powers running) s (now (page .entry)) r (now (page .exit)) ⌝ }
 {
     let waited = wrapping_add_u64(s.port.t, VBUS_WAIT) < s.port.uf;
@@ -271,8 +274,8 @@ fn enabled(port: u32) -> u32
 }
 
 // The first four setups go behind those that wait: the device descriptor's first 64 bytes, address 7, the device descriptor, the configuration's header.
-fn first_setups(setups: &mut [u8; 2056], count: usize)
-    requires { ⌜ count + 4 ≤ 257 ⌝ }
+fn first_setups(setups: &mut [u8; SETUP_BYTES], count: usize)
+    requires { ⌜ count + 4 ≤ Sizes.SETUPS ⌝ }
     ensures { λ _. ⌜ now (setups .exit) ≡ sets (now (setups .entry)) (8 * count) M.firstSetups ⌝ }
 {
     record::put_setup(setups, count, 0x0100_0680, 0x0040_0000);
@@ -282,9 +285,9 @@ fn first_setups(setups: &mut [u8; 2056], count: usize)
 }
 
 // The reset is done once the firmware has seen it and it has stood long enough: enumeration starts.
-pub fn reset(s: State, page: &mut [u8], setups: &mut [u8; 2056]) -> State
-    requires { ⌜ length (now page) ≡ 4096 ⌝ }
-    requires { ⌜ s .lengths .setups + 4 ≤ 257 ⌝ }
+pub fn reset(s: State, page: &mut [u8], setups: &mut [u8; SETUP_BYTES]) -> State
+    requires { ⌜ length (now page) ≡ PAGE ⌝ }
+    requires { ⌜ s .lengths .setups + 4 ≤ Sizes.SETUPS ⌝ }
     ensures { λ r. ⌜ Queued M.resets s (now (page .entry)) (now (setups .entry)) r (now (page .exit)) (now (setups .exit)) ⌝ }
 {
     let waited = wrapping_add_u64(s.port.t, RESET_WAIT) < s.port.uf;
@@ -306,7 +309,7 @@ pub fn reset(s: State, page: &mut [u8], setups: &mut [u8; 2056]) -> State
 
 // The start of a microframe on the bus: FRINDEX counts it.
 pub fn start_of_frame(s: State, page: &mut [u8]) -> State
-    requires { ⌜ length (now page) ≡ 4096 ⌝ }
+    requires { ⌜ length (now page) ≡ PAGE ⌝ }
     ensures { λ r. ⌜ Paged M.startsFrame s (now (page .entry)) r (now (page .exit)) ⌝ }
 {
     let frame = word_at(&*page, FRINDEX);

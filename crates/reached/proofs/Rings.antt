@@ -10,7 +10,8 @@ use borrow.Author.Tests.{eqb-true}
 use Rattle.bits.specs.Pick.{pick}
 use Rattle.bits.proofs.Tests.{and-first, and-second}
 use Rattle.record.specs.World.{Lent, World}
-use Rattle.record.specs.Change.{FRAMES, left, takenFrom}
+use Rattle.record.specs.Sizes.{FRAMES}
+use Rattle.record.specs.Change.{left, takenFrom}
 use Rattle.model.specs.Audio.{blocksOf}
 use Rattle.model.specs.Microframe as M
 use Rattle.model.specs.Reach.{reachesInput, atInput}

@@ -87,18 +87,18 @@ fn take_line(
     text: &[u8],
     from: usize,
     end: usize,
-    setups: &mut [u8; 2056],
-    midi: &mut [u8; 4096],
-    serial: &mut [u8; 4096],
-    device: &mut [u8; 64],
+    setups: &mut [u8; record::SETUP_BYTES],
+    midi: &mut [u8; record::QUEUE],
+    serial: &mut [u8; record::QUEUE],
+    device: &mut [u8; record::DEVICE],
     dynamic: &mut [u8; 1048576],
-    sram: &mut [u8; 65536],
-    page: &mut [u8; 4096],
-    reply: &mut [u8; 65535],
-    config: &mut [u8; 65535],
-    receive: &mut [u8; 196608],
-    received: &mut [u32; 576000],
-    sending: &mut [u32; 576000],
+    sram: &mut [u8; bus::SRAM],
+    page: &mut [u8; bus::PAGE],
+    reply: &mut [u8; record::REPLY],
+    config: &mut [u8; record::REPLY],
+    receive: &mut [u8; record::RECEIVE],
+    received: &mut [u32; record::RING],
+    sending: &mut [u32; record::RING],
     bytes: &mut [u8; 32768],
     out: &mut [u8; 65536],
 ) -> Work
@@ -197,8 +197,8 @@ fn take_store(
     from: usize,
     count: usize,
     dynamic: &mut [u8],
-    sram: &mut [u8; 65536],
-    page: &mut [u8; 4096],
+    sram: &mut [u8; bus::SRAM],
+    page: &mut [u8; bus::PAGE],
 ) -> usize
     requires { ⌜ (from ≤ count) × (count ≤ length (now text)) ⌝ }
     ensures { λ r. ⌜ (from ≤ r) × (r ≤ count) ⌝ }
@@ -222,13 +222,13 @@ fn take_stores(
     count: usize,
     memory: usize,
     dynamic: &mut [u8],
-    sram: &mut [u8; 65536],
-    page: &mut [u8; 4096],
+    sram: &mut [u8; bus::SRAM],
+    page: &mut [u8; bus::PAGE],
 ) -> usize
     requires { ⌜ (from ≤ count) × (count ≤ length (now text)) ⌝ }
     ensures { λ r. ⌜ (from ≤ r) × (r ≤ count) ⌝ }
 {
-    let size = scripted::log::at_most(memory, dynamic.len());
+    let size = bits::least(memory, dynamic.len());
     let mut used = from;
     let mut next = take_store(text, from, count, &mut dynamic[..size], sram, page);
     while used < next {
@@ -246,8 +246,8 @@ fn pass_stores(
     count: usize,
     memory: usize,
     dynamic: &mut [u8; 1048576],
-    sram: &mut [u8; 65536],
-    page: &mut [u8; 4096],
+    sram: &mut [u8; bus::SRAM],
+    page: &mut [u8; bus::PAGE],
 ) -> usize
     requires { ⌜ (from ≤ count) × (count ≤ length (now text)) ⌝ }
     ensures { λ r. ⌜ (from ≤ r) × (r ≤ count) ⌝ }
@@ -266,8 +266,8 @@ fn next_line(
     memory: usize,
     text: &mut [u8; 65536],
     dynamic: &mut [u8; 1048576],
-    sram: &mut [u8; 65536],
-    page: &mut [u8; 4096],
+    sram: &mut [u8; bus::SRAM],
+    page: &mut [u8; bus::PAGE],
 ) -> Place
     requires { ⌜ (before .next ≤ before .held) × (before .held ≤ 65536) ⌝ }
     ensures { λ r. ⌜ ((r .from ≤ r .end) × (r .end ≤ 65536)) × ((r .next ≤ r .held) × (r .held ≤ 65536)) ⌝ }
@@ -348,18 +348,18 @@ fn finish(tabular: bool, unread: bool, unwritten: bool, work: Work, out: &mut [u
 fn run_areas(
     tabular: bool,
     text: &mut [u8; 65536],
-    setups: &mut [u8; 2056],
-    midi: &mut [u8; 4096],
-    serial: &mut [u8; 4096],
-    device: &mut [u8; 64],
+    setups: &mut [u8; record::SETUP_BYTES],
+    midi: &mut [u8; record::QUEUE],
+    serial: &mut [u8; record::QUEUE],
+    device: &mut [u8; record::DEVICE],
     dynamic: &mut [u8; 1048576],
-    sram: &mut [u8; 65536],
-    page: &mut [u8; 4096],
-    reply: &mut [u8; 65535],
-    config: &mut [u8; 65535],
-    receive: &mut [u8; 196608],
-    received: &mut [u32; 576000],
-    sending: &mut [u32; 576000],
+    sram: &mut [u8; bus::SRAM],
+    page: &mut [u8; bus::PAGE],
+    reply: &mut [u8; record::REPLY],
+    config: &mut [u8; record::REPLY],
+    receive: &mut [u8; record::RECEIVE],
+    received: &mut [u32; record::RING],
+    sending: &mut [u32; record::RING],
     bytes: &mut [u8; 32768],
     out: &mut [u8; 65536],
 ) {
@@ -412,18 +412,18 @@ fn run_areas(
 // The script on standard input, up to a bad line: its log, or the table of its runs.
 pub fn run(tabular: bool) {
     let mut text = [0u8; 65536];
-    let mut setups = [0u8; 2056];
-    let mut midi = [0u8; 4096];
-    let mut serial = [0u8; 4096];
-    let mut device = [0u8; 64];
+    let mut setups = [0u8; record::SETUP_BYTES];
+    let mut midi = [0u8; record::QUEUE];
+    let mut serial = [0u8; record::QUEUE];
+    let mut device = [0u8; record::DEVICE];
     let mut dynamic = [0u8; 1048576];
-    let mut sram = [0u8; 65536];
-    let mut page = [0u8; 4096];
-    let mut reply = [0u8; 65535];
-    let mut config = [0u8; 65535];
-    let mut receive = [0u8; 196608];
-    let mut received = [0u32; 576000];
-    let mut sending = [0u32; 576000];
+    let mut sram = [0u8; bus::SRAM];
+    let mut page = [0u8; bus::PAGE];
+    let mut reply = [0u8; record::REPLY];
+    let mut config = [0u8; record::REPLY];
+    let mut receive = [0u8; record::RECEIVE];
+    let mut received = [0u32; record::RING];
+    let mut sending = [0u32; record::RING];
     let mut bytes = [0u8; 32768];
     let mut out = [0u8; 65536];
     run_areas(

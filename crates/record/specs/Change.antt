@@ -13,6 +13,7 @@ use Rattle.usbdev.specs.Registers.{PageStep, lifted}
 use Rattle.dtd.specs.Dtd.{Endpoint, Run, runDtds}
 use Rattle.gptimers.specs.declared.Timers.{Timers}
 use Rattle.record.specs.declared.Phase.{Phase}
+use Rattle.record.specs.Sizes.{FRAMES, WORDS}
 use Rattle.record.specs.Parts as Part
 use Rattle.record.specs.Parts.{PortChange, AudioChange, RequestChange, StreamChange}
 use Rattle.record.specs.declared.Ring.{Ring}
@@ -111,13 +112,6 @@ drained q len n = take (len - n) (drop n q) ++ drop (len - n) q
 -- the setups that wait, as one list of bytes
 abbrev pub waiting : World → List ℕ
 waiting w = take (8 * w .state .lengths .setups) (w .own .setups)
-
--- frames that the received ring holds at most (document 01, "Streams"), and a frame's words
-abbrev pub FRAMES : ℕ
-FRAMES = 48000
-
-abbrev pub WORDS : ℕ
-WORDS = 12
 
 -- the received ring with one frame more: behind its newest, over its oldest where it is full
 unfoldable pub ringed : List ℕ → Ring → List ℕ → List ℕ

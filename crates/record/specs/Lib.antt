@@ -1,3 +1,4 @@
+pub mod Sizes
 pub mod Record
 pub mod World
 pub mod Parts

@@ -139,6 +139,10 @@ pub data Counter : Type 0 where
   restarts : Counter
   enumerations : Counter
 
+-- how many there are
+abbrev pub COUNTERS : ℕ
+COUNTERS = 13
+
 -- its place in the list of them
 abbrev pub place : Counter → ℕ
 place microframes = 0

@@ -3,11 +3,32 @@ ghost use mathlib.Core.Path.{_≡_};
 ghost use Prim.Native.Nat.{_+_, _-_, _*_, _/_, _≤_, _<_};
 ghost use lib.Seq.{sets};
 ghost use Rattle.record.specs.Record as R;
+ghost use Rattle.record.specs.Sizes as Sizes;
 ghost use Rattle.record.specs.Did.{entered, afterRun};
 ghost use Rattle.record.specs.Setups.{little, littleBytes, setupBytes};
 use dtd::Ran;
 use gptimers::Timers;
 use std::num::wrapping_add_u64;
+
+// Setups that wait at most, and their bytes.
+pub const SETUPS: usize = 257;
+
+pub const SETUP_BYTES: usize = 8 * SETUPS;
+
+// Bytes of the MIDI and of the serial queue, and of the device descriptor.
+pub const QUEUE: usize = midi::QUEUE;
+
+pub const DEVICE: usize = 64;
+
+// The longest reply, and so the least reply and configuration area; the least receive area.
+pub const REPLY: usize = 65_535;
+
+pub const RECEIVE: usize = 196_608;
+
+// Frames that the received ring holds at most, and its words.
+pub const RING_FRAMES: usize = 48_000;
+
+pub const RING: usize = RING_FRAMES * Audio::CHANNELS;
 
 // What the host waits for (usbhost.rs 177-190).
 pub enum Phase {
@@ -202,7 +223,7 @@ pub fn with_stage(c: Control, g: Stage) -> Control
 
 // A counter, by its place.
 pub fn counter(s: State, c: usize) -> u64
-    requires { ⌜ c < 13 ⌝ }
+    requires { ⌜ c < R.COUNTERS ⌝ }
     ensures { λ r. ⌜ r ≡ R.counterAt c (s .stats) ⌝ }
 {
     s.stats[c]
@@ -210,7 +231,7 @@ pub fn counter(s: State, c: usize) -> u64
 
 // The state with another value of a counter.
 pub fn with_counter(s: State, c: usize, x: u64) -> State
-    requires { ⌜ c < 13 ⌝ }
+    requires { ⌜ c < R.COUNTERS ⌝ }
     ensures { λ r. ⌜ r ≡ R.withStats s (R.withCounterAt c x (s .stats)) ⌝ }
 {
     let mut next = s;
@@ -220,7 +241,7 @@ pub fn with_counter(s: State, c: usize, x: u64) -> State
 
 // The state with a counter gone up by n, modulo 2^64.
 pub fn count(s: State, c: usize, n: u64) -> State
-    requires { ⌜ c < 13 ⌝ }
+    requires { ⌜ c < R.COUNTERS ⌝ }
     ensures { λ r. ⌜ r ≡ R.withStats s (R.raised c n (s .stats)) ⌝ }
 {
     let sum = wrapping_add_u64(counter(s, c), n);
@@ -241,8 +262,8 @@ pub fn after_run(s: State, ran: Ran) -> State
 }
 
 // Stores a little-endian word from index `at` on.
-fn put_word(setups: &mut [u8; 2056], at: usize, v: u32)
-    requires { ⌜ at + 4 ≤ 2056 ⌝ }
+fn put_word(setups: &mut [u8; SETUP_BYTES], at: usize, v: u32)
+    requires { ⌜ at + 4 ≤ Sizes.SETUP-BYTES ⌝ }
     ensures { λ _. ⌜ now (setups .exit) ≡ sets (now (setups .entry)) at (littleBytes v) ⌝ }
 {
     setups[at] = (v % 256) as u8;
@@ -252,16 +273,16 @@ fn put_word(setups: &mut [u8; 2056], at: usize, v: u32)
 }
 
 // The little-endian word of the setup queue from index `at` on.
-pub fn word_from(setups: &[u8; 2056], at: usize) -> u32
-    requires { ⌜ at + 4 ≤ 2056 ⌝ }
+pub fn word_from(setups: &[u8; SETUP_BYTES], at: usize) -> u32
+    requires { ⌜ at + 4 ≤ Sizes.SETUP-BYTES ⌝ }
     ensures { λ r. ⌜ r ≡ little (now (setups .entry)) at ⌝ }
 {
     bus::word(setups[at + 3], setups[at + 2], setups[at + 1], setups[at])
 }
 
 // Stores a setup, by its two words, behind the first `count`.
-pub fn put_setup(setups: &mut [u8; 2056], count: usize, first: u32, second: u32)
-    requires { ⌜ count < 257 ⌝ }
+pub fn put_setup(setups: &mut [u8; SETUP_BYTES], count: usize, first: u32, second: u32)
+    requires { ⌜ count < Sizes.SETUPS ⌝ }
     ensures { λ _. ⌜ now (setups .exit) ≡ sets (now (setups .entry)) (8 * count) (setupBytes first second) ⌝ }
 {
     put_word(setups, 8 * count, first);

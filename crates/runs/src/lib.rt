@@ -80,7 +80,7 @@ fn take_in(
 {
     let at = t.at;
     let total = usbdev::total(tok);
-    let keep = dtd::fewer(total as usize, limit - at);
+    let keep = bits::least(total as usize, limit - at);
     let next = t.next;
     let ps = transfer::pointers_for(&*dynamic, &*sram, &*page, bits::clear(next, 0x1F), keep);
     transfer::copy_in(&*dynamic, &*sram, &*page, &ps, keep, out, at);
@@ -216,7 +216,7 @@ fn give_out(
 {
     let at = t.at;
     let next = t.next;
-    let count = dtd::fewer(usbdev::total(tok) as usize, bytes.len() - at);
+    let count = bits::least(usbdev::total(tok) as usize, bytes.len() - at);
     let ps = transfer::pointers_for(&*dynamic, &*sram, &*page, bits::clear(next, 0x1F), count);
     let lost = transfer::copy_out(dynamic, sram, page, &ps, &bytes[at..], count);
     let moved = count as u32;
@@ -326,7 +326,7 @@ fn fill_one(
     requires { ⌜ (limit ≤ length (now out)) × (at ≤ limit) ⌝ }
     ensures { λ r. ⌜ T.FillsOne qh n tok bit limit (shown (dynamic .entry) (sram .entry) (page .entry)) (Stores·bus (shown (dynamic .entry) (sram .entry) (page .entry)) flag) (Stores·bus (shown (dynamic .exit) (sram .exit) (page .exit)) (r .ran .line)) (now (out .entry)) (now (out .exit)) at r ⌝ }
 {
-    let keep = dtd::fewer(usbdev::total(tok) as usize, limit - at);
+    let keep = bits::least(usbdev::total(tok) as usize, limit - at);
     let ps = transfer::pointers_for(&*dynamic, &*sram, &*page, bits::clear(n, 0x1F), keep);
     transfer::copy_in(&*dynamic, &*sram, &*page, &ps, keep, out, at);
     let ran = dtd::take_one(dynamic, sram, page, qh, n, tok, bit, flag);

@@ -19,17 +19,11 @@ fn times_prime(h: u64) -> u64
     std::num::wrapping_add_u64(r, h << 1)
 }
 
-fn wide(b: u8) -> u64
-    ensures { λ r. ⌜ r ≡ b ⌝ }
-{
-    b as u64
-}
-
 // The hash `h` with one more byte.
 pub fn mixed(h: u64, b: u8) -> u64
     ensures { λ r. ⌜ r ≡ F.mixed h b ⌝ }
 {
-    times_prime(h ^ wide(b))
+    times_prime(h ^ bits::widest(b))
 }
 
 // The hash of all bytes of a slice.

@@ -47,10 +47,6 @@ fn digit(b: u8) -> u8
     }
 }
 
-fn wide(b: u8) -> u64 {
-    b as u64
-}
-
 // The number whose digits stand from `start` to `end`.
 fn ended(value: u64, start: usize, end: usize) -> Number
     ensures { λ r. ⌜ r .next ≤ end ⌝ }
@@ -74,7 +70,7 @@ fn digits(text: &[u8], start: usize) -> Number
         if d == 16 {
             return ended(value, start, i);
         }
-        value = (value << 4) | wide(d);
+        value = (value << 4) | bits::widest(d);
         i += 1;
     }
     ended(value, start, i)

@@ -16,12 +16,8 @@ pub fn append(out: &mut [u8; 65536], at: usize, text: &[u8]) -> usize
     requires { ⌜ at + length (now text) ≤ 65536 ⌝ }
     ensures { λ r. ⌜ r ≡ at + length (now (text .entry)) ⌝ }
 {
-    let mut i = 0;
-    while i < text.len() {
-        out[at + i] = text[i];
-        i += 1;
-    }
-    at + i
+    bus::put_bytes(out, at, text);
+    at + text.len()
 }
 
 fn glyph(d: u8) -> u8

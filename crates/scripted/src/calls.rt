@@ -78,7 +78,7 @@ pub fn fresh(
 pub fn ring_words(space: usize, most: usize) -> usize
     ensures { λ r. ⌜ r ≤ most ⌝ }
 {
-    log::at_most(space, most / 12) * 12
+    bits::least(space, most / 12) * 12
 }
 
 fn with_state(run: Run, state: State) -> Run {
@@ -166,7 +166,7 @@ fn show_answer(run: Run, line: &[u8], out: &mut [u8; 65536], at: usize) -> Next
 fn device_read(
     run: Run,
     line: &[u8],
-    setups: &[u8; 2056],
+    setups: &[u8; record::SETUP_BYTES],
     page: &[u8],
     out: &mut [u8; 65536],
     at: usize,
@@ -200,8 +200,8 @@ fn device_read(
 fn device_write(
     run: Run,
     line: &[u8],
-    setups: &[u8; 2056],
-    page: &mut [u8; 4096],
+    setups: &[u8; record::SETUP_BYTES],
+    page: &mut [u8; bus::PAGE],
     out: &mut [u8; 65536],
     at: usize,
 ) -> Next
@@ -243,8 +243,8 @@ fn reached(run: Run, out: &[u8; 65536], at: usize, end: usize) -> Next
 fn reach(
     line: &[u8],
     dynamic: &mut [u8],
-    sram: &mut [u8; 65536],
-    page: &mut [u8; 4096],
+    sram: &mut [u8; bus::SRAM],
+    page: &mut [u8; bus::PAGE],
     out: &mut [u8; 65536],
     at: usize,
 ) -> usize
@@ -269,15 +269,15 @@ fn reach_run(
     run: Run,
     line: &[u8],
     dynamic: &mut [u8],
-    sram: &mut [u8; 65536],
-    page: &mut [u8; 4096],
+    sram: &mut [u8; bus::SRAM],
+    page: &mut [u8; bus::PAGE],
     out: &mut [u8; 65536],
     at: usize,
 ) -> Next
     requires { ⌜ at ≤ 40000 ⌝ }
     ensures { λ r. ⌜ r .at ≤ 65536 ⌝ }
 {
-    let length = log::at_most(run.length, dynamic.len());
+    let length = bits::least(run.length, dynamic.len());
     let end = reach(line, &mut dynamic[..length], sram, page, out, at);
     reached(run, &*out, at, end)
 }
@@ -286,10 +286,10 @@ fn reach_run(
 pub fn access(
     run: Run,
     line: &[u8],
-    setups: &[u8; 2056],
+    setups: &[u8; record::SETUP_BYTES],
     dynamic: &mut [u8; 1048576],
-    sram: &mut [u8; 65536],
-    page: &mut [u8; 4096],
+    sram: &mut [u8; bus::SRAM],
+    page: &mut [u8; bus::PAGE],
     out: &mut [u8; 65536],
     at: usize,
 ) -> Next
@@ -320,8 +320,8 @@ fn midi_queue(
     run: Run,
     bytes: &[u8],
     count: usize,
-    setups: &[u8; 2056],
-    midi: &mut [u8; 4096],
+    setups: &[u8; record::SETUP_BYTES],
+    midi: &mut [u8; record::QUEUE],
     out: &mut [u8; 65536],
     at: usize,
 ) -> Next
@@ -347,8 +347,8 @@ fn serial_queue(
     run: Run,
     bytes: &[u8],
     count: usize,
-    setups: &[u8; 2056],
-    serial: &mut [u8; 4096],
+    setups: &[u8; record::SETUP_BYTES],
+    serial: &mut [u8; record::QUEUE],
     out: &mut [u8; 65536],
     at: usize,
 ) -> Next
@@ -370,9 +370,9 @@ fn serial_queue(
 fn send(
     run: Run,
     line: &[u8],
-    setups: &[u8; 2056],
-    midi: &mut [u8; 4096],
-    serial: &mut [u8; 4096],
+    setups: &[u8; record::SETUP_BYTES],
+    midi: &mut [u8; record::QUEUE],
+    serial: &mut [u8; record::QUEUE],
     bytes: &mut [u8; 32768],
     out: &mut [u8; 65536],
     at: usize,
@@ -418,7 +418,7 @@ fn read_frame(line: &[u8]) -> Frame {
 fn frame_give(
     run: Run,
     line: &[u8],
-    setups: &[u8; 2056],
+    setups: &[u8; record::SETUP_BYTES],
     sending: &mut [u32],
     out: &mut [u8; 65536],
     at: usize,
@@ -459,7 +459,7 @@ fn show_frame(words: [u32; 12], out: &mut [u8; 65536], at: usize) -> usize
 // `t`: a frame taken.
 fn frame_take(
     run: Run,
-    setups: &[u8; 2056],
+    setups: &[u8; record::SETUP_BYTES],
     received: &[u32],
     out: &mut [u8; 65536],
     at: usize,
@@ -508,7 +508,7 @@ fn drain_one(
     before: Drained,
     spans: usize,
     packer: Packer,
-    setups: &[u8; 2056],
+    setups: &[u8; record::SETUP_BYTES],
     received: &[u32],
 ) -> Drained {
     let taken = usbhost::take_frame(before.state, spans, packer, setups, received);
@@ -525,7 +525,7 @@ fn drain(
     state: State,
     spans: usize,
     packer: Packer,
-    setups: &[u8; 2056],
+    setups: &[u8; record::SETUP_BYTES],
     received: &[u32],
     most: u64,
 ) -> Drained {
@@ -569,7 +569,7 @@ fn show_drained(run: Run, drained: Drained, out: &mut [u8; 65536], at: usize) ->
 fn frames_take(
     run: Run,
     line: &[u8],
-    setups: &[u8; 2056],
+    setups: &[u8; record::SETUP_BYTES],
     received: &[u32],
     out: &mut [u8; 65536],
     at: usize,
@@ -596,7 +596,7 @@ fn frames_take(
 fn take(
     run: Run,
     line: &[u8],
-    setups: &[u8; 2056],
+    setups: &[u8; record::SETUP_BYTES],
     received: &[u32],
     out: &mut [u8; 65536],
     at: usize,
@@ -617,11 +617,11 @@ fn take(
 pub fn queue(
     run: Run,
     line: &[u8],
-    setups: &[u8; 2056],
-    midi: &mut [u8; 4096],
-    serial: &mut [u8; 4096],
+    setups: &[u8; record::SETUP_BYTES],
+    midi: &mut [u8; record::QUEUE],
+    serial: &mut [u8; record::QUEUE],
     received: &[u32],
-    sending: &mut [u32; 576000],
+    sending: &mut [u32; record::RING],
     bytes: &mut [u8; 32768],
     out: &mut [u8; 65536],
     at: usize,

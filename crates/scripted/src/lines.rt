@@ -1,6 +1,7 @@
 // A line of a script and its answer; the microframes that a line asks for are run piece by piece, so that the output's buffer can be written between.
 ghost use Prim.Native.Nat.{_+_, _*_, _≤_, _<_};
 ghost use lib.ListN.{length};
+ghost use Rattle.record.specs.Sizes as Sizes;
 use crate::calls;
 use crate::calls::Next;
 use crate::calls::Run;
@@ -29,7 +30,7 @@ pub struct Used {
 // The same of a run with so much memory, after all that came, in its last state. A ring is written from its
 // start on, a frame behind the other, and the frames given are those sent but for the missing ones, and those left.
 pub fn used_by(length: usize, all: Came, state: State) -> Used
-    ensures { λ r. ⌜ ((r .dynamic ≤ 1048576) × (r .receive ≤ 196608)) × ((r .received ≤ 576000) × (r .sending ≤ 576000)) ⌝ }
+    ensures { λ r. ⌜ ((r .dynamic ≤ 1048576) × (r .receive ≤ Sizes.RECEIVE)) × ((r .received ≤ Sizes.RING) × (r .sending ≤ Sizes.RING)) ⌝ }
 {
     let came = wrapping_add_u64(all.midi, all.serial);
     let sent = wrapping_sub_u64(
@@ -38,10 +39,10 @@ pub fn used_by(length: usize, all: Came, state: State) -> Used
     );
     let given = wrapping_add_u64(sent, state.audio.sending.len as u64);
     Used {
-        dynamic: log::at_most(length, 1048576),
-        receive: log::at_most(came as usize, 196608),
-        received: calls::ring_words(state.stats[record::IN_FRAMES] as usize, 576000),
-        sending: calls::ring_words(given as usize, 576000),
+        dynamic: bits::least(length, 1048576),
+        receive: bits::least(came as usize, record::RECEIVE),
+        received: calls::ring_words(state.stats[record::IN_FRAMES] as usize, record::RING),
+        sending: calls::ring_words(given as usize, record::RING),
     }
 }
 
@@ -49,11 +50,11 @@ pub fn used_by(length: usize, all: Came, state: State) -> Used
 pub fn clear_used(
     used: Used,
     dynamic: &mut [u8; 1048576],
-    receive: &mut [u8; 196608],
-    received: &mut [u32; 576000],
-    sending: &mut [u32; 576000],
+    receive: &mut [u8; record::RECEIVE],
+    received: &mut [u32; record::RING],
+    sending: &mut [u32; record::RING],
 )
-    requires { ⌜ ((used .dynamic ≤ 1048576) × (used .receive ≤ 196608)) × ((used .received ≤ 576000) × (used .sending ≤ 576000)) ⌝ }
+    requires { ⌜ ((used .dynamic ≤ 1048576) × (used .receive ≤ Sizes.RECEIVE)) × ((used .received ≤ Sizes.RING) × (used .sending ≤ Sizes.RING)) ⌝ }
 {
     windows::clear(dynamic, used.dynamic);
     windows::clear(receive, used.receive);
@@ -65,32 +66,32 @@ pub fn clear_used(
 pub fn clear_all(
     ended: bool,
     used: Used,
-    setups: &mut [u8; 2056],
-    midi: &mut [u8; 4096],
-    serial: &mut [u8; 4096],
-    device: &mut [u8; 64],
+    setups: &mut [u8; record::SETUP_BYTES],
+    midi: &mut [u8; record::QUEUE],
+    serial: &mut [u8; record::QUEUE],
+    device: &mut [u8; record::DEVICE],
     dynamic: &mut [u8; 1048576],
-    sram: &mut [u8; 65536],
-    page: &mut [u8; 4096],
-    reply: &mut [u8; 65535],
-    config: &mut [u8; 65535],
-    receive: &mut [u8; 196608],
-    received: &mut [u32; 576000],
-    sending: &mut [u32; 576000],
+    sram: &mut [u8; bus::SRAM],
+    page: &mut [u8; bus::PAGE],
+    reply: &mut [u8; record::REPLY],
+    config: &mut [u8; record::REPLY],
+    receive: &mut [u8; record::RECEIVE],
+    received: &mut [u32; record::RING],
+    sending: &mut [u32; record::RING],
 )
-    requires { ⌜ ((used .dynamic ≤ 1048576) × (used .receive ≤ 196608)) × ((used .received ≤ 576000) × (used .sending ≤ 576000)) ⌝ }
+    requires { ⌜ ((used .dynamic ≤ 1048576) × (used .receive ≤ Sizes.RECEIVE)) × ((used .received ≤ Sizes.RING) × (used .sending ≤ Sizes.RING)) ⌝ }
 {
     if !ended {
         return;
     }
-    *setups = [0u8; 2056];
-    *midi = [0u8; 4096];
-    *serial = [0u8; 4096];
-    *device = [0u8; 64];
-    *sram = [0u8; 65536];
-    *page = [0u8; 4096];
-    *reply = [0u8; 65535];
-    *config = [0u8; 65535];
+    *setups = [0u8; record::SETUP_BYTES];
+    *midi = [0u8; record::QUEUE];
+    *serial = [0u8; record::QUEUE];
+    *device = [0u8; record::DEVICE];
+    *sram = [0u8; bus::SRAM];
+    *page = [0u8; bus::PAGE];
+    *reply = [0u8; record::REPLY];
+    *config = [0u8; record::REPLY];
     clear_used(used, dynamic, receive, received, sending);
 }
 
@@ -177,7 +178,7 @@ pub fn observe(
 {
     let state = run.state;
     let packer = run.packer;
-    let length = log::at_most(run.length, dynamic.len());
+    let length = bits::least(run.length, dynamic.len());
     let space = calls::ring_words(run.space, sending.len());
     let mut end = text::put(out, at, b'o');
     end = log::show_record(state, packer, run.all, out, end);
@@ -250,11 +251,11 @@ pub fn is_access(live: bool, stopped: bool, line: &[u8]) -> bool {
 pub fn answer(
     run: Run,
     line: &[u8],
-    setups: &[u8; 2056],
-    midi: &mut [u8; 4096],
-    serial: &mut [u8; 4096],
-    received: &[u32; 576000],
-    sending: &mut [u32; 576000],
+    setups: &[u8; record::SETUP_BYTES],
+    midi: &mut [u8; record::QUEUE],
+    serial: &mut [u8; record::QUEUE],
+    received: &[u32; record::RING],
+    sending: &mut [u32; record::RING],
     bytes: &mut [u8; 32768],
     out: &mut [u8; 65536],
     at: usize,
@@ -313,17 +314,17 @@ fn turned_none(run: Run, time: u64) -> Turned {
 pub fn go_on(
     run: Run,
     asked: Asked,
-    setups: &mut [u8; 2056],
-    midi: &mut [u8; 4096],
-    serial: &mut [u8; 4096],
-    device: &mut [u8; 64],
+    setups: &mut [u8; record::SETUP_BYTES],
+    midi: &mut [u8; record::QUEUE],
+    serial: &mut [u8; record::QUEUE],
+    device: &mut [u8; record::DEVICE],
     dynamic: &mut [u8],
-    sram: &mut [u8; 65536],
-    page: &mut [u8; 4096],
-    reply: &mut [u8; 65535],
-    config: &mut [u8; 65535],
-    receive: &mut [u8; 196608],
-    received: &mut [u32; 576000],
+    sram: &mut [u8; bus::SRAM],
+    page: &mut [u8; bus::PAGE],
+    reply: &mut [u8; record::REPLY],
+    config: &mut [u8; record::REPLY],
+    receive: &mut [u8; record::RECEIVE],
+    received: &mut [u32; record::RING],
     sending: &[u32],
     out: &mut [u8; 65536],
     from: usize,
@@ -331,7 +332,7 @@ pub fn go_on(
     requires { ⌜ from ≤ 65536 ⌝ }
     ensures { λ r. ⌜ r .at ≤ 65536 ⌝ }
 {
-    let memory = log::at_most(run.length, dynamic.len());
+    let memory = bits::least(run.length, dynamic.len());
     let space = calls::ring_words(run.space, sending.len());
     let settings = run.settings;
     let mut state = run.state;

@@ -13,6 +13,9 @@ use record::State;
 use script::hash;
 use script::text;
 
+// How many counters the log shows: those of the source.
+const STATS: usize = 13;
+
 // Bytes that came in, of MIDI and of serial: how many, and their hash.
 pub struct Came {
     pub midi: u64,
@@ -28,16 +31,6 @@ pub fn nothing_came() -> Came {
         serial: 0,
         serial_hash: hash::START,
     }
-}
-
-// The smaller of two numbers.
-pub fn at_most(n: usize, most: usize) -> usize
-    ensures { λ r. ⌜ r ≤ most ⌝ }
-{
-    if n < most {
-        return n;
-    }
-    most
 }
 
 // The hash `h` with the first `count` bytes of a buffer behind it, or all of it.
@@ -261,7 +254,7 @@ fn show_stats(state: State, out: &mut [u8; 65536], at: usize) -> usize
 {
     let mut end = at;
     let mut k = 0;
-    while k < record::COUNTERS {
+    while k < STATS {
         end = text::field(out, end, state.stats[k]);
         k += 1;
     }
@@ -342,7 +335,7 @@ pub fn show_queues(
     let mut end = text::field(
         out,
         at,
-        first_hash(setups, 8 * at_most(lengths.setups, 257)),
+        first_hash(setups, 8 * bits::least(lengths.setups, record::SETUPS)),
     );
     end = text::field(out, end, first_hash(midi, lengths.midi));
     text::field(out, end, first_hash(serial, lengths.serial))

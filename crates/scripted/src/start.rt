@@ -118,7 +118,7 @@ fn read_sizes(line: &[u8]) -> Sizes {
     let space = parse::read_number(line, length.next);
     let bytes = length.value as usize;
     let frames = space.value as usize;
-    let fits = bus::power(bytes) & ((7 <= frames) & (frames <= 48000));
+    let fits = bus::power(bytes) & ((7 <= frames) & (frames <= record::RING_FRAMES));
     Sizes {
         good: length.good & (space.good & fits),
         length: bytes,

@@ -6,6 +6,7 @@ use lib.ListN.{length, replicate}
 use Rattle.record.specs.declared.Ring.{Ring}
 use Rattle.record.specs.declared.Audio.{Audio}
 use Rattle.record.specs.World.{World, withSendingRing, inAudio}
+use Rattle.record.specs.Sizes.{FRAMES}
 
 -- the block begins with the bytes p, and the rest of its 2,048 bytes is zeros
 pub record Begun (b p : List ℕ) : Type 0 where
@@ -16,7 +17,7 @@ pub record Begun (b p : List ℕ) : Type 0 where
 pub record Sends (r : Ring) (capacity : ℕ) (l : List ℕ) : Type 0 where
   pub start : r .start < capacity
   pub len : r .len ≤ capacity
-  pub few : capacity ≤ 48000
+  pub few : capacity ≤ FRAMES
   pub is : capacity ≡ length l / 12
 
 -- usbhost.rs 926-931: the first 32 bytes of a block

@@ -5,6 +5,7 @@ ghost use Prim.Native.Nat.{ℕ, _+_, _*_, _<_, _≤_};
 ghost use lib.ListN.{length, take, drop, replicate};
 ghost use Rattle.record.specs.World.{World};
 ghost use Rattle.model.specs.Audio.{channelBytes, frameBytes};
+ghost use Rattle.record.specs.Sizes as Sizes;
 ghost use Rattle.sending.specs.Promises.{Begun, Sends, headerOf, atSending};
 use record::Audio;
 use record::Ring;
@@ -23,10 +24,10 @@ fn encode_header(block: &mut [u8], counter: u16)
 // The words of the frame at a place of the sending ring go to the block from index `from` on; past its twelve words the block keeps its zeros.
 fn encode_frame(block: &mut [u8], from: usize, channels: usize, sending: &[u32], at: usize)
     requires { ⌜ (length (now block) ≡ 2048) × (from + 4 * channels ≤ 2048) ⌝ }
-    requires { ⌜ (at * 12 + 12 ≤ length (now sending)) × (at < 48000) ⌝ }
+    requires { ⌜ (at * 12 + 12 ≤ length (now sending)) × (at < Sizes.FRAMES) ⌝ }
     ensures { λ _. ⌜ ((p : List ℕ) → length p ≡ from → Begun (now (block .entry)) p → Begun (now (block .exit)) (p ++ channelBytes channels (take 12 (drop (at * 12) (now (sending .entry)))))) ⌝ }
 {
-    let count = dtd::fewer(channels, Audio::CHANNELS);
+    let count = bits::least(channels, Audio::CHANNELS);
     let mut c = 0;
     while c < count {
         bus::put_at(block, from + 4 * c, sending[Audio::CHANNELS * at + c]);
@@ -40,7 +41,7 @@ fn encode_frames(block: &mut [u8], channels: usize, sending: &[u32], ring: Ring,
     requires { ⌜ Sends ring capacity (now sending) ⌝ }
     ensures { λ _. ⌜ ((w : World) (p : List ℕ) → length p ≡ 32 → Begun (now (block .entry)) p → Begun (now (block .exit)) (p ++ frameBytes 0 7 (atSending w ring channels (now (sending .entry))))) ⌝ }
 {
-    let count = dtd::fewer(ring.len, Audio::FRAMES_PER_BLOCK);
+    let count = bits::least(ring.len, Audio::FRAMES_PER_BLOCK);
     let mut f = 0;
     while f < count {
         let at = blocks::place(ring.start, f, capacity);

@@ -80,11 +80,7 @@ fn copy(target: &mut [u8], source: &[u8])
     requires { ⌜ length (now target) ≡ length (now source) ⌝ }
     ensures { λ r. ⌜ now (target .exit) ≡ now (source .entry) ⌝ }
 {
-    let mut i = 0;
-    while i < target.len() {
-        target[i] = source[i];
-        i += 1;
-    }
+    bytes::copy(source, target);
 }
 
 // Makes every byte of target 0.

@@ -8,6 +8,7 @@ use lib.ListN as L
 use lib.ListN.{length, getD}
 use Rattle.bits.specs.Pick.{pick}
 use Rattle.bits.specs.Word.{clear, set}
+use Rattle.bus.specs.Sized.{PAGE}
 use Rattle.bus.specs.Words.{wordAt}
 use Rattle.usbdev.specs.declared.Value.{Value}
 use Rattle.usbdev.specs.declared.Written.{Written}
@@ -18,11 +19,11 @@ use Rattle.usbdev.specs.Registers.{Registers, registers, put, PageStep, 
 
 -- whether an access of a size lies aligned and whole in the page
 unfoldable pub fits : ℕ → ℕ → Bool
-fits off size = (eqb size 1 || (eqb size 2 || eqb size 4)) && (eqb (off % size) 0 && leb (off + size) 4096)
+fits off size = (eqb size 1 || (eqb size 2 || eqb size 4)) && (eqb (off % size) 0 && leb (off + size) PAGE)
 
 -- 1 for a page of another length, 4 for an access that does not fit, 0 for none
 unfoldable pub refusal : ℕ → ℕ → ℕ → ℕ
-refusal len off size = pick (eqb len 4096) (pick (fits off size) 0 4) 1
+refusal len off size = pick (eqb len PAGE) (pick (fits off size) 0 4) 1
 
 -- ---- reads
 

@@ -9,6 +9,7 @@ ghost use Rattle.usbdev.specs.Registers.{registers};
 ghost use Rattle.usbdev.specs.Access as Access;
 ghost use Rattle.usbdev.specs.Transfer as T;
 ghost use Rattle.usbdev.specs.Checked as C;
+ghost use Rattle.bus.specs.Sized.{PAGE};
 use bus::put_at;
 use bus::word_at;
 
@@ -54,7 +55,7 @@ pub struct Written {
 
 // The interrupt line: an enabled USBSTS bit, or an enabled OTGSC status bit.
 pub fn line(page: &[u8]) -> bool
-    requires { ⌜ length (now page) ≡ 4096 ⌝ }
+    requires { ⌜ length (now page) ≡ PAGE ⌝ }
     ensures { λ r. ⌜ r ≡ R.lineOf (now (page .entry)) ⌝ }
 {
     if bits::any(word_at(page, USBSTS), word_at(page, USBINTR)) {
@@ -66,7 +67,7 @@ pub fn line(page: &[u8]) -> bool
 
 // Sets bits of USBSTS; the line's flag goes in and follows the line.
 pub fn raise(page: &mut [u8], sts: u32, flag: bool) -> bool
-    requires { ⌜ length (now page) ≡ 4096 ⌝ }
+    requires { ⌜ length (now page) ≡ PAGE ⌝ }
     ensures { λ r. ⌜ registers (now (page .exit)) r ≡ R.done (R.raising sts) (registers (now (page .entry)) flag) ⌝ }
 {
     let old = word_at(&*page, USBSTS);
@@ -90,19 +91,13 @@ fn fits(off: u32, size: u32) -> bool
 fn refusal(len: usize, off: u32, size: u32) -> u8
     ensures { λ r. ⌜ r ≡ Access.refusal len off size ⌝ }
 {
-    if len != 4096 {
+    if len != bus::PAGE {
         return 1;
     }
     if fits(off, size) {
         return 0;
     }
     4
-}
-
-fn wide(b: u8) -> u32
-    ensures { λ r. ⌜ r ≡ b ⌝ }
-{
-    b as u32
 }
 
 fn half_at(page: &[u8], off: usize) -> u32
@@ -114,7 +109,7 @@ fn half_at(page: &[u8], off: usize) -> u32
 
 // A four-byte read.
 fn read_word(page: &[u8], off: usize) -> u32
-    requires { ⌜ (length (now page) ≡ 4096) × (off + 4 ≤ 4096) ⌝ }
+    requires { ⌜ (length (now page) ≡ PAGE) × (off + 4 ≤ PAGE) ⌝ }
     ensures { λ r. ⌜ r ≡ Access.readWord (now (page .entry)) off ⌝ }
 {
     match off {
@@ -126,14 +121,14 @@ fn read_word(page: &[u8], off: usize) -> u32
 
 // An accepted read.
 fn read_sized(page: &[u8], off: usize, size: u32) -> u32
-    requires { ⌜ (length (now page) ≡ 4096) × (off + size ≤ 4096) ⌝ }
+    requires { ⌜ (length (now page) ≡ PAGE) × (off + size ≤ PAGE) ⌝ }
     requires { ⌜ 1 ≤ size ⌝ }
     ensures { λ r. ⌜ r ≡ Access.readSized (now (page .entry)) off size ⌝ }
 {
     match size {
         4 => read_word(page, off),
         2 => half_at(page, off),
-        _ => wide(page[off]),
+        _ => bits::wide(page[off]),
     }
 }
 
@@ -156,7 +151,7 @@ pub fn read(page: &[u8], off: u32, size: u32) -> Value
 
 // Stores what a four-byte write lists, or the word as it is; whether it was listed.
 fn put_listed(page: &mut [u8], off: usize, v: u32) -> bool
-    requires { ⌜ (length (now page) ≡ 4096) × (off + 4 ≤ 4096) ⌝ }
+    requires { ⌜ (length (now page) ≡ PAGE) × (off + 4 ≤ PAGE) ⌝ }
     ensures { λ r. ⌜ (r ≡ Access.listed off) × ((l : Bool) → registers (now (page .exit)) l ≡ R.done (Access.listing off v) (registers (now (page .entry)) l)) ⌝ }
 {
     match off {
@@ -202,7 +197,7 @@ fn written_otgsc(keep: u32, v: u32) -> u32
 
 // A four-byte write.
 fn write_word(page: &mut [u8], off: usize, v: u32, flag: bool) -> bool
-    requires { ⌜ (length (now page) ≡ 4096) × (off + 4 ≤ 4096) ⌝ }
+    requires { ⌜ (length (now page) ≡ PAGE) × (off + 4 ≤ PAGE) ⌝ }
     ensures { λ r. ⌜ registers (now (page .exit)) r ≡ R.done (Access.writingWord off v) (registers (now (page .entry)) flag) ⌝ }
 {
     if put_listed(page, off, v) {
@@ -221,7 +216,7 @@ fn put_half(page: &mut [u8], off: usize, v: u32)
 
 // An accepted write.
 fn write_sized(page: &mut [u8], off: usize, size: u32, v: u32, flag: bool) -> bool
-    requires { ⌜ (length (now page) ≡ 4096) × (off + size ≤ 4096) ⌝ }
+    requires { ⌜ (length (now page) ≡ PAGE) × (off + size ≤ PAGE) ⌝ }
     requires { ⌜ 1 ≤ size ⌝ }
     ensures { λ r. ⌜ registers (now (page .exit)) r ≡ Access.writeSized (registers (now (page .entry)) flag) off size v ⌝ }
 {
@@ -289,7 +284,7 @@ pub fn token_after(tok: u32, n: u32) -> u32
 pub fn checked_line(page: &[u8]) -> Written
     ensures { λ r. ⌜ r ≡ C.lined (now (page .entry)) ⌝ }
 {
-    if page.len() != 4096 {
+    if page.len() != bus::PAGE {
         return Written {
             refusal: 1,
             line: false,
@@ -305,7 +300,7 @@ pub fn checked_line(page: &[u8]) -> Written
 pub fn checked_raise(page: &mut [u8], sts: u32, flag: bool) -> Written
     ensures { λ r. ⌜ (r ≡ C.raised sts (registers (now (page .entry)) flag)) × (now (page .exit) ≡ C.raisedPage sts (registers (now (page .entry)) flag)) ⌝ }
 {
-    if page.len() != 4096 {
+    if page.len() != bus::PAGE {
         return Written {
             refusal: 1,
             line: flag,

@@ -7,12 +7,14 @@ use lib.Dec.{eqb, leb, ltb}
 use lib.ListN.{length, take, drop, replicate}
 use lib.Seq.{sets}
 use Rattle.bits.specs.Pick.{pick}
+use Rattle.bus.specs.Sized.{PAGE}
 use Rattle.usbdev.specs.Registers.{Registers, registers}
 use Rattle.usbdev.specs.Access.{fits, readSized, writeSized}
 use Rattle.midi.specs.Packer.{fedAll, packetCount, packetsOf, roomFor}
 use Rattle.record.specs.Record.{withLine, withMidi, withSerial, withReceived, withSending, withPort, withAudio, withLengths}
 use Rattle.record.specs.World.{ownMidi, ownSerial}
-use Rattle.record.specs.Change.{FRAMES, WORDS, takenFrom}
+use Rattle.record.specs.Sizes.{QUEUE, FRAMES, WORDS, RING}
+use Rattle.record.specs.Change.{takenFrom}
 use Rattle.bounds.specs.Bounds.{inBounds, receivedOk, sendingOk}
 use Rattle.usbhost.specs.declared.Host.{Host}
 use Rattle.usbhost.specs.declared.Sent.{Sent}
@@ -59,7 +61,7 @@ midiSent h bs = answered (midiNumber h bs) (midiQueued h bs) h
 -- ---- serial send: 3, 5, 7
 
 unfoldable pub serialNumber : Host → List ℕ → ℕ
-serialNumber h bs = unless 3 (fewSpans h) (unless 5 (bounded h) (unless 7 (leb (h .lengths .serial + length bs) 4096) 0))
+serialNumber h bs = unless 3 (fewSpans h) (unless 5 (bounded h) (unless 7 (leb (h .lengths .serial + length bs) QUEUE) 0))
 
 -- the bytes behind those that wait (`cdc_to_device`, 285)
 unfoldable pub serialQueued : Host → List ℕ → Host
@@ -74,7 +76,7 @@ serialSent h bs = answered (serialNumber h bs) (serialQueued h bs) h
 
 -- 2: the sending ring has a multiple of 12 words, from 84 to 576,000
 unfoldable pub sendingLength : ℕ → Bool
-sendingLength n = leb 84 n && (leb n 576000 && eqb (n % WORDS) 0)
+sendingLength n = leb 84 n && (leb n RING && eqb (n % WORDS) 0)
 
 unfoldable pub giveNumber : Host → List ℕ → List ℕ → ℕ
 giveNumber h frame sending =
@@ -131,7 +133,7 @@ takenFrame h received =
 
 unfoldable pub accessNumber : Host → ℕ → ℕ → ℕ → ℕ
 accessNumber h len off size =
-    unless 1 (eqb len 4096) (unless 3 (fewSpans h) (unless 4 (fits off size) (unless 5 (bounded h) 0)))
+    unless 1 (eqb len PAGE) (unless 3 (fewSpans h) (unless 4 (fits off size) (unless 5 (bounded h) 0)))
 
 -- a read changes nothing (bus.rs 910-916)
 unfoldable pub deviceRead : Host → List ℕ → ℕ → ℕ → Read

@@ -1,13 +1,14 @@
 -- The call `microframe`: its numbers of refusal, and what an accepted one leaves of the record, the areas and memory
 -- (document 01, "Host record" and "Numbers of refusal").
-use Prim.Native.Nat.{ℕ, _*_}
+use Prim.Native.Nat.{ℕ}
 use mathlib.Core.Bool.{Bool, _&&_}
 use lib.Dec.{eqb, leb, ltb}
 use lib.ListN.{length}
 use Rattle.bits.specs.Pick.{pick}
 use Rattle.bus.specs.Sized.{isSized}
 use Rattle.record.specs.World.{Lent, World, world}
-use Rattle.record.specs.Change.{FRAMES, WORDS, left}
+use Rattle.record.specs.Sizes.{REPLY, RECEIVE, RING}
+use Rattle.record.specs.Change.{left}
 use Rattle.bounds.specs.Bounds.{MOST, areasOk, receivedOk, sendingOk}
 use Rattle.model.specs.Microframe as M
 use Rattle.usbhost.specs.declared.Host.{Host}
@@ -26,8 +27,8 @@ hostIn w = hostOf (w .state) (w .settings) (w .packer) (w .own)
 -- number 2, by the lengths: reply and configuration of at least 65,535 bytes, receive area of at least 196,608, the two rings
 unfoldable pub lengthsOk : ℕ → ℕ → ℕ → ℕ → ℕ → Bool
 lengthsOk reply config receive received sending =
-    leb 65535 reply
-    && (leb 65535 config && (leb 196608 receive && (eqb received (FRAMES * WORDS) && sendingLength sending)))
+    leb REPLY reply
+    && (leb REPLY config && (leb RECEIVE receive && (eqb received RING && sendingLength sending)))
 
 abbrev pub areaLengths : Lent → Bool
 areaLengths l = lengthsOk (length (l .reply)) (length (l .config)) (length (l .receive)) (length (l .received)) (length (l .sending))

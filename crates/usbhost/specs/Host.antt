@@ -12,7 +12,9 @@ use Rattle.record.specs.declared.Phase.the-variants.{Idle}
 use Rattle.record.specs.declared.Stage.the-variants.{Data}
 use Rattle.record.specs.declared.Settings.{Settings}
 use Rattle.record.specs.declared.State.{State}
+use Rattle.record.specs.Record.{COUNTERS}
 use Rattle.record.specs.World.{Own, own}
+use Rattle.record.specs.Sizes.{SETUP-BYTES, QUEUE, DEVICE}
 use Rattle.usbhost.specs.declared.Host.{Host}
 use Rattle.usbhost.specs.declared.Created.{Created}
 
@@ -78,14 +80,14 @@ newHost c =
           };
       control = record { on = false; stage = Data; first = 0; second = 0; got = 0; t0 = 0 };
       timers = record { zero = none; one = none };
-      stats = replicate 13 0;
+      stats = replicate COUNTERS 0;
       lengths = record { setups = 0; midi = 0; serial = 0; device = 0; config = 0 };
       packer = fresh;
       settings = c;
-      setups = replicate 2056 0;
-      midi = replicate 4096 0;
-      serial = replicate 4096 0;
-      device = replicate 64 0;
+      setups = replicate SETUP-BYTES 0;
+      midi = replicate QUEUE 0;
+      serial = replicate QUEUE 0;
+      device = replicate DEVICE 0;
     }
 
 -- number 3: more than 16 gone spans; the answer's host is then that of no settings

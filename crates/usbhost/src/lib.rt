@@ -22,10 +22,17 @@ use midi::Packer;
 use record::Answer;
 use record::Audio;
 use record::Control;
+use record::DEVICE;
 use record::Lengths;
 use record::Phase;
 use record::Port;
+use record::QUEUE;
+use record::RECEIVE;
+use record::REPLY;
+use record::RING;
+use record::RING_FRAMES;
 use record::Ring;
+use record::SETUP_BYTES;
 use record::Settings;
 use record::Span;
 use record::Stage;
@@ -43,10 +50,10 @@ pub struct Host {
     lengths: Lengths,
     packer: Packer,
     settings: Settings,
-    setups: [u8; 2056],
-    midi: [u8; 4096],
-    serial: [u8; 4096],
-    device: [u8; 64],
+    setups: [u8; SETUP_BYTES],
+    midi: [u8; QUEUE],
+    serial: [u8; QUEUE],
+    device: [u8; DEVICE],
 }
 
 // The answer of `new`: 0 or 3, and the host.
@@ -125,18 +132,6 @@ fn first_of(ok: bool, next: u8, number: u8) -> u8
     ensures { λ r. ⌜ r ≡ pick ok next number ⌝ }
 {
     if ok { next } else { number }
-}
-
-// Stores bytes from a place on.
-fn put_bytes(queue: &mut [u8; 4096], at: usize, bytes: &[u8])
-    requires { ⌜ at + length (now bytes) ≤ 4096 ⌝ }
-    ensures { λ _. ⌜ now (queue .exit) ≡ sets (now (queue .entry)) at (now (bytes .entry)) ⌝ }
-{
-    let mut i = 0;
-    while i < bytes.len() {
-        queue[at + i] = bytes[i];
-        i += 1;
-    }
 }
 
 // Stores words from a place on.
@@ -264,10 +259,10 @@ fn host_of(
     s: State,
     c: Settings,
     p: Packer,
-    setups: [u8; 2056],
-    midi: [u8; 4096],
-    serial: [u8; 4096],
-    device: [u8; 64],
+    setups: [u8; SETUP_BYTES],
+    midi: [u8; QUEUE],
+    serial: [u8; QUEUE],
+    device: [u8; DEVICE],
 ) -> Host
     ensures { λ r. ⌜ r ≡ hostOf s c p (own setups midi serial device) ⌝ }
 {
@@ -304,14 +299,14 @@ fn new_host(c: Settings) -> Host
         c,
         Packer::new(),
         [0; 2056],
-        [0; 4096],
-        [0; 4096],
-        [0; 64],
+        [0; QUEUE],
+        [0; QUEUE],
+        [0; DEVICE],
     )
 }
 
 // Numbers 3 and 5 of a record, or 0.
-fn record_number(s: State, spans: usize, p: Packer, setups: &[u8; 2056]) -> u8
+fn record_number(s: State, spans: usize, p: Packer, setups: &[u8; SETUP_BYTES]) -> u8
     ensures { λ r. ⌜ r ≡ unless 3 (leb spans 16) (unless 5 (inBounds s p (now (setups .entry))) 0) ⌝ }
 {
     let five = first_of(bounds::in_bounds(s, p, setups), 0, 5);
@@ -324,8 +319,8 @@ pub fn send_midi(
     spans: usize,
     p: Packer,
     bytes: &[u8],
-    setups: &[u8; 2056],
-    midi: &mut [u8; 4096],
+    setups: &[u8; SETUP_BYTES],
+    midi: &mut [u8; QUEUE],
 ) -> MidiSent
     ensures { λ r. ⌜ MidiPromise s spans p (now (bytes .entry)) (now (setups .entry)) (now (midi .entry)) r (now (midi .exit)) ⌝ }
 {
@@ -355,8 +350,8 @@ pub fn send_serial(
     spans: usize,
     p: Packer,
     bytes: &[u8],
-    setups: &[u8; 2056],
-    serial: &mut [u8; 4096],
+    setups: &[u8; SETUP_BYTES],
+    serial: &mut [u8; QUEUE],
 ) -> Stored
     ensures { λ r. ⌜ SerialPromise s spans p (now (bytes .entry)) (now (setups .entry)) (now (serial .entry)) r (now (serial .exit)) ⌝ }
 {
@@ -368,13 +363,13 @@ pub fn send_serial(
         };
     }
     let held = s.lengths.serial;
-    if 4096 - held < bytes.len() {
+    if QUEUE - held < bytes.len() {
         return Stored {
             refusal: 7,
             state: s,
         };
     }
-    put_bytes(serial, held, bytes);
+    bus::put_bytes(serial, held, bytes);
     let after = held + bytes.len();
     let mut next = s;
     next.lengths.serial = after;
@@ -388,7 +383,7 @@ pub fn send_serial(
 fn sending_length(n: usize) -> bool
     ensures { λ r. ⌜ r ≡ sendingLength n ⌝ }
 {
-    (Host::FRAMES_PER_BLOCK * Host::CHANNELS <= n) & ((n <= 576_000) & (n % Host::CHANNELS == 0))
+    (Host::FRAMES_PER_BLOCK * Host::CHANNELS <= n) & ((n <= RING) & (n % Host::CHANNELS == 0))
 }
 
 // Numbers 2, 3, 5 and 7 of a frame given, or 0.
@@ -397,7 +392,7 @@ fn give_number(
     spans: usize,
     p: Packer,
     frame: &[u32],
-    setups: &[u8; 2056],
+    setups: &[u8; SETUP_BYTES],
     sending: &[u32],
 ) -> u8
     ensures { λ r. ⌜ r ≡ giveNumber (bare s spans p (now (setups .entry))) (now (frame .entry)) (now (sending .entry)) ⌝ }
@@ -419,7 +414,7 @@ pub fn give_frame(
     spans: usize,
     p: Packer,
     frame: &[u32],
-    setups: &[u8; 2056],
+    setups: &[u8; SETUP_BYTES],
     sending: &mut [u32],
 ) -> Stored
     ensures { λ r. ⌜ GivePromise s spans p (now (frame .entry)) (now (setups .entry)) (now (sending .entry)) r (now (sending .exit)) ⌝ }
@@ -446,15 +441,21 @@ pub fn give_frame(
 }
 
 // Numbers 2, 3 and 5 of a frame taken, or 0.
-fn take_number(s: State, spans: usize, p: Packer, setups: &[u8; 2056], received: &[u32]) -> u8
+fn take_number(
+    s: State,
+    spans: usize,
+    p: Packer,
+    setups: &[u8; SETUP_BYTES],
+    received: &[u32],
+) -> u8
     ensures { λ r. ⌜ r ≡ takeNumber (bare s spans p (now (setups .entry))) (now (received .entry)) ⌝ }
 {
     let ring = s.audio.received;
     let bounded = bounds::in_bounds(s, p, setups);
-    let inside = bounds::ring_ok(ring, 48_000);
+    let inside = bounds::ring_ok(ring, RING_FRAMES);
     let five = first_of(bounded & inside, 0, 5);
     let three = first_of(spans <= 16, five, 3);
-    first_of(received.len() == 576_000, three, 2)
+    first_of(received.len() == RING, three, 2)
 }
 
 // No frame: the call is refused, or the ring is empty.
@@ -474,7 +475,7 @@ fn lengths_ok(reply: usize, config: usize, receive: usize, received: usize, send
     ensures { λ r. ⌜ r ≡ lengthsOk reply config receive received sending ⌝ }
 {
     let ring = sending_length(sending);
-    (65535 <= reply) & ((65535 <= config) & ((196608 <= receive) & ((received == 576000) & ring)))
+    (REPLY <= reply) & ((REPLY <= config) & ((RECEIVE <= receive) & ((received == RING) & ring)))
 }
 
 // Numbers 1, 2, 3, 5 and 6 of a microframe by their tests, or 0.
@@ -492,7 +493,7 @@ fn frame_number(sized: bool, lengths: bool, few: bool, bounded: bool, before: bo
 fn frame_bounds(
     s: State,
     p: Packer,
-    setups: &[u8; 2056],
+    setups: &[u8; SETUP_BYTES],
     reply: usize,
     config: usize,
     sending: usize,
@@ -503,7 +504,7 @@ fn frame_bounds(
     let ring = s.audio.sending;
     let bounded = bounds::in_bounds(s, p, setups);
     let areas = bounds::areas_ok(s, reply, config);
-    let heard = bounds::ring_ok(received, 48000);
+    let heard = bounds::ring_ok(received, RING_FRAMES);
     let sent = bounds::ring_ok(ring, sending / Host::CHANNELS);
     bounded & (areas & (heard & sent))
 }
@@ -513,7 +514,7 @@ fn microframe_number(
     s: State,
     spans: usize,
     p: Packer,
-    setups: &[u8; 2056],
+    setups: &[u8; SETUP_BYTES],
     dynamic: &[u8],
     sram: &[u8],
     page: &[u8],
@@ -562,10 +563,10 @@ pub fn run_microframe(
     s: State,
     c: Settings,
     p: Packer,
-    setups: &mut [u8; 2056],
-    midi: &mut [u8; 4096],
-    serial: &mut [u8; 4096],
-    device: &mut [u8; 64],
+    setups: &mut [u8; SETUP_BYTES],
+    midi: &mut [u8; QUEUE],
+    serial: &mut [u8; QUEUE],
+    device: &mut [u8; DEVICE],
     dynamic: &mut [u8],
     sram: &mut [u8],
     page: &mut [u8],
@@ -628,7 +629,7 @@ pub fn take_frame(
     s: State,
     spans: usize,
     p: Packer,
-    setups: &[u8; 2056],
+    setups: &[u8; SETUP_BYTES],
     received: &[u32],
 ) -> TakenFrame
     ensures { λ r. ⌜ TakePromise s spans p (now (setups .entry)) (now (received .entry)) r ⌝ }
@@ -643,7 +644,7 @@ pub fn take_frame(
         return no_frame(0, true, s);
     }
     let frame = frame_at(received, start * Host::CHANNELS);
-    let second = (start + 1) % 48_000;
+    let second = (start + 1) % RING_FRAMES;
     let after = held - 1;
     let mut next = s;
     next.audio.received.start = second;
@@ -661,7 +662,7 @@ fn access_number(
     s: State,
     spans: usize,
     p: Packer,
-    setups: &[u8; 2056],
+    setups: &[u8; SETUP_BYTES],
     page: &[u8],
     off: u32,
     size: u32,
@@ -672,7 +673,7 @@ fn access_number(
     let five = first_of(bounds::in_bounds(s, p, setups), 0, 5);
     let four = first_of(seen.refusal == 0, five, 4);
     let three = first_of(spans <= 16, four, 3);
-    first_of(page.len() == 4096, three, 1)
+    first_of(page.len() == bus::PAGE, three, 1)
 }
 
 // What the device reads on the register page.
@@ -680,7 +681,7 @@ pub fn read_device(
     s: State,
     spans: usize,
     p: Packer,
-    setups: &[u8; 2056],
+    setups: &[u8; SETUP_BYTES],
     page: &[u8],
     off: u32,
     size: u32,
@@ -702,7 +703,7 @@ pub fn write_device(
     s: State,
     spans: usize,
     p: Packer,
-    setups: &[u8; 2056],
+    setups: &[u8; SETUP_BYTES],
     page: &mut [u8],
     off: u32,
     size: u32,

@@ -4,8 +4,8 @@ use borrow.Author.Needs.{needs}
 use Rattle.audio.proofs.after_block.Statement.{statement}
 use Rattle.audio.proofs.after_block.Tie as tie
 
-fewer-requires : tie.Need-fewer-requires
-fewer-requires c κs = search needs
+least-requires : tie.Need-least-requires
+least-requires c κs = search needs
 
 sub-missing : tie.Need-sub-missing
 sub-missing c = search needs
@@ -37,13 +37,13 @@ count-requires-3 c κs = search needs
 returns : tie.Need-returns
 returns c =
     let a = c .before .before .before .before .before .before .before .before .before .before .before .before .before .args in
-    sent-as (a .s) (a .capacity) _ _ _ (c .before .before .before .before .before .before .before .before .before .before .before .fewer .ensures) (c .before .before .before .before .before .before .before .before .before .before .place .ensures) (c .before .before .before .before .before .before .before .before .before .wrapping-add-u16 .ensures) (c .before .before .before .before .before .before .count .ensures) (c .before .before .before .before .before .count2 .ensures) (c .before .before .before .before .count3 .ensures)
+    sent-as (a .s) (a .capacity) _ _ _ (c .before .before .before .before .before .before .before .before .before .before .before .least .ensures .0) (c .before .before .before .before .before .before .before .before .before .before .place .ensures) (c .before .before .before .before .before .before .before .before .before .wrapping-add-u16 .ensures) (c .before .before .before .before .before .before .count .ensures) (c .before .before .before .before .before .count2 .ensures) (c .before .before .before .before .count3 .ensures)
 
 pub after-block-spec : {M : Type 1} → statement M
 after-block-spec =
     tie.close
     (tie.spec
-    fewer-requires
+    least-requires
     sub-missing
     place-requires
     cast-wrapping-add-u16

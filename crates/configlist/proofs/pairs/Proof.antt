@@ -13,20 +13,20 @@ abbrev μ-loop : tie.MeasureT-loop
 loop-holds : tie.Need-loop-holds Inv-loop μ-loop
 loop-holds c = search needs
 
-element-copy-out-wide : tie.Need-element-copy-out-wide Inv-loop μ-loop
-element-copy-out-wide c = search needs
+element-copy-out-widest : tie.Need-element-copy-out-widest Inv-loop μ-loop
+element-copy-out-widest c = search needs
 
-wide-requires : tie.Need-wide-requires Inv-loop μ-loop
-wide-requires c κs = search needs
+widest-requires : tie.Need-widest-requires Inv-loop μ-loop
+widest-requires c κs = search needs
 
 number-requires : tie.Need-number-requires Inv-loop μ-loop
 number-requires c κs = search needs
 
-element-copy-out-wide-2 : tie.Need-element-copy-out-wide-2 Inv-loop μ-loop
-element-copy-out-wide-2 c = search needs
+element-copy-out-widest-2 : tie.Need-element-copy-out-widest-2 Inv-loop μ-loop
+element-copy-out-widest-2 c = search needs
 
-wide-requires-2 : tie.Need-wide-requires-2 Inv-loop μ-loop
-wide-requires-2 c κs = search needs
+widest-requires-2 : tie.Need-widest-requires-2 Inv-loop μ-loop
+widest-requires-2 c κs = search needs
 
 number-requires-2 : tie.Need-number-requires-2 Inv-loop μ-loop
 number-requires-2 c κs = search needs
@@ -50,11 +50,11 @@ pairs-spec =
     Inv-loop
     μ-loop
     loop-holds
-    element-copy-out-wide
-    wide-requires
+    element-copy-out-widest
+    widest-requires
     number-requires
-    element-copy-out-wide-2
-    wide-requires-2
+    element-copy-out-widest-2
+    widest-requires-2
     number-requires-2
     add-i
     loop-less

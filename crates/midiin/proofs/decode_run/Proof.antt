@@ -21,37 +21,37 @@ loop-holds c =
     let a = c .before .before .before .before .before .args in
     (run-first (memory (a .dynamic .now) (a .sram .now) (a .page .now)) (a .pointers .now) (a .total) (c .before .before .before .before .before .pre .1 .1), c .before .before .before .before .before .pre .1 .0 .1)
 
-sub-fewer : tie.Need-sub-fewer Inv-loop μ-loop
-sub-fewer c = omega arith
+sub-least : tie.Need-sub-least Inv-loop μ-loop
+sub-least c = omega arith
 
-fewer-requires : tie.Need-fewer-requires Inv-loop μ-loop
-fewer-requires c κs = tt
+least-requires : tie.Need-least-requires Inv-loop μ-loop
+least-requires c κs = tt
 
 slice-relend-prefix-decode-some : tie.Need-slice-relend-prefix-decode-some Inv-loop μ-loop
 slice-relend-prefix-decode-some c =
     let a = c .before .before .before .before .before .before .before .before .args in
     let l = c .before .before .loop in
-    let n = c .fewer .result in
+    let n = c .least .result in
     let goes = c .before .loop-test .taken in
-    let is = c .fewer .ensures in
+    let is = c .least .ensures .0 in
     omega (arith, piece-few (a .total) (l .from) n goes is, l .inv .1)
 
 slice-aggregate-decode-some : tie.Need-slice-aggregate-decode-some Inv-loop μ-loop
 slice-aggregate-decode-some c =
     let a = c .before .before .before .before .before .before .before .before .before .args in
     let l = c .before .before .before .loop in
-    let n = c .before .fewer .result in
+    let n = c .before .least .result in
     let goes = c .before .before .loop-test .taken in
-    let is = c .before .fewer .ensures in
+    let is = c .before .least .ensures .0 in
     sym (length-take-le n (l .piece) (omega (arith, piece-few (a .total) (l .from) n goes is, l .inv .1)))
 
 decode-some-requires : tie.Need-decode-some-requires Inv-loop μ-loop
 decode-some-requires c κs =
     let a = c .before .before .before .before .before .before .before .before .before .before .args in
     let l = c .before .before .before .before .loop in
-    let n = c .before .before .fewer .result in
+    let n = c .before .before .least .result in
     let goes = c .before .before .before .loop-test .taken in
-    let is = c .before .before .fewer .ensures in
+    let is = c .before .before .least .ensures .0 in
     let size = length-take-le n (l .piece) (omega (arith, piece-few (a .total) (l .from) n goes is, l .inv .1)) in
     (c .before .before .before .before .before .before .before .before .before .before .pre .0, (omega (arith, size, piece-inside (a .total) (l .from) n goes is, c .before .before .before .before .before .before .before .before .before .before .pre .1 .0 .0), omega (arith, size, run-room (memory (a .dynamic .now) (a .sram .now) (a .page .now)) (a .pointers .now) (a .total) (l .inv .0) goes n is)))
 
@@ -59,27 +59,27 @@ add-from : tie.Need-add-from Inv-loop μ-loop
 add-from c =
     let a = c .before .before .before .before .before .before .before .before .before .before .before .before .before .before .before .args in
     let l = c .before .before .before .before .before .before .before .before .before .loop in
-    let n = c .before .before .before .before .before .before .before .fewer .result in
+    let n = c .before .before .before .before .before .before .before .least .result in
     let goes = c .before .before .before .before .before .before .before .before .loop-test .taken in
-    let is = c .before .before .before .before .before .before .before .fewer .ensures in
+    let is = c .before .before .before .before .before .before .before .least .ensures .0 in
     omega (arith, piece-inside (a .total) (l .from) n goes is, c .before .before .before .before .before .before .before .before .before .before .before .before .before .before .before .pre .1 .0 .0)
 
 loop-less : tie.Need-loop-less Inv-loop μ-loop
 loop-less c =
     let a = c .before .before .before .before .before .before .before .before .before .before .before .before .before .before .before .args in
     let l = c .before .before .before .before .before .before .before .before .before .loop in
-    let n = c .before .before .before .before .before .before .before .fewer .result in
+    let n = c .before .before .before .before .before .before .before .least .result in
     let goes = c .before .before .before .before .before .before .before .before .loop-test .taken in
-    let is = c .before .before .before .before .before .before .before .fewer .ensures in
+    let is = c .before .before .before .before .before .before .before .least .ensures .0 in
     omega (arith, piece-some (a .total) (l .from) n goes is, goes)
 
 loop-again : tie.Need-loop-again Inv-loop μ-loop
 loop-again c =
     let a = c .before .before .before .before .before .before .before .before .before .before .before .before .before .before .before .args in
     let l = c .before .before .before .before .before .before .before .before .before .loop in
-    let n = c .before .before .before .before .before .before .before .fewer .result in
+    let n = c .before .before .before .before .before .before .before .least .result in
     let goes = c .before .before .before .before .before .before .before .before .loop-test .taken in
-    let is = c .before .before .before .before .before .before .before .fewer .ensures in
+    let is = c .before .before .before .before .before .before .before .least .ensures .0 in
     let size = length-take-le n (l .piece) (omega (arith, piece-few (a .total) (l .from) n goes is, l .inv .1)) in
     (decoding-run (memory (a .dynamic .now) (a .sram .now) (a .page .now)) (a .pointers .now) (a .total) (l .inv .0) goes n is _ size (c .before .before .before .before .decode-some .ensures), c .before .before .before .piece .given .1 ∙ l .inv .1)
 
@@ -101,8 +101,8 @@ decode-run-spec =
     Inv-loop
     μ-loop
     loop-holds
-    sub-fewer
-    fewer-requires
+    sub-least
+    least-requires
     slice-relend-prefix-decode-some
     slice-aggregate-decode-some
     decode-some-requires

@@ -15,14 +15,14 @@ Inv-loop text from count memory dynamic₀ sram₀ page₀ size used₀ next₀ 
 abbrev μ-loop : tie.MeasureT-loop
 μ-loop text from count memory dynamic₀ sram₀ page₀ size used₀ next₀ dynamic sram page used next = count - used
 
-at-most-requires : tie.Need-at-most-requires Inv-loop μ-loop
-at-most-requires c κs = search needs
+least-requires : tie.Need-least-requires Inv-loop μ-loop
+least-requires c κs = search needs
 
 slice-relend-prefix-take-store : tie.Need-slice-relend-prefix-take-store Inv-loop μ-loop
 slice-relend-prefix-take-store c = search needs
 
 slice-aggregate-take-store : tie.Need-slice-aggregate-take-store Inv-loop μ-loop
-slice-aggregate-take-store c = sym (length-take-le _ _ (c .before .at-most .ensures))
+slice-aggregate-take-store c = sym (length-take-le _ _ (c .before .least .ensures .2))
 
 take-store-requires : tie.Need-take-store-requires Inv-loop μ-loop
 take-store-requires c κs = search needs
@@ -31,10 +31,10 @@ loop-holds : tie.Need-loop-holds Inv-loop μ-loop
 loop-holds c = ((c .before .before .take-store .ensures .0, omega arith), (c .before .before .take-store .ensures .1, omega (arith, c .before .dynamic .given)))
 
 slice-relend-prefix-take-store-2 : tie.Need-slice-relend-prefix-take-store-2 Inv-loop μ-loop
-slice-relend-prefix-take-store-2 c = omega (arith, c .before .before .before .before .before .before .before .before .at-most .ensures, c .before .loop .inv .1 .1)
+slice-relend-prefix-take-store-2 c = omega (arith, c .before .before .before .before .before .before .before .before .least .ensures .2, c .before .loop .inv .1 .1)
 
 slice-aggregate-take-store-2 : tie.Need-slice-aggregate-take-store-2 Inv-loop μ-loop
-slice-aggregate-take-store-2 c = sym (length-take-le _ _ (omega (arith, c .before .before .before .before .before .before .before .before .before .at-most .ensures, c .before .before .loop .inv .1 .1)))
+slice-aggregate-take-store-2 c = sym (length-take-le _ _ (omega (arith, c .before .before .before .before .before .before .before .before .before .least .ensures .2, c .before .before .loop .inv .1 .1)))
 
 take-store-requires-2 : tie.Need-take-store-requires-2 Inv-loop μ-loop
 take-store-requires-2 c κs = (c .before .before .before .before .loop .inv .1 .0, c .before .before .before .before .before .before .before .before .before .before .before .before .before .before .pre .1)
@@ -57,7 +57,7 @@ take-stores-spec =
     (tie.spec
     Inv-loop
     μ-loop
-    at-most-requires
+    least-requires
     slice-relend-prefix-take-store
     slice-aggregate-take-store
     take-store-requires

@@ -15,11 +15,11 @@ Inv-loop block₀ from channels sending at count c₀ block c =
 abbrev μ-loop : tie.MeasureT-loop
 μ-loop block₀ from channels sending at count c₀ block c = count - c
 
-fewer-requires : tie.Need-fewer-requires Inv-loop μ-loop
-fewer-requires c κs = search needs
+least-requires : tie.Need-least-requires Inv-loop μ-loop
+least-requires c κs = search needs
 
 loop-holds : tie.Need-loop-holds Inv-loop μ-loop
-loop-holds c = (zero-le, c .fewer .ensures, channels-none _ _ _)
+loop-holds c = (zero-le, c .least .ensures .0, channels-none _ _ _)
 
 mul-put-at : tie.Need-mul-put-at Inv-loop μ-loop
 mul-put-at c = search needs
@@ -68,7 +68,7 @@ encode-frame-spec =
     (tie.spec
     Inv-loop
     μ-loop
-    fewer-requires
+    least-requires
     loop-holds
     mul-put-at
     add-put-at

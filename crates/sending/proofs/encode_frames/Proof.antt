@@ -15,11 +15,11 @@ Inv-loop block₀ channels sending ring capacity count f₀ block f =
 abbrev μ-loop : tie.MeasureT-loop
 μ-loop block₀ channels sending ring capacity count f₀ block f = count - f
 
-fewer-requires : tie.Need-fewer-requires Inv-loop μ-loop
-fewer-requires c κs = search needs
+least-requires : tie.Need-least-requires Inv-loop μ-loop
+least-requires c κs = search needs
 
 loop-holds : tie.Need-loop-holds Inv-loop μ-loop
-loop-holds c = (zero-le, c .fewer .ensures, frames-none _ _ _ _)
+loop-holds c = (zero-le, c .least .ensures .0, frames-none _ _ _ _)
 
 place-requires : tie.Need-place-requires Inv-loop μ-loop
 place-requires c κs = search needs
@@ -73,7 +73,7 @@ encode-frames-spec =
     (tie.spec
     Inv-loop
     μ-loop
-    fewer-requires
+    least-requires
     loop-holds
     place-requires
     mul-encode-frame

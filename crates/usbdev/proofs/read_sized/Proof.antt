@@ -31,7 +31,7 @@ unfolding readSized
 returns-3 c =
     let s = c .before .before .before .before .args .size in
     let none = c .before .before .match .rest in
-    simp (ne-eqb s 4 (none .0 .1), ne-eqb s 2 (none .1), c .wide .ensures)
+    simp (ne-eqb s 4 (none .0 .1), ne-eqb s 2 (none .1), c .wide .ensures .0)
 
 pub read-sized-spec : {M : Type 1} → statement M
 read-sized-spec =

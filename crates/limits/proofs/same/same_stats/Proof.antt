@@ -1,14 +1,15 @@
 -- `limits::same::same_stats` meets its contract.
 use Prim.Native.Nat.{_-_, _≤_}
 use borrow.Author.Needs.{needs}
+use Rattle.record.specs.Record.{COUNTERS}
 use Rattle.limits.proofs.same.same_stats.Statement.{statement}
 use Rattle.limits.proofs.same.same_stats.Tie as tie
 
 abbrev Inv-loop : tie.InvT-loop
-Inv-loop a b same₀ k₀ same k = k ≤ 13
+Inv-loop a b same₀ k₀ same k = k ≤ COUNTERS
 
 abbrev μ-loop : tie.MeasureT-loop
-μ-loop a b same₀ k₀ same k = 13 - k
+μ-loop a b same₀ k₀ same k = COUNTERS - k
 
 loop-holds : tie.Need-loop-holds Inv-loop μ-loop
 loop-holds c = search needs

@@ -7,15 +7,15 @@ use borrow.Author.Needs.{needs}
 use Rattle.script.proofs.hash.mixed.Statement.{statement}
 use Rattle.script.proofs.hash.mixed.Tie as tie
 
-wide-requires : tie.Need-wide-requires
-wide-requires c κs = search needs
+widest-requires : tie.Need-widest-requires
+widest-requires c κs = search needs
 
 times-prime-requires : tie.Need-times-prime-requires
 times-prime-requires c κs = search needs
 
 returns : tie.Need-returns
 unfolding mixed
-returns c = c .times-prime .ensures ∙ ap (λ (n : ℕ). (bitXor (c .before .before .args .h) n * PRIME) % 2 ^ 64) (c .before .wide .ensures)
+returns c = c .times-prime .ensures ∙ ap (λ (n : ℕ). (bitXor (c .before .before .args .h) n * PRIME) % 2 ^ 64) (c .before .widest .ensures .0)
 
 pub mixed-spec : {M : Type 1} → statement M
-mixed-spec = tie.close (tie.spec wide-requires times-prime-requires returns)
+mixed-spec = tie.close (tie.spec widest-requires times-prime-requires returns)

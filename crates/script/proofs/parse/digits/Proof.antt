@@ -26,8 +26,8 @@ ended-requires c κs = search needs
 returns : tie.Need-returns Inv-loop μ-loop
 returns c = search needs
 
-wide-requires : tie.Need-wide-requires Inv-loop μ-loop
-wide-requires c κs = search needs
+widest-requires : tie.Need-widest-requires Inv-loop μ-loop
+widest-requires c κs = search needs
 
 add-i : tie.Need-add-i Inv-loop μ-loop
 add-i c = search needs
@@ -55,7 +55,7 @@ digits-spec =
     digit-requires
     ended-requires
     returns
-    wide-requires
+    widest-requires
     add-i
     loop-less
     loop-again

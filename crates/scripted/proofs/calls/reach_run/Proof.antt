@@ -5,14 +5,14 @@ use borrow.Author.Needs.{needs}
 use Rattle.scripted.proofs.calls.reach_run.Statement.{statement}
 use Rattle.scripted.proofs.calls.reach_run.Tie as tie
 
-at-most-requires : tie.Need-at-most-requires
-at-most-requires c κs = search needs
+least-requires : tie.Need-least-requires
+least-requires c κs = search needs
 
 slice-relend-prefix-reach : tie.Need-slice-relend-prefix-reach
 slice-relend-prefix-reach c = search needs
 
 slice-aggregate-reach : tie.Need-slice-aggregate-reach
-slice-aggregate-reach c = sym (length-take-le _ _ (c .before .at-most .ensures))
+slice-aggregate-reach c = sym (length-take-le _ _ (c .before .least .ensures .2))
 
 reach-requires : tie.Need-reach-requires
 reach-requires c κs = search needs
@@ -30,7 +30,7 @@ pub reach-run-spec : {M : Type 1} → statement M
 reach-run-spec =
     tie.close
     (tie.spec
-    at-most-requires
+    least-requires
     slice-relend-prefix-reach
     slice-aggregate-reach
     reach-requires

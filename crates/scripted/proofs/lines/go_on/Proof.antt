@@ -17,8 +17,8 @@ abbrev μ-loop : tie.MeasureT-loop
 μ-loop run asked setups₀ midi₀ serial₀ device₀ dynamic₀ sram₀ page₀ reply₀ config₀ receive₀ received₀ sending out₀ from memory space settings state₀ turned₀ left₀ at₀ setups midi serial device dynamic sram page reply config receive received out state turned left at =
     left
 
-at-most-requires : tie.Need-at-most-requires Inv-loop μ-loop
-at-most-requires c κs = search needs
+least-requires : tie.Need-least-requires Inv-loop μ-loop
+least-requires c κs = search needs
 
 ring-words-requires : tie.Need-ring-words-requires Inv-loop μ-loop
 ring-words-requires c κs = search needs
@@ -33,7 +33,7 @@ slice-relend-prefix-run-microframe : tie.Need-slice-relend-prefix-run-microframe
 slice-relend-prefix-run-microframe c = search needs
 
 slice-aggregate-run-microframe : tie.Need-slice-aggregate-run-microframe Inv-loop μ-loop
-slice-aggregate-run-microframe c = sym (length-take-le _ _ (omega (arith, c .before .before .before .before .before .before .before .before .before .before .before .before .before .at-most .ensures, c .before .before .before .before .before .before .before .before .loop .inv .1)))
+slice-aggregate-run-microframe c = sym (length-take-le _ _ (omega (arith, c .before .before .before .before .before .before .before .before .before .before .before .before .before .least .ensures .2, c .before .before .before .before .before .before .before .before .loop .inv .1)))
 
 slice-aggregate-run-microframe-2 : tie.Need-slice-aggregate-run-microframe-2 Inv-loop μ-loop
 slice-aggregate-run-microframe-2 c = sym (length-take-le _ _ (c .before .before .before .before .before .before .before .before .before .before .before .before .before .before .before .before .before .before .before .ring-words .ensures))
@@ -48,10 +48,10 @@ sub-left : tie.Need-sub-left Inv-loop μ-loop
 sub-left c = omega (arith, c .before .before .before .before .before .before .before .before .before .before .before .before .before .before .before .before .before .before .before .before .before .loop-test .taken)
 
 slice-reshare-prefix-show-turn : tie.Need-slice-reshare-prefix-show-turn Inv-loop μ-loop
-slice-reshare-prefix-show-turn c = omega (arith, c .before .before .before .before .before .before .before .before .dynamic .given, c .before .before .before .before .before .before .before .before .before .before .before .before .before .before .before .before .before .before .before .before .before .before .before .before .before .before .before .before .before .before .at-most .ensures, c .before .before .before .before .before .before .before .before .before .before .before .before .before .before .before .before .before .before .before .before .before .before .before .before .before .loop .inv .1)
+slice-reshare-prefix-show-turn c = omega (arith, c .before .before .before .before .before .before .before .before .dynamic .given, c .before .before .before .before .before .before .before .before .before .before .before .before .before .before .before .before .before .before .before .before .before .before .before .before .before .before .before .before .before .before .least .ensures .2, c .before .before .before .before .before .before .before .before .before .before .before .before .before .before .before .before .before .before .before .before .before .before .before .before .before .loop .inv .1)
 
 slice-aggregate-show-turn : tie.Need-slice-aggregate-show-turn Inv-loop μ-loop
-slice-aggregate-show-turn c = sym (length-take-le _ _ (omega (arith, c .before .before .before .before .before .before .before .before .before .dynamic .given, c .before .before .before .before .before .before .before .before .before .before .before .before .before .before .before .before .before .before .before .before .before .before .before .before .before .before .before .before .before .before .before .at-most .ensures, c .before .before .before .before .before .before .before .before .before .before .before .before .before .before .before .before .before .before .before .before .before .before .before .before .before .before .loop .inv .1)))
+slice-aggregate-show-turn c = sym (length-take-le _ _ (omega (arith, c .before .before .before .before .before .before .before .before .before .dynamic .given, c .before .before .before .before .before .before .before .before .before .before .before .before .before .before .before .before .before .before .before .before .before .before .before .before .before .before .before .before .before .before .before .least .ensures .2, c .before .before .before .before .before .before .before .before .before .before .before .before .before .before .before .before .before .before .before .before .before .before .before .before .before .before .loop .inv .1)))
 
 show-turn-requires : tie.Need-show-turn-requires Inv-loop μ-loop
 show-turn-requires c κs = leb-true (c .before .before .before .before .before .before .before .before .before .before .before .before .before .before .before .before .before .before .before .before .before .before .before .before .before .before .before .before .before .before .before .before .before .before .before .before .before .loop .at) 40000 (c .before .before .before .before .before .before .before .before .before .before .before .before .before .before .before .before .before .before .before .before .before .before .before .before .before .before .before .before .before .before .before .before .before .before .before .if1 .taken)
@@ -83,7 +83,7 @@ go-on-spec =
     (tie.spec
     Inv-loop
     μ-loop
-    at-most-requires
+    least-requires
     ring-words-requires
     turned-none-requires
     loop-holds

@@ -6,8 +6,8 @@ use native.Mathlib.Omega.{arith}
 use Rattle.scripted.proofs.lines.observe.Statement.{statement}
 use Rattle.scripted.proofs.lines.observe.Tie as tie
 
-at-most-requires : tie.Need-at-most-requires
-at-most-requires c κs = search needs
+least-requires : tie.Need-least-requires
+least-requires c κs = search needs
 
 ring-words-requires : tie.Need-ring-words-requires
 ring-words-requires c κs = search needs
@@ -19,7 +19,7 @@ show-record-requires : tie.Need-show-record-requires
 show-record-requires c κs = search needs
 
 slice-aggregate-show-areas : tie.Need-slice-aggregate-show-areas
-slice-aggregate-show-areas c = sym (length-take-le _ _ (c .before .before .before .before .before .before .at-most .ensures))
+slice-aggregate-show-areas c = sym (length-take-le _ _ (c .before .before .before .before .before .before .least .ensures .2))
 
 show-areas-requires : tie.Need-show-areas-requires
 show-areas-requires c κs = search needs
@@ -43,7 +43,7 @@ pub observe-spec : {M : Type 1} → statement M
 observe-spec =
     tie.close
     (tie.spec
-    at-most-requires
+    least-requires
     ring-words-requires
     put-requires
     show-record-requires

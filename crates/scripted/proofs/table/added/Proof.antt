@@ -1,14 +1,15 @@
 -- `scripted::table::added` meets its contract.
 use Prim.Native.Nat.{_-_, _≤_}
 use borrow.Author.Needs.{needs}
+use Rattle.record.specs.Record.{COUNTERS}
 use Rattle.scripted.proofs.table.added.Statement.{statement}
 use Rattle.scripted.proofs.table.added.Tie as tie
 
 abbrev Inv-loop : tie.InvT-loop
-Inv-loop a b sums₀ k₀ sums k = k ≤ 13
+Inv-loop a b sums₀ k₀ sums k = k ≤ COUNTERS
 
 abbrev μ-loop : tie.MeasureT-loop
-μ-loop a b sums₀ k₀ sums k = 13 - k
+μ-loop a b sums₀ k₀ sums k = COUNTERS - k
 
 loop-holds : tie.Need-loop-holds Inv-loop μ-loop
 loop-holds c = search needs
