@@ -18,7 +18,7 @@ use Rattle.record.specs.declared.Lengths.{Lengths}
 use Rattle.record.specs.declared.Settings.{Settings}
 use Rattle.record.specs.declared.State.{State}
 use Rattle.record.specs.Record.{withStats, counted, «midi_asleep»}
-use Rattle.record.specs.World.{World, withState, atPage}
+use Rattle.record.specs.World.{World, withState, withMidiQueue, atPage}
 use Rattle.record.specs.Change.{left, apply, one, when}
 use Rattle.record.specs.Did.{Alone, Paged, Did}
 use Rattle.record.proofs.Laws.{in-turn, by-true, by-false, unchanged}
@@ -27,7 +27,7 @@ use Rattle.model.specs.Phases.{within, counts, sleeps, ticks, cable}
 use Rattle.model.specs.Streams.{midiIn, serialStep, midiOut, readsVendor}
 use Rattle.model.specs.Audio.{streams}
 use Rattle.model.specs.Microframe.{streaming, others, transfers, opens}
-use Rattle.streams.specs.Promises.{atReceive, Fewer, Receives, Writes, ServesBoth}
+use Rattle.streams.specs.Promises.{atReceive, Fewer, Receives, Serves, ServesBoth}
 use Rattle.audio.specs.Promises.{CanSend, atStream, Streams}
 use Rattle.framing.specs.Promises.{Rings, atFlow, Stacks, Bridges, Transfers}
 use Rattle.model.specs.Microframe.{midiSteps, stackSteps, bridgeSteps}
@@ -77,7 +77,7 @@ module _ (stack : Bool) (s : State) (m : Memory) (q : List ℕ) where
   pub stack-off : stack ≡ false → Sized m → Stacks (stackSteps stack) s m q s m q
   stack-off e z = record { leads = λ w. by-false _ _ _ e (unchanged _); sized = z }
 
-  pub stack-goes : stack ≡ true → (s₁ s₂ : State) (m₁ m₂ : Memory) (q₁ : List ℕ) → Writes midiOut s m q s₁ m₁ q₁ → Did readsVendor s₁ m₁ s₂ m₂ → Stacks (stackSteps stack) s m q s₂ m₂ q₁
+  pub stack-goes : stack ≡ true → (s₁ s₂ : State) (m₁ m₂ : Memory) (q₁ : List ℕ) → Serves withMidiQueue midiOut s m q s₁ m₁ q₁ → Did readsVendor s₁ m₁ s₂ m₂ → Stacks (stackSteps stack) s m q s₂ m₂ q₁
   stack-goes e s₁ s₂ m₁ m₂ q₁ p d =
       record {
         leads = λ w. by-true _ _ _ e (in-turn (p .leads w) (d .leads (atFlow w s₁ m₁ q₁ (w .own .serial) (w .lent .receive) (w .lent .received) (w .lent .sending))));

@@ -26,10 +26,10 @@ use Rattle.record.specs.World.{World, atBus, withSerialQueue, withMidiQueue, wi
 use Rattle.record.specs.Change.{count, received, serial, midi, drained, apply, Step, nothing, when, one, here, runs}
 use Rattle.record.specs.Did.{Leads, Did, afterRun}
 use Rattle.record.proofs.Laws.{in-turn, by-true, by-false, unchanged, once, from-here, leads-as, leads-by, run-then}
-use Rattle.model.specs.Streams.{ready, fitting, drainsSerial, serialStep, drainsMidi, midiOut, readsVendor}
+use Rattle.model.specs.Streams.{ready, fitting, drainsSerial, serialStep, drainsMidi, readsVendor}
 use Rattle.streams.specs.declared.Took.{Took}
 use Rattle.streams.specs.declared.Took.the-variants.{Nothing, Bytes}
-use Rattle.streams.specs.Promises.{atSerial, atMidi, atReceive, packetOf, served, Fewer, GivesNothing, GivesBytes, Gives, Receives, Serves, Writes, ServesBoth}
+use Rattle.streams.specs.Promises.{atReceive, packetOf, served, Fewer, GivesBytes, Gives, Receives, Serves, ServesBoth}
 use Rattle.model.specs.Streams.{takesSerial, givesSerial}
 use Rattle.streams.proofs.Found.{unprimed-not, ended-not, active-ready, active-token, brings}
 
@@ -119,15 +119,15 @@ module _ (s : State) (m m′ : Memory) (r : Ran) (run : Runs (endpoint 2 true) [
 
 -- ---- what waits is sent to an endpoint that is ready
 
-module _ (e : Endpoint) (held : World → ℕ) (f : ℕ → Step) (a : World) where
+module _ (e : Endpoint) (held : World → ℕ) (f : ℕ → Step) where
   abbrev sends : Step
   sends = when (λ w. not (eqb (held w) 0) && ready e w) (here (λ v. f (fitting e (held v) v)))
 
-  none-sent : served e (held a) (a .lent .memory) ≡ false → Leads sends a a
-  none-sent h = by-false _ _ _ h (unchanged a)
+  none-sent : (a : World) → served e (held a) (a .lent .memory) ≡ false → Leads sends a a
+  none-sent a h = by-false _ _ _ h (unchanged a)
 
-  some-sent : served e (held a) (a .lent .memory) ≡ true → {b : World} → Leads (f (fitting e (held a) a)) a b → Leads sends a b
-  some-sent h p = by-true _ _ _ h (from-here (λ v. f (fitting e (held v) v)) a p)
+  some-sent : (a : World) → served e (held a) (a .lent .memory) ≡ true → {b : World} → Leads (f (fitting e (held a) a)) a b → Leads sends a b
+  some-sent a h p = by-true _ _ _ h (from-here (λ v. f (fitting e (held v) v)) a p)
 
 -- whether it is served, by what `find` says
 module _ (e : Endpoint) (held : ℕ) (m : Memory) where
@@ -184,42 +184,29 @@ module _ (s : State) (m m′ : Memory) (out out′ : List ℕ) (filled : Filled)
         few = fewer-same (ap (λ (x : State). x .lengths) (e ∙ ap (λ (x : State). arrived x (filled .at)) is));
       }
 
-module _ (s : State) (m m′ : Memory) (q q′ : List ℕ) where
-  serial-none : GivesNothing (endpoint 2 false) m q (s .lengths .serial) m′ q′ → Serves givesSerial s m q s m′ q′
-  serial-none g =
+-- n bytes of the queue go, which loses them
+module _ (s : State) (m m′ : Memory) (q q′ : List ℕ) (r : Ran) (n : ℕ) (run : Runs (endpoint 2 false) (take n q) (S.bus m (s .port .line)) (S.bus m′ (r .line)) r)
+    (drains : q′ ≡ drained q (s .lengths .serial) n) where
+  abbrev lefts : State → State
+  lefts t = withLengths t (withSerial (t .lengths) (s .lengths .serial - n))
+
+  less : Fewer (s .lengths) (lefts s .lengths)
+  less = record { setups = refl; midi = le-refl (s .lengths .midi); serial = omega arith; device = refl; config = refl }
+
+  pub serial-sent : {t next : State} → next ≡ afterRun s r → t ≡ lefts next → Serves withSerialQueue (drainsSerial n) s m q t m′ q′
+  unfolding drainsSerial apply
+  serial-sent {t} {next} is e =
       record {
-        leads = λ w. leads-as (none-sent (endpoint 2 false) (λ v. v .state .lengths .serial) drainsSerial (atSerial w s m q) (g .none)) (ap₂ (atSerial w s) (g .memory) (g .queue));
-        sized = g .sized;
-        few = fewer-same refl;
+        leads = λ w. from-here _ (atBus (withSerialQueue w q) s m)
+            (in-turn (once (λ v. serial n) (atBus (withSerialQueue w q) s m) (atBus (withSerialQueue w (drained q (s .lengths .serial) n)) (lefts s) m) refl)
+            (run-then (endpoint 2 false) (take n q) (λ x. nothing) (withSerialQueue w (drained q (s .lengths .serial) n)) (lefts s) m m′ r run
+            (leads-as (unchanged _) (ap₂ (λ (x : State) (y : List ℕ). atBus (withSerialQueue w y) x m′) (e ∙ ap lefts is) drains))));
+        sized = run .does .sized;
+        few = subst (λ (x : State). Fewer (s .lengths) (x .lengths)) (sym (e ∙ ap lefts is)) less;
       }
 
-  module _ (r : Ran) (n : ℕ) (g : GivesBytes (endpoint 2 false) 1 (s .port .line) m q (s .lengths .serial) r n m′ q′) where
-    abbrev lefts : State → State
-    lefts t = withLengths t (withSerial (t .lengths) (s .lengths .serial - n))
-
-    less : Fewer (s .lengths) (lefts s .lengths)
-    less = record { setups = refl; midi = le-refl (s .lengths .midi); serial = omega arith; device = refl; config = refl }
-
-    -- a unit of one byte leaves none out
-    whole-bytes : n ≡ packetOf (tokenOf (nextDtd (endpoint 2 false) m) m) (s .lengths .serial)
-    whole-bytes = omega (arith, g .fits)
-
-    serial-some : {t : State} → t ≡ lefts (afterRun s r) → Serves givesSerial s m q t m′ q′
-    unfolding drainsSerial apply
-    serial-some {t} e =
-        record {
-          leads = λ w. some-sent (endpoint 2 false) (λ v. v .state .lengths .serial) drainsSerial (atSerial w s m q) (g .some)
-              (leads-by {f = drainsSerial n} (ap (λ (k : ℕ). drainsSerial k (atSerial w s m q)) whole-bytes)
-              (from-here _ (atSerial w s m q)
-              (in-turn (once (λ v. serial n) (atSerial w s m q) (atSerial w (lefts s) m (drained q (s .lengths .serial) n)) refl)
-              (run-then (endpoint 2 false) (take n q) (λ x. nothing) (withSerialQueue w (drained q (s .lengths .serial) n)) (lefts s) m m′ r (g .run)
-              (leads-as (unchanged (atSerial w (lefts (afterRun s r)) m′ (drained q (s .lengths .serial) n))) (ap₂ (λ (x : State) (y : List ℕ). atSerial w x m′ y) e (g .queue)))))));
-          sized = g .run .does .sized;
-          few = subst (λ (x : State). Fewer (s .lengths) (x .lengths)) (sym e) less;
-        }
-
 -- both directions
-module _ (s s₁ s₂ : State) (m m₁ m₂ : Memory) (q q′ out out′ : List ℕ) (taken : Receives takesSerial s m out s₁ m₁ out′) (given : Serves givesSerial s₁ m₁ q s₂ m₂ q′) where
+module _ (s s₁ s₂ : State) (m m₁ m₂ : Memory) (q q′ out out′ : List ℕ) (taken : Receives takesSerial s m out s₁ m₁ out′) (given : Serves withSerialQueue givesSerial s₁ m₁ q s₂ m₂ q′) where
   pub serial-steps : ServesBoth serialStep s m q out s₂ m₂ q′ out′
   unfolding serialStep
   serial-steps =
@@ -231,84 +218,82 @@ module _ (s s₁ s₂ : State) (m m₁ m₂ : Memory) (q q′ out out′ : List 
 
 -- ---- MIDI to the device
 
-module _ (s : State) (m m′ : Memory) (q q′ : List ℕ) where
-  midi-none : GivesNothing (endpoint 1 false) m q (s .lengths .midi) m′ q′ → Writes midiOut s m q s m′ q′
-  unfolding midiOut
-  midi-none g =
+module _ (s : State) (m m′ : Memory) (q q′ : List ℕ) (r : Ran) (n : ℕ) (run : Runs (endpoint 1 false) (take n q) (S.bus m (s .port .line)) (S.bus m′ (r .line)) r)
+    (drains : q′ ≡ drained q (s .lengths .midi) n) where
+  abbrev behind : List ℕ
+  behind = drained q (s .lengths .midi) n
+
+  abbrev fewer : State → State
+  fewer t = withLengths t (withMidi (t .lengths) (s .lengths .midi - n))
+
+  abbrev more : State → State
+  more t = withStats t (counted «midi_packets_out» (n / 4) (t .stats))
+
+  less-midi : Fewer (s .lengths) (fewer s .lengths)
+  less-midi = record { setups = refl; midi = omega arith; serial = le-refl (s .lengths .serial); device = refl; config = refl }
+
+  pub midi-sent : {t next counting : State} → next ≡ afterRun s r → counting ≡ more next → t ≡ fewer counting → Serves withMidiQueue (drainsMidi n) s m q t m′ q′
+  unfolding drainsMidi apply
+  midi-sent {t} is counts e =
+      let all = e ∙ ap fewer (counts ∙ ap more is) in
       record {
-        leads = λ w. leads-as (none-sent (endpoint 1 false) (λ v. v .state .lengths .midi) (λ n. drainsMidi (n / 4 * 4)) (atMidi w s m q) (g .none)) (ap₂ (atMidi w s) (g .memory) (g .queue));
-        sized = g .sized;
-        few = fewer-same refl;
+        leads = λ w. from-here _ (atBus (withMidiQueue w q) s m)
+            (in-turn (once (λ v. midi n) (atBus (withMidiQueue w q) s m) (atBus (withMidiQueue w behind) (fewer s) m) refl)
+            (run-then (endpoint 1 false) (take n q) (λ x. one (λ v. count «midi_packets_out» (n / 4))) (withMidiQueue w behind) (fewer s) m m′ r run
+            (once (λ v. count «midi_packets_out» (n / 4)) (atBus (withMidiQueue w behind) (fewer (afterRun s r)) m′) _
+            (ap₂ (λ (x : State) (y : List ℕ). atBus (withMidiQueue w y) x m′) all drains))));
+        sized = run .does .sized;
+        few = subst (λ (x : State). Fewer (s .lengths) (x .lengths)) (sym all) less-midi;
       }
-
-  module _ (r : Ran) (n : ℕ) (g : GivesBytes (endpoint 1 false) 4 (s .port .line) m q (s .lengths .midi) r n m′ q′) where
-    abbrev behind : List ℕ
-    behind = drained q (s .lengths .midi) n
-
-    abbrev fewer : State → State
-    fewer t = withLengths t (withMidi (t .lengths) (s .lengths .midi - n))
-
-    abbrev more : State → State
-    more t = withStats t (counted «midi_packets_out» (n / 4) (t .stats))
-
-    less-midi : Fewer (s .lengths) (fewer s .lengths)
-    less-midi = record { setups = refl; midi = omega arith; serial = le-refl (s .lengths .serial); device = refl; config = refl }
-
-    midi-some : {t : State} → t ≡ fewer (more (afterRun s r)) → Writes midiOut s m q t m′ q′
-    unfolding midiOut drainsMidi apply
-    midi-some {t} e =
-        record {
-          leads = λ w. some-sent (endpoint 1 false) (λ v. v .state .lengths .midi) (λ k. drainsMidi (k / 4 * 4)) (atMidi w s m q) (g .some)
-              (leads-by {f = drainsMidi n} (ap (λ (k : ℕ). drainsMidi k (atMidi w s m q)) (g .fits))
-              (from-here _ (atMidi w s m q)
-              (in-turn (once (λ v. midi n) (atMidi w s m q) (atMidi w (fewer s) m behind) refl)
-              (run-then (endpoint 1 false) (take n q) (λ x. one (λ v. count «midi_packets_out» (n / 4))) (withMidiQueue w behind) (fewer s) m m′ r (g .run)
-              (once (λ v. count «midi_packets_out» (n / 4)) (atMidi w (fewer (afterRun s r)) m′ behind) _
-              (ap₂ (λ (x : State) (y : List ℕ). atMidi w x m′ y) e (g .queue)))))));
-          sized = g .run .does .sized;
-          few = subst (λ (x : State). Fewer (s .lengths) (x .lengths)) (sym e) less-midi;
-        }
 
 -- whole units of what a packet carries wait
 pub units-held : (tok held k unit : ℕ) → k ≡ packetOf tok held → k / unit * unit ≤ held
 units-held tok held k unit e = le-trans (div-mul-le-self k unit) (omega (arith, e, min-le-right (min (totalOf tok) 512) held))
 
--- ---- the outputs by what `give` answers
+-- ---- an output by what `give` answers: f makes the step of what fits, and drains that of whole units of it
 
-module _ (s : State) (m m′ : Memory) (q q′ : List ℕ) (k : Took) where
-  module _ (g : Gives (endpoint 2 false) 1 (s .port .line) m q (s .lengths .serial) k m′ q′) where
-    abbrev AsSerial : Took → Type 0
-    AsSerial x = Gives (endpoint 2 false) 1 (s .port .line) m q (s .lengths .serial) x m′ q′
+module _ (e : Endpoint) (unit : ℕ) (held : Lengths → ℕ) (put : World → List ℕ → World) (f drains : ℕ → Step) (same : (x : ℕ) → drains (x / unit * unit) ≡ f x)
+    (s : State) (m m′ : Memory) (q q′ : List ℕ) (k : Took) (g : Gives e unit (s .port .line) m q (held (s .lengths)) k m′ q′) where
+  abbrev As : Took → Type 0
+  As x = Gives e unit (s .port .line) m q (held (s .lengths)) x m′ q′
 
-    pub serial-nothing : k ≡ Nothing → Serves givesSerial s m q s m′ q′
+  abbrev given : Step
+  given = sends e (λ v. held (v .state .lengths)) f
+
+  pub nothing-given : k ≡ Nothing → Serves put given s m q s m′ q′
+  unfolding Gives
+  nothing-given is =
+      let none = subst As is g in
+      record {
+        leads = λ w. leads-as (none-sent e (λ v. held (v .state .lengths)) f (atBus (put w q) s m) (none .none)) (ap₂ (λ (x : Memory) (y : List ℕ). atBus (put w y) s x) (none .memory) (none .queue));
+        sized = none .sized;
+        few = fewer-same refl;
+      }
+
+  module _ {r : Ran} {n : ℕ} (is : k ≡ Bytes r n) where
+    some : GivesBytes e unit (s .port .line) m q (held (s .lengths)) r n m′ q′
     unfolding Gives
-    serial-nothing is = serial-none s m m′ q q′ (subst AsSerial is g)
+    some = subst As is g
 
-    pub serial-held : {r : Ran} {n : ℕ} → k ≡ Bytes r n → n ≤ s .lengths .serial
-    unfolding Gives
-    serial-held is = subst AsSerial is g .few
+    pub bytes-held : n ≤ held (s .lengths)
+    bytes-held = some .few
 
-    pub serial-bytes : {r : Ran} {n : ℕ} → k ≡ Bytes r n → {t next : State} → next ≡ afterRun s r
-        → t ≡ withLengths next (withSerial (next .lengths) (s .lengths .serial - n)) → Serves givesSerial s m q t m′ q′
-    unfolding Gives
-    serial-bytes {r} {n} is e l = serial-some s m m′ q q′ r n (subst AsSerial is g) (l ∙ ap (λ (x : State). withLengths x (withSerial (x .lengths) (s .lengths .serial - n))) e)
+    pub bytes-run : Runs e (take n q) (S.bus m (s .port .line)) (S.bus m′ (r .line)) r
+    bytes-run = some .run
 
-  module _ (g : Gives (endpoint 1 false) 4 (s .port .line) m q (s .lengths .midi) k m′ q′) where
-    abbrev AsMidi : Took → Type 0
-    AsMidi x = Gives (endpoint 1 false) 4 (s .port .line) m q (s .lengths .midi) x m′ q′
+    pub bytes-left : q′ ≡ drained q (held (s .lengths)) n
+    bytes-left = some .queue
 
-    pub midi-nothing : k ≡ Nothing → Writes midiOut s m q s m′ q′
-    unfolding Gives
-    midi-nothing is = midi-none s m m′ q q′ (subst AsMidi is g)
+    pub bytes-given : {t : State} → Serves put (drains n) s m q t m′ q′ → Serves put given s m q t m′ q′
+    bytes-given p =
+        record {
+          leads = λ w. some-sent e (λ v. held (v .state .lengths)) f (atBus (put w q) s m) (some .some)
+              (leads-by {f = drains n} (ap (λ (x : ℕ). drains x (atBus (put w q) s m)) (some .fits) ∙ ap (λ (h : Step). h (atBus (put w q) s m)) (same _)) (p .leads w));
+          sized = p .sized;
+          few = p .few;
+        }
 
-    pub midi-held : {r : Ran} {n : ℕ} → k ≡ Bytes r n → n ≤ s .lengths .midi
-    unfolding Gives
-    midi-held is = subst AsMidi is g .few
+-- ---- the two outputs: units of one byte leave none out
 
-    pub midi-bytes : {r : Ran} {n : ℕ} → k ≡ Bytes r n → {t next counting : State} → next ≡ afterRun s r
-        → counting ≡ withStats next (counted «midi_packets_out» (n / 4) (next .stats))
-        → t ≡ withLengths counting (withMidi (counting .lengths) (s .lengths .midi - n)) → Writes midiOut s m q t m′ q′
-    unfolding Gives
-    midi-bytes {r} {n} is e counts l =
-        midi-some s m m′ q q′ r n (subst AsMidi is g)
-        (l ∙ ap (λ (x : State). withLengths x (withMidi (x .lengths) (s .lengths .midi - n))) (counts ∙ ap (λ (x : State). withStats x (counted «midi_packets_out» (n / 4) (x .stats))) e))
+pub each-byte : (x : ℕ) → drainsSerial (x / 1 * 1) ≡ drainsSerial x
+each-byte x = let one : x / 1 * 1 ≡ x = omega arith in ap drainsSerial one

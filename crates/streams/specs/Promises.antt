@@ -14,19 +14,13 @@ use Rattle.dtd.specs.Dtd.{Endpoint, primed, nextActive, nextDtd, tokenOf}
 use Rattle.dtd.specs.Promises.{Runs}
 use Rattle.record.specs.declared.Lengths.{Lengths}
 use Rattle.record.specs.declared.State.{State}
-use Rattle.record.specs.World.{World, atBus, withSerialQueue, withMidiQueue, withReceiveArea}
+use Rattle.record.specs.World.{World, atBus, withSerialQueue, withReceiveArea}
 use Rattle.record.specs.Change.{Step, drained}
 use Rattle.record.specs.Did.{Leads}
 use Rattle.streams.specs.declared.Took.{Took}
 use Rattle.streams.specs.declared.Took.the-variants.{Nothing, Bytes}
 
 -- ---- a World with what a function takes in its place
-
-abbrev pub atSerial : World → State → Memory → List ℕ → World
-atSerial w s m q = atBus (withSerialQueue w q) s m
-
-abbrev pub atMidi : World → State → Memory → List ℕ → World
-atMidi w s m q = atBus (withMidiQueue w q) s m
 
 abbrev pub atReceive : World → State → Memory → List ℕ → World
 atReceive w s m out = atBus (withReceiveArea w out) s m
@@ -80,15 +74,9 @@ pub record Receives (f : Step) (s : State) (m : Memory) (out : List ℕ) (s′ :
   pub sized : Sized m′
   pub few : Fewer (s .lengths) (s′ .lengths)
 
--- on state, memory and serial queue
-pub record Serves (f : Step) (s : State) (m : Memory) (q : List ℕ) (s′ : State) (m′ : Memory) (q′ : List ℕ) : Type 0 where
-  pub leads : (w : World) → Leads f (atSerial w s m q) (atSerial w s′ m′ q′)
-  pub sized : Sized m′
-  pub few : Fewer (s .lengths) (s′ .lengths)
-
--- on state, memory and MIDI queue
-pub record Writes (f : Step) (s : State) (m : Memory) (q : List ℕ) (s′ : State) (m′ : Memory) (q′ : List ℕ) : Type 0 where
-  pub leads : (w : World) → Leads f (atMidi w s m q) (atMidi w s′ m′ q′)
+-- on state, memory and a queue of the record, which `put` puts in its place
+pub record Serves (put : World → List ℕ → World) (f : Step) (s : State) (m : Memory) (q : List ℕ) (s′ : State) (m′ : Memory) (q′ : List ℕ) : Type 0 where
+  pub leads : (w : World) → Leads f (atBus (put w q) s m) (atBus (put w q′) s′ m′)
   pub sized : Sized m′
   pub few : Fewer (s .lengths) (s′ .lengths)
 

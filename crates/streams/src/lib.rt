@@ -7,8 +7,8 @@ ghost use Rattle.bus.specs.Memory.{shown};
 ghost use Rattle.bus.specs.Sized.{Sized};
 ghost use Rattle.dtd.specs.Dtd as D;
 ghost use Rattle.record.specs.Change as C;
+ghost use Rattle.record.specs.World.{withSerialQueue, withMidiQueue};
 ghost use Rattle.record.specs.Did as R;
-ghost use Rattle.record.specs.Record as Rec;
 ghost use Rattle.model.specs.Streams as M;
 ghost use Rattle.streams.specs.Promises as P;
 use dtd::Found;
@@ -123,7 +123,7 @@ fn serial_out(
 ) -> State
     requires { ⌜ Sized (shown dynamic sram page) ⌝ }
     requires { ⌜ s .lengths .serial ≤ length (now serial) ⌝ }
-    ensures { λ r. ⌜ P.Serves M.givesSerial s (shown (dynamic .entry) (sram .entry) (page .entry)) (now (serial .entry)) r (shown (dynamic .exit) (sram .exit) (page .exit)) (now (serial .exit)) ⌝ }
+    ensures { λ r. ⌜ P.Serves withSerialQueue M.givesSerial s (shown (dynamic .entry) (sram .entry) (page .entry)) (now (serial .entry)) r (shown (dynamic .exit) (sram .exit) (page .exit)) (now (serial .exit)) ⌝ }
 {
     let queued = s.lengths.serial;
     match give(
@@ -174,7 +174,7 @@ pub fn midi_out(
 ) -> State
     requires { ⌜ Sized (shown dynamic sram page) ⌝ }
     requires { ⌜ s .lengths .midi ≤ length (now midi) ⌝ }
-    ensures { λ r. ⌜ P.Writes M.midiOut s (shown (dynamic .entry) (sram .entry) (page .entry)) (now (midi .entry)) r (shown (dynamic .exit) (sram .exit) (page .exit)) (now (midi .exit)) ⌝ }
+    ensures { λ r. ⌜ P.Serves withMidiQueue M.midiOut s (shown (dynamic .entry) (sram .entry) (page .entry)) (now (midi .entry)) r (shown (dynamic .exit) (sram .exit) (page .exit)) (now (midi .exit)) ⌝ }
 {
     let queued = s.lengths.midi;
     match give(

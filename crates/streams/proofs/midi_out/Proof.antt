@@ -1,8 +1,13 @@
 -- `streams::midi_out` meets its contract.
+use Prim.Native.Nat.{_*_, _/_}
+use mathlib.Core.Bool.{false}
 use native.Mathlib.Omega.{arith}
 use mathlib.Core.Path.{refl}
 use Rattle.bus.specs.Memory.{shown}
-use Rattle.streams.proofs.Laws.{midi-nothing, midi-held, midi-bytes}
+use Rattle.dtd.specs.Dtd.{endpoint}
+use Rattle.record.specs.World.{withMidiQueue}
+use Rattle.model.specs.Streams.{midiOut, drainsMidi}
+use Rattle.streams.proofs.Laws.{nothing-given, bytes-held, bytes-run, bytes-left, bytes-given, midi-sent}
 use borrow.Author.Needs.{needs}
 use Rattle.streams.proofs.midi_out.Statement.{statement}
 use Rattle.streams.proofs.midi_out.Tie as tie
@@ -28,7 +33,7 @@ sub-rest : tie.Need-sub-rest
 sub-rest c =
     let given = c .before .before .before .before .before .before .before .before .before .before .before .before .before in
     let start = given .before .before .before .before .before .before .before .before .before in
-    midi-held (start .args .s) (shown (start .args .dynamic) (start .args .sram) (start .args .page)) _ (start .args .midi .now) _ _ (given .give .ensures) (c .before .before .before .ran .given .1)
+    bytes-held (endpoint 1 false) 4 (λ l. l .midi) withMidiQueue (λ n. drainsMidi (n / 4 * 4)) drainsMidi (λ x. refl) (start .args .s) (shown (start .args .dynamic) (start .args .sram) (start .args .page)) _ (start .args .midi .now) _ _ (given .give .ensures) (c .before .before .before .ran .given .1)
 
 same-length : tie.Need-same-length
 same-length c = search needs
@@ -43,10 +48,11 @@ same-length-4 : tie.Need-same-length-4
 same-length-4 c = search needs
 
 returns : tie.Need-returns
+unfolding midiOut
 returns c =
     let given = c .before .before .before .before .before .before .before .before .before .before in
     let start = given .before .before .before .before .before .before .before .before .before in
-    midi-nothing (start .args .s) (shown (start .args .dynamic) (start .args .sram) (start .args .page)) _ (start .args .midi .now) _ _ (given .give .ensures) (c .enum-told .given .1)
+    nothing-given (endpoint 1 false) 4 (λ l. l .midi) withMidiQueue (λ n. drainsMidi (n / 4 * 4)) drainsMidi (λ x. refl) (start .args .s) (shown (start .args .dynamic) (start .args .sram) (start .args .page)) _ (start .args .midi .now) _ _ (given .give .ensures) (c .enum-told .given .1)
 
 same-length-5 : tie.Need-same-length-5
 same-length-5 c = c .before .before .before .before .before .before .before .before .before .before .before .before .before .dynamic .given
@@ -61,10 +67,14 @@ same-length-8 : tie.Need-same-length-8
 same-length-8 c = search needs
 
 returns-2 : tie.Need-returns-2
+unfolding midiOut
 returns-2 c =
     let given = c .before .before .before .before .before .before .before .before .before .before .before .before .before .before in
     let start = given .before .before .before .before .before .before .before .before .before in
-    midi-bytes (start .args .s) (shown (start .args .dynamic) (start .args .sram) (start .args .page)) _ (start .args .midi .now) _ _ (given .give .ensures) (c .before .before .before .before .ran .given .1) (c .before .before .after-run .ensures) (c .before .count .ensures) refl
+    let is = c .before .before .before .before .ran .given .1 in
+    let run = bytes-run (endpoint 1 false) 4 (λ l. l .midi) withMidiQueue (λ n. drainsMidi (n / 4 * 4)) drainsMidi (λ x. refl) (start .args .s) (shown (start .args .dynamic) (start .args .sram) (start .args .page)) _ (start .args .midi .now) _ _ (given .give .ensures) is in
+    let left = bytes-left (endpoint 1 false) 4 (λ l. l .midi) withMidiQueue (λ n. drainsMidi (n / 4 * 4)) drainsMidi (λ x. refl) (start .args .s) (shown (start .args .dynamic) (start .args .sram) (start .args .page)) _ (start .args .midi .now) _ _ (given .give .ensures) is in
+    bytes-given (endpoint 1 false) 4 (λ l. l .midi) withMidiQueue (λ n. drainsMidi (n / 4 * 4)) drainsMidi (λ x. refl) (start .args .s) (shown (start .args .dynamic) (start .args .sram) (start .args .page)) _ (start .args .midi .now) _ _ (given .give .ensures) is (midi-sent (start .args .s) _ _ (start .args .midi .now) _ _ _ run left (c .before .before .after-run .ensures) (c .before .count .ensures) refl)
 
 pub midi-out-spec : {M : Type 1} → statement M
 midi-out-spec =

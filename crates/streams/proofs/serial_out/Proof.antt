@@ -1,8 +1,12 @@
 -- `streams::serial_out` meets its contract.
+use mathlib.Core.Bool.{false}
 use native.Mathlib.Omega.{arith}
 use mathlib.Core.Path.{refl}
 use Rattle.bus.specs.Memory.{shown}
-use Rattle.streams.proofs.Laws.{serial-nothing, serial-held, serial-bytes}
+use Rattle.dtd.specs.Dtd.{endpoint}
+use Rattle.record.specs.World.{withSerialQueue}
+use Rattle.model.specs.Streams.{drainsSerial}
+use Rattle.streams.proofs.Laws.{nothing-given, bytes-held, bytes-run, bytes-left, bytes-given, serial-sent, each-byte}
 use borrow.Author.Needs.{needs}
 use Rattle.streams.proofs.serial_out.Statement.{statement}
 use Rattle.streams.proofs.serial_out.Tie as tie
@@ -25,7 +29,7 @@ sub-rest : tie.Need-sub-rest
 sub-rest c =
     let given = c .before .before .before .before .before .before .before .before .before .before .before .before in
     let start = given .before .before .before .before .before .before .before .before .before in
-    serial-held (start .args .s) (shown (start .args .dynamic) (start .args .sram) (start .args .page)) _ (start .args .serial .now) _ _ (given .give .ensures) (c .before .before .ran .given .1)
+    bytes-held (endpoint 2 false) 1 (λ l. l .serial) withSerialQueue drainsSerial drainsSerial each-byte (start .args .s) (shown (start .args .dynamic) (start .args .sram) (start .args .page)) _ (start .args .serial .now) _ _ (given .give .ensures) (c .before .before .ran .given .1)
 
 same-length : tie.Need-same-length
 same-length c = search needs
@@ -43,7 +47,7 @@ returns : tie.Need-returns
 returns c =
     let given = c .before .before .before .before .before .before .before .before .before .before in
     let start = given .before .before .before .before .before .before .before .before .before in
-    serial-nothing (start .args .s) (shown (start .args .dynamic) (start .args .sram) (start .args .page)) _ (start .args .serial .now) _ _ (given .give .ensures) (c .enum-told .given .1)
+    nothing-given (endpoint 2 false) 1 (λ l. l .serial) withSerialQueue drainsSerial drainsSerial each-byte (start .args .s) (shown (start .args .dynamic) (start .args .sram) (start .args .page)) _ (start .args .serial .now) _ _ (given .give .ensures) (c .enum-told .given .1)
 
 same-length-5 : tie.Need-same-length-5
 same-length-5 c = search needs
@@ -61,7 +65,10 @@ returns-2 : tie.Need-returns-2
 returns-2 c =
     let given = c .before .before .before .before .before .before .before .before .before .before .before .before .before in
     let start = given .before .before .before .before .before .before .before .before .before in
-    serial-bytes (start .args .s) (shown (start .args .dynamic) (start .args .sram) (start .args .page)) _ (start .args .serial .now) _ _ (given .give .ensures) (c .before .before .before .ran .given .1) (c .before .after-run .ensures) refl
+    let is = c .before .before .before .ran .given .1 in
+    let run = bytes-run (endpoint 2 false) 1 (λ l. l .serial) withSerialQueue drainsSerial drainsSerial each-byte (start .args .s) (shown (start .args .dynamic) (start .args .sram) (start .args .page)) _ (start .args .serial .now) _ _ (given .give .ensures) is in
+    let left = bytes-left (endpoint 2 false) 1 (λ l. l .serial) withSerialQueue drainsSerial drainsSerial each-byte (start .args .s) (shown (start .args .dynamic) (start .args .sram) (start .args .page)) _ (start .args .serial .now) _ _ (given .give .ensures) is in
+    bytes-given (endpoint 2 false) 1 (λ l. l .serial) withSerialQueue drainsSerial drainsSerial each-byte (start .args .s) (shown (start .args .dynamic) (start .args .sram) (start .args .page)) _ (start .args .serial .now) _ _ (given .give .ensures) is (serial-sent (start .args .s) _ _ (start .args .serial .now) _ _ _ run left (c .before .after-run .ensures) refl)
 
 pub serial-out-spec : {M : Type 1} → statement M
 serial-out-spec =
