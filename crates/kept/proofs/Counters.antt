@@ -348,7 +348,20 @@ raises-vendor =
     raises-runs 0 32767 _ _ _
     (λ w. raises-more 0 _ 0 32767 _ (omega arith) (run-bytes (endpoint 2 true) refl [] (busOf w)) (raises-bytes (length (runDtds (endpoint 2 true) [] (busOf w) .bytes))))
 
-raises-others : (c : Settings) (t : ℕ) → Raises 136 32767 (others c t)
+-- how far a counter but vendor_in_bytes rises at most: by eight reads and a packet of MIDI, by all transfers, by what a connected host does, and in a microframe
+abbrev mostOthers : ℕ
+mostOthers = 8 + 128
+
+abbrev mostTransfers : ℕ
+mostTransfers = 646 + mostOthers
+
+abbrev mostTalks : ℕ
+mostTalks = 1 + mostTransfers
+
+abbrev pub mostFrame : ℕ
+mostFrame = 1 + mostTalks
+
+raises-others : (c : Settings) (t : ℕ) → Raises mostOthers 32767 (others c t)
 unfolding others
 raises-others c t =
     raises-then 8 0 128 32767 _ _ (raises-when 8 0 _ _ (raises-midi _ _))
@@ -423,26 +436,26 @@ raises-streams = raises-then 631 0 15 0 _ _ raises-hears raises-outputs
 
 -- ---- from the phase on
 
-raises-transfers : (c : Settings) (t : ℕ) → Raises 782 32767 (transfers c t)
+raises-transfers : (c : Settings) (t : ℕ) → Raises mostTransfers 32767 (transfers c t)
 unfolding transfers
 raises-transfers c t =
-    raises-when 782 32767 _ _
-    (raises-if 782 32767 _ serialStep _ (raises-still 782 32767 serialStep still-serves) (raises-then 646 0 136 32767 _ _ raises-streams (raises-others c t)))
+    raises-when mostTransfers 32767 _ _
+    (raises-if mostTransfers 32767 _ serialStep _ (raises-still mostTransfers 32767 serialStep still-serves) (raises-then 646 0 mostOthers 32767 _ _ raises-streams (raises-others c t)))
 
-raises-talks : (c : Settings) (t : ℕ) (rs : Bool) → Raises 783 32767 (talks c t rs)
+raises-talks : (c : Settings) (t : ℕ) (rs : Bool) → Raises mostTalks 32767 (talks c t rs)
 unfolding talks
-raises-talks c t rs = raises-when 783 32767 _ _ (raises-then 1 0 782 32767 _ _ (raises-enumerates c) (raises-transfers c t))
+raises-talks c t rs = raises-when mostTalks 32767 _ _ (raises-then 1 0 mostTransfers 32767 _ _ (raises-enumerates c) (raises-transfers c t))
 
-raises-at : (c : Settings) (t : ℕ) (rs : Bool) (p : Phase) → Raises 783 32767 (atPhase c t rs p)
-raises-at c t rs Idle = raises-still 783 32767 _ (λ s. walk-idles (StatsAre s) (ranStill s .stores) (still-enters s))
-raises-at c t rs Vbus = raises-still 783 32767 _ (λ s. walk-powers (StatsAre s) (ranStill s .stores) (still-enters s) rs)
-raises-at c t rs Reset = raises-still 783 32767 _ still-resets
+raises-at : (c : Settings) (t : ℕ) (rs : Bool) (p : Phase) → Raises mostTalks 32767 (atPhase c t rs p)
+raises-at c t rs Idle = raises-still mostTalks 32767 _ (λ s. walk-idles (StatsAre s) (ranStill s .stores) (still-enters s))
+raises-at c t rs Vbus = raises-still mostTalks 32767 _ (λ s. walk-powers (StatsAre s) (ranStill s .stores) (still-enters s) rs)
+raises-at c t rs Reset = raises-still mostTalks 32767 _ still-resets
 raises-at c t rs Enumerate = raises-talks c t rs
 raises-at c t rs Stream = raises-talks c t rs
 
-raises-by : (c : Settings) (t : ℕ) (rs : Bool) → Raises 783 32767 (byPhase c t rs)
+raises-by : (c : Settings) (t : ℕ) (rs : Bool) → Raises mostTalks 32767 (byPhase c t rs)
 unfolding byPhase
-raises-by c t rs = raises-here 783 32767 _ (λ v. raises-at c t rs (v .state .phase))
+raises-by c t rs = raises-here mostTalks 32767 _ (λ v. raises-at c t rs (v .state .phase))
 
 -- ---- a microframe: the count of microframes, and then what rises
 
@@ -464,23 +477,23 @@ raised-opens c g w =
     (raised-then 0 0 1 0 _ _ _ (from-counts w)
     (raises-then 0 0 1 0 _ _ (raises-when 0 0 _ ticks (raises-still 0 0 ticks still-ticks)) (raises-cable g) .up (left counts w)))
 
-raised-frame : (c : Settings) (t : ℕ) (rs g s : Bool) (w : World) → Raised 784 32767 (counted microframes 1 (w .state .stats)) (left (frameOf c t rs g s) w .state .stats)
+raised-frame : (c : Settings) (t : ℕ) (rs g s : Bool) (w : World) → Raised mostFrame 32767 (counted microframes 1 (w .state .stats)) (left (frameOf c t rs g s) w .state .stats)
 unfolding frameOf
 raised-frame c t rs true s w =
-    holds-seq (From 784 w) (opens c true) sleeps w
-    (raised-then 1 0 783 32767 _ _ _ (raised-opens c true w) (raises-more 1 0 783 32767 sleeps (omega arith) (omega arith) raises-sleeps .up _))
+    holds-seq (From mostFrame w) (opens c true) sleeps w
+    (raised-then 1 0 mostTalks 32767 _ _ _ (raised-opens c true w) (raises-more 1 0 mostTalks 32767 sleeps (omega arith) (omega arith) raises-sleeps .up _))
 raised-frame c t rs false true w =
-    holds-seq (From 784 w) (opens c false) (suspends true then sleeps) w
-    (raised-then 1 0 783 32767 _ _ _ (raised-opens c false w)
-    (raises-more 1 0 783 32767 _ (omega arith) (omega arith) (raises-then 0 0 1 0 _ _ (raises-still 0 0 (suspends true) (λ r. still-suspends r true)) raises-sleeps) .up _))
+    holds-seq (From mostFrame w) (opens c false) (suspends true then sleeps) w
+    (raised-then 1 0 mostTalks 32767 _ _ _ (raised-opens c false w)
+    (raises-more 1 0 mostTalks 32767 _ (omega arith) (omega arith) (raises-then 0 0 1 0 _ _ (raises-still 0 0 (suspends true) (λ r. still-suspends r true)) raises-sleeps) .up _))
 raised-frame c t rs false false w =
-    holds-seq (From 784 w) (opens c false) (suspends false then leaves (c .«device_stack») rs then byPhase c t rs) w
-    (raised-then 1 0 783 32767 _ _ _ (raised-opens c false w)
-    (raises-then 0 0 783 32767 _ _ (raises-still 0 0 (suspends false) (λ r. still-suspends r false))
-    (raises-then 0 0 783 32767 _ _ (raises-still 0 0 (leaves (c .«device_stack») rs) (λ r. still-leaves r (c .«device_stack») rs)) (raises-by c t rs)) .up _))
+    holds-seq (From mostFrame w) (opens c false) (suspends false then leaves (c .«device_stack») rs then byPhase c t rs) w
+    (raised-then 1 0 mostTalks 32767 _ _ _ (raised-opens c false w)
+    (raises-then 0 0 mostTalks 32767 _ _ (raises-still 0 0 (suspends false) (λ r. still-suspends r false))
+    (raises-then 0 0 mostTalks 32767 _ _ (raises-still 0 0 (leaves (c .«device_stack») rs) (λ r. still-leaves r (c .«device_stack») rs)) (raises-by c t rs)) .up _))
 
 -- each rises by at most 784 and vendor_in_bytes by at most 32,767; the microframes are one more
-pub counters-raised : (t : ℕ) (w : World) → Raised 784 32767 (counted microframes 1 (w .state .stats)) (left (microframe t) w .state .stats)
+pub counters-raised : (t : ℕ) (w : World) → Raised mostFrame 32767 (counted microframes 1 (w .state .stats)) (left (microframe t) w .state .stats)
 unfolding microframe here
 counters-raised t w = raised-frame (w .settings) t (rsSet w) (goneAt t w) (asleepAt t w) w
 
@@ -493,17 +506,17 @@ room n x e = let h = leb-true x (times 32767 n) e in omega arith
 grown : (n x x′ : ℕ) → n < MOST → leb x (times 32767 n) ≡ true → x′ ≤ x + 32767 → leb x′ (times 32767 (n + 1)) ≡ true
 grown n x x′ few e l = let h = leb-true x (times 32767 n) e in le-leb x′ (times 32767 (n + 1)) (omega arith)
 
-at-most : (x x′ : ℕ) → x′ ≤ x + 784 → x′ ≤ x + 32767
+at-most : (x x′ : ℕ) → x′ ≤ x + mostFrame → x′ ≤ x + 32767
 at-most x x′ l = omega arith
 
 -- each counter behind that of the microframes, after n of them
 abbrev Below : ℕ → Stats → Type 0
 Below n r = (k : ℕ) → k < COUNTERS - 1 → leb (counterAt (suc k) r) (times 32767 n) ≡ true
 
-few-a-microframe : (k : ℕ) → most 784 32767 k ≤ 32767
+few-a-microframe : (k : ℕ) → most mostFrame 32767 k ≤ 32767
 few-a-microframe k = by-place (eqb k (place «vendor_in_bytes»))
   where
-    by-place : (v : Bool) → pick v 32767 784 ≤ 32767
+    by-place : (v : Bool) → pick v 32767 mostFrame ≤ 32767
     by-place true = omega arith
     by-place false = omega arith
 
@@ -511,7 +524,7 @@ few-a-microframe k = by-place (eqb k (place «vendor_in_bytes»))
 counted-before : (k : ℕ) (r : Stats) → counterAt (suc k) (counted microframes 1 r) ≡ counterAt (suc k) r
 counted-before k r = raised-other (suc k) 0 1 r (λ e. absurd (omega (arith, e)))
 
-below-next : (n : ℕ) → n < MOST → (r r′ : Stats) → Below n r → Raised 784 32767 (counted microframes 1 r) r′ → Below (n + 1) r′
+below-next : (n : ℕ) → n < MOST → (r r′ : Stats) → Below n r → Raised mostFrame 32767 (counted microframes 1 r) r′ → Below (n + 1) r′
 below-next n few r r′ below rises k l =
     let up = rises .rises (suc k) .high in
     let most-is = few-a-microframe (suc k) in
@@ -545,4 +558,4 @@ pub counters-risen : (t : ℕ) (w : World) → countersOk (w .state .stats) ≡ 
 counters-risen t w e k l =
     let r = w .state .stats in
     risen-one _ _ _ _ (few-a-microframe (suc k)) (counter-below r e k l)
-    (subst (λ (x : ℕ). Rise (most 784 32767 (suc k)) x (counterAt (suc k) (left (microframe t) w .state .stats))) (counted-before k r) (counters-raised t w .rises (suc k)))
+    (subst (λ (x : ℕ). Rise (most mostFrame 32767 (suc k)) x (counterAt (suc k) (left (microframe t) w .state .stats))) (counted-before k r) (counters-raised t w .rises (suc k)))

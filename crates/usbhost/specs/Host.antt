@@ -1,7 +1,7 @@
 -- The host record, a new one, and its state by parts (document 01, "Host record"; usbhost.rs 207-354).
-use Prim.Native.Nat.{_-_, _*_}
+use Prim.Native.Nat.{ℕ, _-_, _*_}
 use mathlib.Core.Bool.{false}
-use mathlib.Core.List.{_++_}
+use mathlib.Core.List.{List, _++_}
 use lib.Dec.{leb}
 use lib.ListN.{take, replicate}
 use Rattle.bits.specs.Pick.{pick}
@@ -34,9 +34,9 @@ stateOf h =
 
 -- ---- `new` (319-354)
 
--- settings whose gone spans past their count are 0
-unfoldable pub settled : Settings → Settings
-settled c =
+-- settings with other gone spans, by their count
+abbrev pub withGoneSpans : Settings → ℕ → List ℕ → Settings
+withGoneSpans c n gone =
     record {
       «device_stack» = c .«device_stack»;
       «midi_in» = c .«midi_in»;
@@ -44,9 +44,13 @@ settled c =
       «midi_every» = c .«midi_every»;
       sleep = c .sleep;
       suspend = c .suspend;
-      spans = c .spans;
-      gone = take (2 * c .spans) (c .gone) ++ replicate (32 - 2 * c .spans) 0;
+      spans = n;
+      gone = gone;
     }
+
+-- settings whose gone spans past their count are 0
+unfoldable pub settled : Settings → Settings
+settled c = withGoneSpans c (c .spans) (take (2 * c .spans) (c .gone) ++ replicate (32 - 2 * c .spans) 0)
 
 -- settings that choose nothing
 abbrev pub noSettings : Settings

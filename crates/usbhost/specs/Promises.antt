@@ -15,23 +15,13 @@ use Rattle.usbhost.specs.declared.Read.{Read}
 use Rattle.usbhost.specs.declared.MidiSent.{MidiSent}
 use Rattle.usbhost.specs.declared.Stored.{Stored}
 use Rattle.usbhost.specs.declared.TakenFrame.{TakenFrame}
-use Rattle.usbhost.specs.Host.{hostOf, noSettings}
+use Rattle.usbhost.specs.Host.{hostOf, withGoneSpans, noSettings}
 use Rattle.usbhost.specs.Calls.{midiSent, serialSent, given, givenRing, takenFrame, deviceRead, deviceWritten, writtenPage}
 use Rattle.usbhost.specs.Frame.{frameNumber, framed}
 
 -- settings with a count of gone spans
 abbrev pub withSpans : Settings → ℕ → Settings
-withSpans c n =
-    record {
-      «device_stack» = c .«device_stack»;
-      «midi_in» = c .«midi_in»;
-      cdc = c .cdc;
-      «midi_every» = c .«midi_every»;
-      sleep = c .sleep;
-      suspend = c .suspend;
-      spans = n;
-      gone = c .gone;
-    }
+withSpans c n = withGoneSpans c n (c .gone)
 
 -- the parts that numbers of refusal read, in a record that is otherwise empty
 abbrev pub bare : State → ℕ → Packer → List ℕ → Host
