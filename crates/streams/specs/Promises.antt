@@ -47,7 +47,7 @@ pub record GivesNothing (e : Endpoint) (m : Memory) (q : List ℕ) (held : ℕ) 
   pub sized : Sized m′
   pub queue : q′ ≡ q
 
--- n bytes are, as many whole units as fit
+-- n bytes are taken of a queue: as many whole units as fit
 pub record GivesBytes (e : Endpoint) (unit : ℕ) (line : Bool) (m : Memory) (q : List ℕ) (held : ℕ) (r : Ran) (n : ℕ) (m′ : Memory) (q′ : List ℕ) : Type 0 where
   pub some : served e held m ≡ true
   pub fits : n ≡ packetOf (tokenOf (nextDtd e m) m) held / unit * unit
