@@ -26,9 +26,10 @@ pub message-length-le : (s : ℕ) → messageLength s ≤ 3
 unfolding messageLength
 message-length-le s = pick-both (λ n. n ≤ 3) (within 0xC0 0xDF s || (eqb s 0xF1 || eqb s 0xF3)) (omega arith) (omega arith)
 
-code-below-16 : (s : ℕ) → s < 256 → messageCode s < 16
+code-below-16 : (s : ℕ) → messageCode s < 16
 unfolding messageCode
-code-below-16 s h = pick-both (λ n. n < 16) (leb 0xF0 s) (omega (arith, message-length-le s)) (omega arith)
+code-below-16 s =
+    pick-by (λ n. n < 16) (leb 0xF0 s) (λ t. omega (arith, message-length-le s)) (λ t. let less = leb-false 0xF0 s t in omega arith)
 
 held-few : (p : Packer) (b : ℕ) → length (heldBytes p ++ (b ∷ [])) ≤ 3
 held-few p b =
@@ -40,26 +41,29 @@ sysex-code p b bs h =
     pick-both (λ (f : Fed). codeOf (f .event) < 16) (eqb b 0xF7) (omega arith)
     (pick-both (λ (f : Fed). codeOf (f .event) < 16) (eqb (length bs) 3) (omega arith) (omega arith))
 
-message-code : (p : Packer) (bs : List ℕ) → p .status < 256 → codeOf (messageOf p bs .event) < 16
-message-code p bs h =
-    pick-both (λ (f : Fed). codeOf (f .event) < 16) (leb (messageLength (p .status)) (length bs)) (code-below-16 (p .status) h) (omega arith)
+message-code : (p : Packer) (bs : List ℕ) → codeOf (messageOf p bs .event) < 16
+message-code p bs =
+    pick-both (λ (f : Fed). codeOf (f .event) < 16) (leb (messageLength (p .status)) (length bs)) (code-below-16 (p .status)) (omega arith)
 
-data-code : (p : Packer) (b : ℕ) → p .status < 256 → codeOf (fedData p b .event) < 16
-data-code p b h =
-    pick-both (λ (f : Fed). codeOf (f .event) < 16) (eqb (p .status) 0) (omega arith) (message-code p (soFar p b) h)
+data-code : (p : Packer) (b : ℕ) → codeOf (fedData p b .event) < 16
+data-code p b =
+    pick-both (λ (f : Fed). codeOf (f .event) < 16) (eqb (p .status) 0) (omega arith) (message-code p (soFar p b))
 
 status-code : (p : Packer) (b : ℕ) → codeOf (fedStatus p b .event) < 16
 status-code p b =
     pick-both (λ (f : Fed). codeOf (f .event) < 16) (eqb b 0xF0) (omega arith)
     (pick-both (λ (f : Fed). codeOf (f .event) < 16) (eqb b 0xF6) (omega arith) (omega arith))
 
--- table 4-1 has sixteen codes
-pub code-below : (p : Packer) (b : ℕ) → p .status < 256 → codeOf (feedOf p b .event) < 16
+-- table 4-1 has sixteen codes, whatever the packer holds
+pub code-any : (p : Packer) (b : ℕ) → codeOf (feedOf p b .event) < 16
 unfolding feedOf
-code-below p b h =
+code-any p b =
     pick-both (λ (f : Fed). codeOf (f .event) < 16) (leb 0xF8 b) (omega arith)
     (pick-both (λ (f : Fed). codeOf (f .event) < 16) (p .sysex) (sysex-code p b (heldBytes p ++ (b ∷ [])) (held-few p b))
-    (pick-both (λ (f : Fed). codeOf (f .event) < 16) (leb 0x80 b) (status-code p b) (data-code p b h)))
+    (pick-both (λ (f : Fed). codeOf (f .event) < 16) (leb 0x80 b) (status-code p b) (data-code p b)))
+
+pub code-below : (p : Packer) (b : ℕ) → p .status < 256 → codeOf (feedOf p b .event) < 16
+code-below p b h = code-any p b
 
 -- what `feed` ensures, from its first clause
 pub fed-coded : (p : Packer) (b : ℕ) (r : Fed) → p .status < 256 → r ≡ feedOf p b → (r ≡ feedOf p b) × (codeOf (r .event) < 16)

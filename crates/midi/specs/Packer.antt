@@ -1,11 +1,11 @@
--- MIDI bytes to USB-MIDI event packets: the two tables of USB MIDI 1.0, the packer of one cable, its packets, and a send into the queue.
+-- MIDI bytes to USB-MIDI event packets: the two tables of USB MIDI 1.0, the packer of a cable, its packets, and a send into the queue.
 use Prim.Native.Nat.{ℕ, _+_, _*_, _/_, _%_, _≤_, _<_}
 use mathlib.Core.Path.{_≡_}
 use mathlib.Core.Bool.{Bool, true, false, _&&_, _||_}
 use mathlib.Core.List.{List, [], _∷_, _++_, flatMap}
 use lib.ListN.{length, getD}
 use lib.Seq.{sets}
-use lib.Dec.{eqb, leb}
+use lib.Dec.{eqb, leb, ltb}
 use Rattle.bits.specs.Pick.{pick}
 use Rattle.midi.specs.declared.Packer.{Packer}
 use Rattle.midi.specs.declared.Event.{Event}
@@ -140,6 +140,17 @@ written form p bs = flatMap form (eventsOf p bs)
 unfoldable pub packetsOf : ℕ → Packer → List ℕ → List ℕ
 packetsOf cable p bs = written (packetBytes cable) p bs
 
+-- S-2: how many cables an endpoint has, and whether a number is one's
+abbrev pub CABLES : ℕ
+CABLES = 16
+
+abbrev pub isCable : ℕ → Bool
+isCable cable = ltb cable CABLES
+
+-- S-2: the packer of a cable among those of all, in order; a list that ends early has fresh ones behind its end
+abbrev pub packerAt : List Packer → ℕ → Packer
+packerAt ps cable = getD ps cable fresh
+
 -- document 01, "MIDI packer and queue": the queue's bytes
 abbrev pub QUEUE : ℕ
 QUEUE = 4096
@@ -158,10 +169,17 @@ sentOf p bs held =
 unfoldable pub queueAfter : ℕ → Packer → List ℕ → ℕ → List ℕ → List ℕ
 queueAfter cable p bs held q = pick (roomFor p bs held) (sets q held (packetsOf cable p bs)) q
 
+-- S-2: a send on a cable: number 8, before 7, where there is none of that number, an empty send's too
+unfoldable pub sentOn : ℕ → Packer → List ℕ → ℕ → Sent
+sentOn cable p bs held = pick (isCable cable) (sentOf p bs held) (record { refusal = 8; packer = p; held = held })
+
+unfoldable pub queueOn : ℕ → Packer → List ℕ → ℕ → List ℕ → List ℕ
+queueOn cable p bs held q = pick (isCable cable) (queueAfter cable p bs held q) q
+
 -- what a send leaves: its answer, and the queue to its last byte
 pub record Sends (cable : ℕ) (p : Packer) (bs : List ℕ) (held : ℕ) (q q′ : List ℕ) (r : Sent) : Type 0 where
-  pub answer : r ≡ sentOf p bs held
-  pub queue : q′ ≡ queueAfter cable p bs held q
+  pub answer : r ≡ sentOn cable p bs held
+  pub queue : q′ ≡ queueOn cable p bs held q
 
 -- what a run of bytes leaves whose packets are put at a place of the queue: the packer fed, the next free place, and the queue
 pub record Puts (cable : ℕ) (p : Packer) (bs : List ℕ) (held : ℕ) (q q′ : List ℕ) (next : Packer) (end : ℕ) : Type 0 where

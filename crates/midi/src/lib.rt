@@ -1,4 +1,4 @@
-// MIDI bytes to USB-MIDI event packets: the packer of one cable, a send into the queue, and the receive table.
+// MIDI bytes to USB-MIDI event packets: the packer of a cable, a send into the queue, and the receive table.
 ghost use mathlib.Core.Path.{_≡_};
 ghost use mathlib.Core.List.{[], _∷_};
 ghost use lib.Seq.{sets};
@@ -9,6 +9,9 @@ ghost use Rattle.midi.specs.Packer.{feedOf, fedSysex, fedData, fedStatus
 
 // Bytes of the queue.
 pub const QUEUE: usize = 4096;
+
+// Cables of an endpoint.
+pub const CABLES: usize = 16;
 
 // The packer between bytes: the running status, the bytes held of a message, and whether it is inside SysEx.
 pub struct Packer {
@@ -305,10 +308,17 @@ pub struct Sent {
     pub held: usize,
 }
 
-// Counts the packets of `bytes` and puts them behind the `held` bytes of the queue, or changes nothing where they do not fit.
+// Counts the packets of `bytes` and puts them behind the `held` bytes of the queue, or changes nothing where there is no such cable or they do not fit.
 pub fn send(p: Packer, cable: u8, bytes: &[u8], queue: &mut [u8; QUEUE], held: usize) -> Sent
     ensures { λ r. ⌜ Sends cable p (now (bytes .entry)) held (now (queue .entry)) (now (queue .exit)) r ⌝ }
 {
+    if 15 < cable {
+        return Sent {
+            refusal: 8,
+            packer: p,
+            held,
+        };
+    }
     if QUEUE < held {
         return Sent {
             refusal: 7,
