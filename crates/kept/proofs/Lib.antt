@@ -1,4 +1,3 @@
-pub mod Bytes
 pub mod Credit
 pub mod Every
 pub mod Timers

@@ -57,6 +57,7 @@ counts-one (audio c) w = unanswered (ap (λ (v : World). v .state .answer) (audi
 counts-one (request c) w = unanswered (ap (λ (v : World). v .state .answer) (request-beside c w))
 counts-one (stream (Part.midi n)) w = unanswered refl
 counts-one (stream (Part.serial n)) w = unanswered refl
+counts-one (stream (Part.cabled cs)) w = unanswered refl
 counts-one (stream (Part.received bs)) w = record { retired = λ h. omega arith; dropped = λ h. omega arith }
 
 -- a list of changes, and so each step by its own
@@ -218,7 +219,8 @@ module _ (f : Endpoint → ℕ → ℕ → ℕ) (g : ℕ → ℕ) where
         few-more (y + n * y) (suc n * y) _ (omega arith)
         (few-runs (n * y) _ [] _
         (λ r. few-if (n * y) _ _ _
-        (few-after (n * y) _ _ (silent-one R _ (λ w. refl)) (few-after (n * y) _ _ (silent-one R _ (λ w. refl)) (few-reads n)))
+        (few-after (n * y) _ _ (silent-one R _ (λ w. refl))
+        (few-after (n * y) _ _ (silent-one R _ (λ w. refl)) (few-after (n * y) _ _ (silent-one R _ (λ w. refl)) (few-reads n))))
         (few-silent (n * y) nothing (silent-nothing R))))
 
     few-midi : (asleep : Bool) (every : ℕ) → Few (8 * y) (midiIn asleep every)

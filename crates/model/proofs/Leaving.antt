@@ -7,7 +7,7 @@ use Rattle.gptimers.specs.declared.Timers.{Timers}
 use Rattle.record.specs.declared.Settings.{Settings}
 use Rattle.record.specs.Record.{Counter, «midi_dtds», «midi_asleep»}
 use Rattle.record.specs.World.{World}
-use Rattle.record.specs.Change.{Change, bus, ran, lost, count, gone, suspended, credit, budget, counter, timers, midi, serial, received, frame, taken, apply, Step}
+use Rattle.record.specs.Change.{Change, bus, ran, lost, count, gone, suspended, credit, budget, counter, timers, midi, serial, cabled, received, frame, taken, apply, Step}
 use Rattle.model.specs.Phases.{ticks, cable, sleeps, suspends, startsFrame}
 use Rattle.model.specs.Streams.{midiIn, serialStep}
 use Rattle.model.specs.Microframe.{transfers}
@@ -55,9 +55,9 @@ module _ {K : Type 0} (F : Fields K) where
   -- ---- bytes that come
 
   module _ (receives : (bs : List ℕ) (k : K) → F .on (received bs) k ≡ k) where
-    pub keeps-awake : ((n : ℕ) (k : K) → F .on (count «midi_dtds» n) k ≡ k) → (every : ℕ) → Keeps F (midiIn false every)
-    keeps-awake p every =
-        keeps-walked (midiIn false every) (λ j. walk-awake (Is j) (ranIs j) (leaves-is (count «midi_dtds» 1) (p 1) j) (λ bs. leaves-is (received bs) (receives bs) j) every)
+    pub keeps-awake : ((cs : List ℕ) (k : K) → F .on (cabled cs) k ≡ k) → ((n : ℕ) (k : K) → F .on (count «midi_dtds» n) k ≡ k) → (every : ℕ) → Keeps F (midiIn false every)
+    keeps-awake q p every =
+        keeps-walked (midiIn false every) (λ j. walk-awake (Is j) (ranIs j) (leaves-is (count «midi_dtds» 1) (p 1) j) (λ bs. leaves-is (received bs) (receives bs) j) (λ cs. leaves-is (cabled cs) (q cs) j) every)
 
     pub keeps-serves : ((n : ℕ) (k : K) → F .on (serial n) k ≡ k) → Keeps F serialStep
     keeps-serves p =
@@ -74,6 +74,7 @@ pub record Untouched {K : Type 0} (F : Fields K) : Type 0 where
   pub midis : (n : ℕ) (k : K) → F .on (midi n) k ≡ k
   pub serials : (n : ℕ) (k : K) → F .on (serial n) k ≡ k
   pub receives : (bs : List ℕ) (k : K) → F .on (received bs) k ≡ k
+  pub cables : (cs : List ℕ) (k : K) → F .on (cabled cs) k ≡ k
   pub frames : (f : List ℕ) (k : K) → F .on (frame f) k ≡ k
   pub takes : (n : ℕ) (k : K) → F .on (taken n) k ≡ k
 
@@ -87,6 +88,7 @@ module _ {K : Type 0} (F : Fields K) (U : Untouched F) where
         midis = λ n w l f. leaves-is F (midi n) (U .midis n) j w;
         serials = λ n w l. leaves-is F (serial n) (U .serials n) j w;
         receives = λ bs. leaves-is F (received bs) (U .receives bs) j;
+        cables = λ cs. leaves-is F (cabled cs) (U .cables cs) j;
       }
 
   any-budget : (j : K) (n : ℕ) (w : World) → Is F j w → Is F j (apply (budget n) w)

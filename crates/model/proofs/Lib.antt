@@ -17,6 +17,7 @@ pub mod Ring
 pub mod InputStep
 pub mod Descriptors
 pub mod Blocks
+pub mod Bytes
 pub mod Decoded
 pub mod Ready
 pub mod Retired
@@ -35,3 +36,4 @@ pub mod Unread
 pub mod Holding
 pub mod Walk
 pub mod Leaving
+pub mod Cables

@@ -15,7 +15,7 @@ use Rattle.record.specs.Change.{Change, bus, ran, lost, count, gone, suspended,
 use Rattle.record.proofs.Beside.{request-beside}
 use Rattle.model.specs.PortMarks.{MidiCome, midiCome}
 use Rattle.model.proofs.Fields.{Fields}
-use Rattle.model.proofs.Plain.{Effect, none, tallied, cableIs, suspendIs, runIs, blockIs, came, effectOf, plainCounterBy, plainEffect, blockAndEnumerations, plain}
+use Rattle.model.proofs.Plain.{Effect, none, tallied, cableIs, suspendIs, runIs, blockIs, came, cablesCame, effectOf, plainCounterBy, plainEffect, blockAndEnumerations, plain}
 
 -- gone, suspended and RS seen set, and beside them the count of microframes without MIDI
 pub record PortMarks : Type 0 where
@@ -38,10 +38,11 @@ marksDo (suspendIs b) k = marksBy (k .gone) b (k .running) (k .asleep)
 marksDo (runIs b) k = marksBy (k .gone) (k .suspended) b (k .asleep)
 marksDo (blockIs n m) k = k
 marksDo (came bs) k = k
+marksDo (cablesCame cs) k = k
 
 -- with another count of reads
 abbrev readIs : MidiCome → ℕ → MidiCome
-readIs k n = record { counted = n; bytes = k .bytes; area = k .area }
+readIs k n = record { counted = n; bytes = k .bytes; area = k .area; cables = k .cables }
 
 abbrev pub comeDo : Effect → MidiCome → MidiCome
 comeDo none k = k
@@ -50,7 +51,8 @@ comeDo (cableIs b) k = k
 comeDo (suspendIs b) k = k
 comeDo (runIs b) k = k
 comeDo (blockIs n m) k = k
-comeDo (came bs) k = record { counted = k .counted; bytes = k .bytes + length bs; area = sets (k .area) (k .bytes) bs }
+comeDo (came bs) k = record { counted = k .counted; bytes = k .bytes + length bs; area = sets (k .area) (k .bytes) bs; cables = k .cables }
+comeDo (cablesCame cs) k = record { counted = k .counted; bytes = k .bytes; area = k .area; cables = sets (k .cables) (k .bytes) cs }
 
 -- both, in a World that a change made
 abbrev pub Done : Change → World → Type 0
@@ -85,6 +87,7 @@ done (audio (Part.taken n)) w = (refl, refl)
 done (request c) w = (ap marksOf (request-beside c w), ap midiCome (request-beside c w))
 done (stream (Part.midi n)) w = (refl, refl)
 done (stream (Part.serial n)) w = (refl, refl)
+done (stream (Part.cabled cs)) w = (refl, refl)
 done (stream (Part.received bs)) w = (refl, refl)
 
 -- fields that change by the marks' effects and by those of MIDI that comes
@@ -108,6 +111,7 @@ module _ {K : Type 0} (does : Effect → K → K) (rests : (k : K) → does none
   leaves (runIs b) h k = absurd (false-true h)
   leaves (blockIs n m) h k = blocks n m k
   leaves (came bs) h k = absurd (false-true h)
+  leaves (cablesCame cs) h k = absurd (false-true h)
 
   plain-by : (c : Change) → plain c ≡ true → (k : K) → does (effectOf c) k ≡ k
   plain-by c = leaves (effectOf c)

@@ -12,7 +12,7 @@ use Rattle.record.specs.declared.Settings.{Settings}
 use Rattle.record.specs.Record.{Counter, place, microframes, «midi_dtds», «midi_asleep», restarts, enumerations}
 use Rattle.record.specs.World.{World}
 use Rattle.record.specs.Parts as Part
-use Rattle.record.specs.Change.{Change, bus, ran, lost, count, uf, phase, started, gone, suspended, credit, budget, counter, block, timers, control, queued, popped, pushed, cleared, reply, device, config, forgot, midi, serial, received, frame, taken, apply, port, audio, request, stream}
+use Rattle.record.specs.Change.{Change, bus, ran, lost, count, uf, phase, started, gone, suspended, credit, budget, counter, block, timers, control, queued, popped, pushed, cleared, reply, device, config, forgot, midi, serial, cabled, received, frame, taken, apply, port, audio, request, stream}
 use Rattle.model.specs.Phases.{within, counts, ticks, forgets, returns, cable, suspends, enters, idles, powers, resets, startsFrame}
 use Rattle.model.specs.Control.{posts, unstalls, stages, controls}
 use Rattle.model.specs.Streams.{midiIn, serialStep, midiOut, readsVendor}
@@ -23,7 +23,7 @@ use Rattle.model.proofs.Holding.{Holds}
 use Rattle.model.proofs.Walk.{isOther, isStreamed, adds-any, clears-any, Forgotten, Requested, Chosen, Sounded, walk-counts, walk-ticks, walk-forgets, walk-returns, walk-enters, walk-idles, walk-powers, walk-resets, walk-posts, walk-unstalls, walk-stages, walk-configured, walk-controls, walk-writes, walk-vendor, walk-hears, walk-streams, walk-cable, walk-opens}
 use Rattle.model.proofs.Leaving.{Is, leaves-is, ranIs, keeps-walked, keeps-ticks, keeps-suspends, keeps-frame, keeps-awake, keeps-serves}
 
--- what a change does to the fields that few changes touch: counters, the port's marks, the block, the bytes that came
+-- what a change does to the fields that few changes touch: counters, the port's marks, the block, the bytes that came and their cables
 pub data Effect : Type 0 where
   none : Effect
   tallied : Counter → ℕ → Effect
@@ -32,6 +32,7 @@ pub data Effect : Type 0 where
   runIs : Bool → Effect
   blockIs : ℕ → ℕ → Effect
   came : List ℕ → Effect
+  cablesCame : List ℕ → Effect
 
 abbrev pub effectOf : Change → Effect
 effectOf (bus s) = none
@@ -54,6 +55,7 @@ effectOf (audio (Part.taken n)) = none
 effectOf (request c) = none
 effectOf (stream (Part.midi n)) = none
 effectOf (stream (Part.serial n)) = none
+effectOf (stream (Part.cabled cs)) = cablesCame cs
 effectOf (stream (Part.received bs)) = came bs
 
 -- which changes beside the plain ones the fields ignore too: of the block, of the count of enumerations, of MIDI that comes, of the port's marks
@@ -77,6 +79,7 @@ plainEffect i (suspendIs b) = i .marks
 plainEffect i (runIs b) = i .marks
 plainEffect i (blockIs n m) = i .block
 plainEffect i (came bs) = i .midi
+plainEffect i (cablesCame cs) = i .midi
 
 abbrev pub plainBy : Ignored → Change → Bool
 plainBy i c = plainEffect i (effectOf c)
@@ -225,7 +228,7 @@ module _ {K : Type 0} {i : Ignored} (F : Fields K) (P : (c : Change) → plainBy
     reads-plain n = ap (λ (b : Bool). b && true) M
 
     pub still-awake : (every : ℕ) → Keeps F (midiIn false every)
-    still-awake = keeps-awake F (λ bs. P (received bs) M) (λ n. P (count «midi_dtds» n) (reads-plain n))
+    still-awake = keeps-awake F (λ bs. P (received bs) M) (λ cs. P (cabled cs) M) (λ n. P (count «midi_dtds» n) (reads-plain n))
 
     serves-is : Keeps F serialStep
     serves-is = keeps-serves F (λ bs. P (received bs) M) (λ n. P (serial n) refl)

@@ -42,7 +42,7 @@ marks-midi true every v = marks-sleeps v
 marks-midi false every v = awake v
   where
     awake : Keeps marks (midiIn false every)
-    awake = keeps-awake marks (λ bs k. refl) (λ n k. refl) every
+    awake = keeps-awake marks (λ bs k. refl) (λ cs k. refl) (λ n k. refl) every
 
 count-and : (a b : Bool) (k : PortMarks) → pick a (counting b k) k ≡ counting (a && b) k
 count-and true b k = refl

@@ -29,16 +29,16 @@ come-cable true = keeps-unplugs come (λ b k. refl)
 come-cable false =
     keeps-if come _ _ nothing (keeps-then come _ _ (keeps-one come _ (λ w. refl)) (still-returns come come-plain)) (keeps-nothing come)
 
-come-opens : (c : Settings) (g : Bool) → Keeps come (opens c g)
+pub come-opens : (c : Settings) (g : Bool) → Keeps come (opens c g)
 unfolding opens
 come-opens c g =
     keeps-then come _ _ (still-counts come come-plain)
     (keeps-then come _ _ (keeps-if come _ _ nothing (still-ticks come come-plain) (keeps-nothing come)) (come-cable g))
 
-come-sleeps : Keeps come sleeps
+pub come-sleeps : Keeps come sleeps
 come-sleeps = keeps-sleeps come (λ n k. refl)
 
-come-suspends : (s : Bool) → Keeps come (suspends s)
+pub come-suspends : (s : Bool) → Keeps come (suspends s)
 come-suspends = keeps-suspends come (λ b k. refl)
 
 come-departs : Keeps come departs
@@ -46,7 +46,7 @@ unfolding departs
 come-departs =
     keeps-then come _ _ (keeps-one come _ (λ w. refl)) (keeps-then come _ _ (still-enters come come-plain Vbus) (still-forgets come come-plain))
 
-come-leaves : (stack rs : Bool) → Keeps come (leaves stack rs)
+pub come-leaves : (stack rs : Bool) → Keeps come (leaves stack rs)
 unfolding leaves
 come-leaves false rs = keeps-nothing come
 come-leaves true true = keeps-one come _ (λ w. refl)
@@ -93,11 +93,11 @@ module _ (c : Settings) (t : ℕ) (audio : c .cdc ≡ false) (asleep : within (c
 
 -- ---- the whole
 
-come-gone : (c : Settings) (t : ℕ) (rs s : Bool) → Keeps come (frameOf c t rs true s)
+pub come-gone : (c : Settings) (t : ℕ) (rs s : Bool) → Keeps come (frameOf c t rs true s)
 unfolding frameOf
 come-gone c t rs s = keeps-then come _ _ (come-opens c true) come-sleeps
 
-come-suspended : (c : Settings) (t : ℕ) (rs g : Bool) → Keeps come (frameOf c t rs g true)
+pub come-suspended : (c : Settings) (t : ℕ) (rs g : Bool) → Keeps come (frameOf c t rs g true)
 unfolding frameOf
 come-suspended c t rs true = come-gone c t rs true
 come-suspended c t rs false =

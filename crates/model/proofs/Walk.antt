@@ -18,7 +18,7 @@ use Rattle.record.specs.declared.Control.{Control}
 use Rattle.record.specs.declared.Settings.{Settings}
 use Rattle.record.specs.Record.{Stats, withOn, Counter, place, counterOf, counted, microframes, «midi_dtds», «midi_asleep», restarts, enumerations}
 use Rattle.record.specs.World.{World, busOf}
-use Rattle.record.specs.Change.{Change, bus, ran, lost, count, uf, timers, phase, started, gone, suspended, wasRunning, credit, budget, counter, block, control, queued, popped, pushed, cleared, reply, device, config, forgot, midi, serial, received, frame, taken, apply, Step, left, _then_, nothing, if, when, one, here, onBus, onPage, ranStores, runs}
+use Rattle.record.specs.Change.{Change, bus, ran, lost, count, uf, timers, phase, started, gone, suspended, wasRunning, credit, budget, counter, block, control, queued, popped, pushed, cleared, reply, device, config, forgot, midi, serial, cabled, received, frame, taken, apply, Step, left, _then_, nothing, if, when, one, here, onBus, onPage, ranStores, runs}
 use Rattle.record.proofs.Counters.{raised-other}
 use Rattle.model.specs.Phases.{now, within, counts, ticks, dropsRequest, forgets, returns, cable, sleeps, suspends, enters, departs, leaves, idles, powers, resets, startsFrame}
 use Rattle.model.specs.Control.{toStatus, posted, posts, configured, keepsReply, dataStage, asksWhole, chooses, configures, finishes, statusEnds, statusStage, stalled, unstalls, stages, controls}
@@ -78,6 +78,7 @@ pub record Carried (P : World → Type 0) : Type 0 where
   pub midis : (n : ℕ) (w : World) → n ≤ w .state .lengths .midi → n % 4 ≡ 0 → P w → P (apply (midi n) w)
   pub serials : (n : ℕ) (w : World) → n ≤ w .state .lengths .serial → P w → P (apply (serial n) w)
   pub receives : (bs : List ℕ) (w : World) → P w → P (apply (received bs) w)
+  pub cables : (cs : List ℕ) (w : World) → P w → P (apply (cabled cs) w)
 
 -- the audio stream: the budget is seen past its test
 pub record Sounded (P : World → Type 0) : Type 0 where
@@ -361,13 +362,13 @@ module _ (P : World → Type 0) (R : Ran P) where
   naks-here : Holds P naks
   naks-here = walk-naks P (R .stores)
 
-  module _ (counts : (w : World) → P w → P (apply (count «midi_dtds» 1) w)) (receives : (bs : List ℕ) (w : World) → P w → P (apply (received bs) w)) where
+  module _ (counts : (w : World) → P w → P (apply (count «midi_dtds» 1) w)) (receives : (bs : List ℕ) (w : World) → P w → P (apply (received bs) w)) (cables : (cs : List ℕ) (w : World) → P w → P (apply (cabled cs) w)) where
     walk-reads : (n : ℕ) → Holds P (reads n)
     unfolding reads
     walk-reads zero = holds-nothing P
     walk-reads (suc n) =
         let rest : Holds P (reads n) = walk-reads n in
-        search (steps, rest, counts, receives) depth 8
+        search (steps, rest, counts, receives, cables) depth 10
 
     pub walk-awake : (every : ℕ) → Holds P (midiIn false every)
     unfolding midiIn
@@ -467,4 +468,4 @@ module _ (P : World → Type 0) (R : Ran P) where
   pub walk-transfers : Carried P → Sounded P → (c : Settings) (t : ℕ) → Holds P (transfers c t)
   walk-transfers C S c t =
       walk-streaming C S c t
-      (walk-midi (walk-sleeps P (C .sleeps)) (walk-awake (C .reads) (C .receives)) (within (c .sleep) t) (c .«midi_every»))
+      (walk-midi (walk-sleeps P (C .sleeps)) (walk-awake (C .reads) (C .receives) (C .cables)) (within (c .sleep) t) (c .«midi_every»))

@@ -14,3 +14,4 @@ pub mod Retired
 pub mod SentBlock
 pub mod Progress
 pub mod PortMarks
+pub mod Cables

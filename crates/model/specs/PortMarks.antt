@@ -45,12 +45,13 @@ pub data NoMidi (t : ℕ) (w : World) : Type 0 where
   busSuspended : InSuspend (w .settings) t → NoMidi t w
   midiSleeps : reachesOutput t w ≡ true → w .settings .«midi_in» ≡ true → InSleep (w .settings) t → NoMidi t w
 
--- what MIDI that comes changes: the reads counted (794), and the receive area with the count of its bytes (805)
+-- what MIDI that comes changes: the reads counted (794), the receive area with the count of its bytes (805), and the area of their cables (S-2)
 pub record MidiCome : Type 0 where
   pub counted : ℕ
   pub bytes : ℕ
   pub area : List ℕ
+  pub cables : List ℕ
 
 abbrev pub midiCome : World → MidiCome
 midiCome w =
-    record { counted = counterOf «midi_dtds» (w .state .stats); bytes = w .state .answer .received; area = w .lent .receive }
+    record { counted = counterOf «midi_dtds» (w .state .stats); bytes = w .state .answer .received; area = w .lent .receive; cables = w .lent .cables }

@@ -3,7 +3,7 @@ use Prim.Native.Nat.{ℕ, zero, suc, _+_, _*_, _/_, _%_, min}
 use mathlib.Core.Bool.{Bool, true, false, not, _&&_, _||_}
 use mathlib.Core.List.{List, [], _∷_, _++_}
 use lib.Dec.{eqb}
-use lib.ListN.{length, getD, take, drop}
+use lib.ListN.{length, getD, take, drop, replicate}
 use Rattle.bits.specs.Pick.{pick}
 use Rattle.bits.specs.Word.{set}
 use Rattle.usbdev.specs.Offsets.{EPNAK}
@@ -12,7 +12,7 @@ use Rattle.midi.specs.Packer.{byteCount}
 use Rattle.dtd.specs.Dtd.{Endpoint, endpoint, primed, nextActive, nextDtd, tokenOf, Run}
 use Rattle.record.specs.Record.{«midi_dtds», «midi_packets_out», «vendor_in_bytes»}
 use Rattle.record.specs.World.{World}
-use Rattle.record.specs.Change.{count, midi, serial, received, Step, _then_, nothing, when, one, here, onPage, runs}
+use Rattle.record.specs.Change.{count, midi, serial, cabled, received, Step, _then_, nothing, when, one, here, onPage, runs}
 use Rattle.model.specs.Phases.{now, changing, sleeps}
 
 -- ---- what the steps test
@@ -36,10 +36,25 @@ brought r = r .done || nonempty (r .bytes)
 
 -- ---- MIDI from the device (773-808)
 
--- 797-806: the bytes of n packets, by the code in the low half of each packet's first byte (USB MIDI 1.0, table 4-1)
-unfoldable pub decoded : ℕ → List ℕ → List ℕ
-decoded zero bs = []
-decoded (suc n) bs = take (byteCount (getD bs 0 0 % 16)) (drop 1 bs) ++ decoded n (drop 4 bs)
+-- 797-806: the bytes of the packet that bs begins with, by the code in the low half of its first byte (USB MIDI 1.0, table 4-1)
+abbrev pub packetData : List ℕ → List ℕ
+packetData bs = take (byteCount (getD bs 0 0 % 16)) (drop 1 bs)
+
+-- S-2: its cable, the high half of its first byte (USB MIDI 1.0, section 4), once for each of these bytes
+abbrev pub packetCables : List ℕ → List ℕ
+packetCables bs = replicate (length (packetData bs)) (getD bs 0 0 / 16)
+
+-- n packets, of four bytes each, and what is taken of each
+unfoldable pub eachPacket : (List ℕ → List ℕ) → ℕ → List ℕ → List ℕ
+eachPacket form zero bs = []
+eachPacket form (suc n) bs = form bs ++ eachPacket form n (drop 4 bs)
+
+-- the bytes of n packets, and their cables
+abbrev pub decoded : ℕ → List ℕ → List ℕ
+decoded n bs = eachPacket packetData n bs
+
+abbrev pub cablesOf : ℕ → List ℕ → List ℕ
+cablesOf n bs = eachPacket packetCables n bs
 
 -- 791-807: at most n reads, ended by the first with neither byte nor completion; whole packets count
 unfoldable pub reads : ℕ → Step
@@ -47,7 +62,10 @@ reads zero = nothing
 reads (suc n) =
     runs (endpoint 1 true) []
     (λ r. when (λ w. brought r)
-    (one (λ w. count «midi_dtds» 1) then one (λ w. received (decoded (length (r .bytes) / 4) (r .bytes))) then reads n))
+    (one (λ w. count «midi_dtds» 1)
+    then one (λ w. cabled (cablesOf (length (r .bytes) / 4) (r .bytes)))
+    then one (λ w. received (decoded (length (r .bytes) / 4) (r .bytes)))
+    then reads n))
 
 -- 786-790: how many reads: eight, or one in every so many microframes
 abbrev pub readsAt : ℕ → ℕ → ℕ

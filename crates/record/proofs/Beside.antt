@@ -5,7 +5,7 @@ use mathlib.Core.Path.{_≡_, refl}
 use Rattle.record.specs.declared.Phase.the-variants.{Idle}
 use Rattle.record.specs.declared.Stage.the-variants.{Data}
 use Rattle.record.specs.Record.{withPhase, withPort, withAudio, withControl, withLengths, withAnswer, withCount, withSetups, withMidi, withSerial, withDevice, withConfig}
-use Rattle.record.specs.World.{World, withState, withOwn, withLent, ownSetups, ownMidi, ownSerial, ownDevice, lentReply, lentConfig, lentReceive, lentReceived}
+use Rattle.record.specs.World.{World, withState, withOwn, withLent, ownSetups, ownMidi, ownSerial, ownDevice, lentReply, lentConfig, lentReceive, lentCables, lentReceived}
 use Rattle.record.specs.Parts as Part
 use Rattle.record.specs.Parts.{PortChange, AudioChange, RequestChange, StreamChange}
 use Rattle.record.specs.Change.{port, audio, request, stream, apply}
@@ -35,7 +35,7 @@ abbrev pub withoutStream : World → World
 withoutStream w =
     withLent
     (withOwn (withState w (withAnswer (withLengths (w .state) (withMidi (withSerial (w .state .lengths) 0) 0)) (withCount (w .state .answer) 0))) (ownMidi (ownSerial (w .own) []) []))
-    (lentReceive (w .lent) [])
+    (lentCables (lentReceive (w .lent) []) [])
 
 pub port-beside : (c : PortChange) (w : World) → withoutPort (apply (port c) w) ≡ withoutPort w
 unfolding apply
@@ -71,4 +71,5 @@ pub stream-beside : (c : StreamChange) (w : World) → withoutStream (apply (str
 unfolding apply
 stream-beside (Part.midi x) w = refl
 stream-beside (Part.serial x) w = refl
+stream-beside (Part.cabled x) w = refl
 stream-beside (Part.received x) w = refl

@@ -19,7 +19,7 @@ use Rattle.record.specs.Parts.{PortChange, AudioChange, RequestChange, S
 use Rattle.record.specs.declared.Ring.{Ring}
 use Rattle.record.specs.declared.Control.{Control}
 use Rattle.record.specs.Record.{withUf, withT, withSuspended, withGone, withRunning, withCredit, withCounter, withBudget, withBlock, withReceived, withSending, withSetups, withMidi, withSerial, withDevice, withConfig, withCount, withDropped, withRetired, withPhase, withTimers, Counter, counted, wrapped}
-use Rattle.record.specs.World.{World, withState, withSetupQueue, withMidiQueue, withSerialQueue, withDeviceArea, withReplyArea, withConfigArea, withReceiveArea, withReceivedRing, inPort, inAudio, inControl, inStats, inLengths, inAnswer, busOf, withBus}
+use Rattle.record.specs.World.{World, withState, withSetupQueue, withMidiQueue, withSerialQueue, withDeviceArea, withReplyArea, withConfigArea, withReceiveArea, withCablesArea, withReceivedRing, inPort, inAudio, inControl, inStats, inLengths, inAnswer, busOf, withBus}
 
 pub data Change : Type 0 where
   bus : Store → Change  -- a store to memory, or the line's flag
@@ -102,6 +102,9 @@ midi x = stream (Part.midi x)
 abbrev pub serial : ℕ → Change
 serial x = stream (Part.serial x)
 
+abbrev pub cabled : List ℕ → Change
+cabled x = stream (Part.cabled x)
+
 abbrev pub received : List ℕ → Change
 received x = stream (Part.received x)
 
@@ -161,6 +164,7 @@ apply (stream (Part.midi n)) w =
     withMidiQueue (inLengths w (withMidi (w .state .lengths) (w .state .lengths .midi - n))) (drained (w .own .midi) (w .state .lengths .midi) n)
 apply (stream (Part.serial n)) w =
     withSerialQueue (inLengths w (withSerial (w .state .lengths) (w .state .lengths .serial - n))) (drained (w .own .serial) (w .state .lengths .serial) n)
+apply (stream (Part.cabled cs)) w = withCablesArea w (sets (w .lent .cables) (w .state .answer .received) cs)
 apply (stream (Part.received bs)) w =
     withReceiveArea (inAnswer w (withCount (w .state .answer) (w .state .answer .received + length bs))) (sets (w .lent .receive) (w .state .answer .received) bs)
 

@@ -36,4 +36,5 @@ pub data RequestChange : Type 0 where
 pub data StreamChange : Type 0 where
   midi : ℕ → StreamChange  -- bytes leave the MIDI queue (848)
   serial : ℕ → StreamChange  -- bytes leave the serial queue (828)
+  cabled : List ℕ → StreamChange  -- the cables of MIDI bytes that come next to the receive area, each to the same index of its own area (S-2)
   received : List ℕ → StreamChange  -- MIDI or serial bytes to the receive area (805, 814)

@@ -17,7 +17,8 @@ QUEUE = Packer.QUEUE
 abbrev pub DEVICE : ℕ
 DEVICE = 64
 
--- the longest reply, and so the least reply and configuration area; the least receive area ("Numbers of refusal" 2)
+-- the longest reply, and so the least reply and configuration area; the least receive area ("Numbers of refusal" 2), and so the least
+-- area of cables, which has one for each byte of it (S-2)
 abbrev pub REPLY : ℕ
 REPLY = 65535
 

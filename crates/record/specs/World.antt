@@ -24,29 +24,30 @@ pub record Own : Type 0 where
 abbrev pub own : List ℕ → List ℕ → List ℕ → List ℕ → Own
 own setups midi serial device = record { setups = setups; midi = midi; serial = serial; device = device }
 
--- what is lent: memory, reply, configuration and receive area, and the rings of received and of sending frames
+-- what is lent: memory, reply, configuration and receive area, the cables of received MIDI bytes, and the rings of received and of sending frames
 pub record Lent : Type 0 where
   pub memory : Memory
   pub reply : List ℕ
   pub config : List ℕ
   pub receive : List ℕ
+  pub cables : List ℕ
   pub received : List ℕ
   pub sending : List ℕ
 
-abbrev pub lent : Memory → List ℕ → List ℕ → List ℕ → List ℕ → List ℕ → Lent
-lent m reply config receive received sending =
-    record { memory = m; reply = reply; config = config; receive = receive; received = received; sending = sending }
+abbrev pub lent : Memory → List ℕ → List ℕ → List ℕ → List ℕ → List ℕ → List ℕ → Lent
+lent m reply config receive cables received sending =
+    record { memory = m; reply = reply; config = config; receive = receive; cables = cables; received = received; sending = sending }
 
--- settings and packer do not change in a microframe
+-- settings and the packers, one for each cable (S-2), do not change in a microframe
 pub record World : Type 0 where
   pub settings : Settings
-  pub packer : Packer
+  pub packers : List Packer
   pub state : State
   pub own : Own
   pub lent : Lent
 
-abbrev pub world : Settings → Packer → State → Own → Lent → World
-world c p s o l = record { settings = c; packer = p; state = s; own = o; lent = l }
+abbrev pub world : Settings → List Packer → State → Own → Lent → World
+world c ps s o l = record { settings = c; packers = ps; state = s; own = o; lent = l }
 
 -- ---- an array of the record changed
 
@@ -65,22 +66,25 @@ ownDevice o x = own (o .setups) (o .midi) (o .serial) x
 -- ---- something that is lent changed
 
 abbrev pub lentMemory : Lent → Memory → Lent
-lentMemory l x = lent x (l .reply) (l .config) (l .receive) (l .received) (l .sending)
+lentMemory l x = lent x (l .reply) (l .config) (l .receive) (l .cables) (l .received) (l .sending)
 
 abbrev pub lentReply : Lent → List ℕ → Lent
-lentReply l x = lent (l .memory) x (l .config) (l .receive) (l .received) (l .sending)
+lentReply l x = lent (l .memory) x (l .config) (l .receive) (l .cables) (l .received) (l .sending)
 
 abbrev pub lentConfig : Lent → List ℕ → Lent
-lentConfig l x = lent (l .memory) (l .reply) x (l .receive) (l .received) (l .sending)
+lentConfig l x = lent (l .memory) (l .reply) x (l .receive) (l .cables) (l .received) (l .sending)
 
 abbrev pub lentReceive : Lent → List ℕ → Lent
-lentReceive l x = lent (l .memory) (l .reply) (l .config) x (l .received) (l .sending)
+lentReceive l x = lent (l .memory) (l .reply) (l .config) x (l .cables) (l .received) (l .sending)
+
+abbrev pub lentCables : Lent → List ℕ → Lent
+lentCables l x = lent (l .memory) (l .reply) (l .config) (l .receive) x (l .received) (l .sending)
 
 abbrev pub lentReceived : Lent → List ℕ → Lent
-lentReceived l x = lent (l .memory) (l .reply) (l .config) (l .receive) x (l .sending)
+lentReceived l x = lent (l .memory) (l .reply) (l .config) (l .receive) (l .cables) x (l .sending)
 
 abbrev pub lentSending : Lent → List ℕ → Lent
-lentSending l x = lent (l .memory) (l .reply) (l .config) (l .receive) (l .received) x
+lentSending l x = lent (l .memory) (l .reply) (l .config) (l .receive) (l .cables) (l .received) x
 
 -- the register page alone
 abbrev pub lentPage : Lent → List ℕ → Lent
@@ -89,13 +93,13 @@ lentPage l x = lentMemory l (memory (l .memory .dynamic) (l .memory .sram) x)
 -- ---- a part of the World changed
 
 abbrev pub withState : World → State → World
-withState w x = world (w .settings) (w .packer) x (w .own) (w .lent)
+withState w x = world (w .settings) (w .packers) x (w .own) (w .lent)
 
 abbrev pub withOwn : World → Own → World
-withOwn w x = world (w .settings) (w .packer) (w .state) x (w .lent)
+withOwn w x = world (w .settings) (w .packers) (w .state) x (w .lent)
 
 abbrev pub withLent : World → Lent → World
-withLent w x = world (w .settings) (w .packer) (w .state) (w .own) x
+withLent w x = world (w .settings) (w .packers) (w .state) (w .own) x
 
 abbrev pub withSetupQueue : World → List ℕ → World
 withSetupQueue w x = withOwn w (ownSetups (w .own) x)
@@ -117,6 +121,9 @@ withConfigArea w x = withLent w (lentConfig (w .lent) x)
 
 abbrev pub withReceiveArea : World → List ℕ → World
 withReceiveArea w x = withLent w (lentReceive (w .lent) x)
+
+abbrev pub withCablesArea : World → List ℕ → World
+withCablesArea w x = withLent w (lentCables (w .lent) x)
 
 abbrev pub withReceivedRing : World → List ℕ → World
 withReceivedRing w x = withLent w (lentReceived (w .lent) x)

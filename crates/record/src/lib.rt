@@ -20,7 +20,7 @@ pub const QUEUE: usize = midi::QUEUE;
 
 pub const DEVICE: usize = 64;
 
-// The longest reply, and so the least reply and configuration area; the least receive area.
+// The longest reply, and so the least reply and configuration area; the least receive area, and area of cables.
 pub const REPLY: usize = 65_535;
 
 pub const RECEIVE: usize = 196_608;
