@@ -4,7 +4,7 @@ use mathlib.Core.Bool.{Bool, true, false, not, _&&_, _||_}
 use mathlib.Core.List.{List, [], _∷_}
 use lib.Dec.{eqb, leb, ltb}
 use Rattle.midi.specs.declared.Packer.{Packer}
-use Rattle.midi.specs.Packer.{messageLength}
+use Rattle.midi.specs.Packer.{CABLES, messageLength, packerAt}
 use Rattle.gptimers.specs.declared.Timer.{Timer}
 use Rattle.gptimers.specs.declared.Timers.{Timers}
 use Rattle.gptimers.specs.Timer.{ZERO}
@@ -97,7 +97,7 @@ requestOk c waiting uf =
     && ((not (asksConfiguration (c .first)) || eqb waiting 0)
     && (leb (c .t0) uf && leb (c .got) (wLength c))))
 
--- ---- queues, descriptors, packer
+-- ---- queues, descriptors, packers
 
 -- MIDI queue over 4,096 or not a multiple of four, serial queue over 4,096, device descriptor over the 64 bytes of the record
 unfoldable pub queuesOk : Lengths → Bool
@@ -106,6 +106,19 @@ queuesOk l = leb (l .midi) QUEUE && (eqb (l .midi % 4) 0 && (leb (l .serial) QUE
 -- over two held MIDI bytes, or any with a two-byte status outside SysEx
 unfoldable pub packerOk : Packer → Bool
 packerOk p = leb (p .held) 2 && (p .sysex || (eqb (p .held) 0 || not (eqb (messageLength (p .status)) 2)))
+
+-- no byte held, which is inside the bound whatever the status
+abbrev pub holdsNone : Packer → Bool
+holdsNone p = eqb (p .held) 0
+
+-- a test of the packers of cables 0 to n - 1
+unfoldable pub eachPacker : (Packer → Bool) → List Packer → ℕ → Bool
+eachPacker test ps zero = true
+eachPacker test ps (suc n) = eachPacker test ps n && test (packerAt ps n)
+
+-- S-2: the bound is every packer's
+abbrev pub packersOk : List Packer → Bool
+packersOk ps = eachPacker packerOk ps CABLES
 
 -- ---- counts
 
@@ -155,9 +168,9 @@ abbrev pub askedOk : State → List ℕ → Bool
 askedOk s setups =
     setupsOk (s .lengths .setups) setups && (enumeratingOk s && requestOk (s .control) (s .lengths .setups) (s .port .uf))
 
--- bytes held for the device, and in the packer
-abbrev pub heldOk : State → Packer → Bool
-heldOk s p = queuesOk (s .lengths) && packerOk p
+-- bytes held for the device, and in the packers
+abbrev pub heldOk : State → List Packer → Bool
+heldOk s ps = queuesOk (s .lengths) && packersOk ps
 
 -- microframes, counters, credit and timers
 abbrev pub countedOk : State → Bool
@@ -166,8 +179,8 @@ countedOk s =
     && (countersOk (s .stats) && (creditOk (s .audio .credit) (counterOf microframes (s .stats)) && timersOk (s .timers) (counterOf microframes (s .stats))))
 
 -- all of it
-unfoldable pub inBounds : State → Packer → List ℕ → Bool
-inBounds s p setups = askedOk s setups && (heldOk s p && (countedOk s && audioOk (s .audio)))
+unfoldable pub inBounds : State → List Packer → List ℕ → Bool
+inBounds s ps setups = askedOk s setups && (heldOk s ps && (countedOk s && audioOk (s .audio)))
 
 -- ---- what an area bounds, in calls that are lent it
 

@@ -3,10 +3,12 @@ ghost use mathlib.Core.Path.{_≡_};
 ghost use mathlib.Core.Bool.{Bool};
 ghost use Prim.Native.Nat.{_+_, _-_, _≤_, _<_, min};
 ghost use Rattle.model.specs.Control.{enumerating as Control·enumerating};
+ghost use Rattle.midi.specs.Packer.{CABLES as Packer·CABLES};
 ghost use Rattle.record.specs.Sizes as Sizes;
 ghost use Rattle.bounds.specs.Bounds as B;
 use gptimers::Timer;
 use gptimers::Timers;
+use midi::CABLES;
 use midi::Packer;
 use record::Audio;
 use record::Control;
@@ -156,7 +158,7 @@ pub fn queues_ok(l: Lengths) -> bool
     (l.midi <= QUEUE) & ((l.midi % 4 == 0) & ((l.serial <= QUEUE) & (l.device <= DEVICE)))
 }
 
-// The bytes that the packer holds.
+// The bytes that a packer holds.
 pub fn packer_ok(p: Packer) -> bool
     ensures { λ r. ⌜ r ≡ B.packerOk p ⌝ }
 {
@@ -165,6 +167,37 @@ pub fn packer_ok(p: Packer) -> bool
     }
     let two = midi::message_length(p.status) == 2;
     (p.held <= 2) & (p.sysex | !two)
+}
+
+// Whether no packer holds a byte.
+fn none_held(packers: [Packer; CABLES]) -> bool
+    ensures { λ r. ⌜ r ≡ B.eachPacker B.holdsNone packers Packer·CABLES ⌝ }
+{
+    let mut none = true;
+    let mut i = 0;
+    while i < CABLES {
+        let p = packers[i];
+        none = none & (p.held == 0);
+        i += 1;
+    }
+    none
+}
+
+// The bytes that the packers hold: of most records no packer holds any, which is seen at once.
+pub fn packers_ok(packers: [Packer; CABLES]) -> bool
+    ensures { λ r. ⌜ r ≡ B.packersOk packers ⌝ }
+{
+    if none_held(packers) {
+        return true;
+    }
+    let mut ok = true;
+    let mut i = 0;
+    while i < CABLES {
+        let p = packers[i];
+        ok = ok & packer_ok(p);
+        i += 1;
+    }
+    ok
 }
 
 // The two microframe counts and the phase's start.
@@ -263,8 +296,8 @@ fn counted_ok(s: State) -> bool
 }
 
 // The whole record, but for what an area bounds.
-pub fn in_bounds(s: State, p: Packer, setups: &[u8; SETUP_BYTES]) -> bool
-    ensures { λ r. ⌜ r ≡ B.inBounds s p (now (setups .entry)) ⌝ }
+pub fn in_bounds(s: State, packers: [Packer; CABLES], setups: &[u8; SETUP_BYTES]) -> bool
+    ensures { λ r. ⌜ r ≡ B.inBounds s packers (now (setups .entry)) ⌝ }
 {
     let control = s.control;
     let lengths = s.lengths;
@@ -272,6 +305,6 @@ pub fn in_bounds(s: State, p: Packer, setups: &[u8; SETUP_BYTES]) -> bool
     let waiting = s.lengths.setups;
     let asked = setups_ok(waiting, setups)
         & (enumerating_ok(s) & request_ok(control, waiting, s.port.uf));
-    let held = queues_ok(lengths) & packer_ok(p);
+    let held = queues_ok(lengths) & packers_ok(packers);
     asked & (held & (counted_ok(s) & audio_ok(audio)))
 }

@@ -146,6 +146,7 @@ audio-each =
       midis = λ m w l f h. h;
       serials = λ m w l h. h;
       receives = λ bs w h. h;
+      cables = λ cs w h. h;
       frames = λ f w h. h;
       takes = λ m w h. h;
     }

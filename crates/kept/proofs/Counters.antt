@@ -29,7 +29,7 @@ use Rattle.bounds.specs.Bounds.{MOST, times, noneAbove, countersOk}
 use Rattle.bounds.proofs.Laws.{all-below, counter-below}
 use Rattle.model.proofs.Holding.{Holds, holds-then, holds-seq, holds-nothing, holds-one}
 use Rattle.model.proofs.Walk.{isOther, other-same, at-if, on-if, after-run, on-page, adds-any, clears-any, Ran, Requested, Chosen, Forgotten, walk-enters, walk-ticks, walk-suspends, walk-leaves, walk-forgets, walk-idles, walk-powers, walk-resets, walk-frame, walk-unstalls, walk-stages, walk-posts, walk-naks, walk-serves, walk-frames, walk-unprimes}
-use Rattle.kept.proofs.Bytes.{run-bytes}
+use Rattle.model.proofs.Bytes.{run-bytes}
 
 -- ---- a counter that rises by at most n: it does not wrap while there is room for that
 
@@ -298,12 +298,13 @@ raises-reads : (n : ℕ) → Raises n 0 (reads n)
 unfolding reads apply
 raises-reads zero = raises-nothing 0 0
 raises-reads (suc n) =
-    let one-more : 1 + (0 + n) ≤ suc n = omega arith in
+    let one-more : 1 + (0 + (0 + n)) ≤ suc n = omega arith in
     raises-runs (suc n) 0 (endpoint 1 true) [] _
     (λ w. raises-when (suc n) 0 _ _
-    (raises-more (1 + (0 + n)) 0 (suc n) 0 _ one-more (omega arith)
-    (raises-then 1 0 (0 + n) 0 _ _ (raises-one «midi_dtds» refl 1)
-    (raises-then 0 0 n 0 _ _ (raises-other 0 0 _ (λ w. refl)) (raises-reads n)))))
+    (raises-more (1 + (0 + (0 + n))) 0 (suc n) 0 _ one-more (omega arith)
+    (raises-then 1 0 (0 + (0 + n)) 0 _ _ (raises-one «midi_dtds» refl 1)
+    (raises-then 0 0 (0 + n) 0 _ _ (raises-other 0 0 _ (λ w. refl))
+    (raises-then 0 0 n 0 _ _ (raises-other 0 0 _ (λ w. refl)) (raises-reads n))))))
 
 reads-few : (every n : ℕ) → readsAt every n ≤ 8
 reads-few every n = by-tests (eqb every 0) (eqb (n % every) 0)

@@ -14,7 +14,7 @@ use Rattle.model.specs.Audio.{audioIn, BLOCK-FRAMES, blocks, good, streamIn}
 use Rattle.model.specs.Reach.{streamBy, inputBy, outputBy, backBy, leftBy, paced, inputReady, outputReady, bytesAt}
 use Rattle.model.specs.Earned.{Counts, countsOf, oneEarned, earned, sentOne, zeroed, goodBlocks, blocksRead, resetCounts, heardCounts, sentCounts}
 use Rattle.bits.proofs.Tests.{and-first}
-use Rattle.kept.proofs.Bytes.{run-bytes}
+use Rattle.model.proofs.Bytes.{run-bytes}
 
 -- ---- at most 89 good blocks in a run
 

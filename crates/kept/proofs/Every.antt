@@ -15,7 +15,7 @@ use Rattle.record.specs.declared.Control.{Control}
 use Rattle.record.specs.declared.Settings.{Settings}
 use Rattle.record.specs.Record.{Counter, microframes, «midi_dtds», «midi_asleep», restarts, enumerations}
 use Rattle.record.specs.World.{World}
-use Rattle.record.specs.Change.{bus, ran, lost, count, uf, timers, phase, started, gone, suspended, wasRunning, credit, budget, counter, block, control, queued, popped, pushed, cleared, reply, device, config, forgot, midi, serial, received, frame, taken, apply, left, _then_, nothing, if, when, here}
+use Rattle.record.specs.Change.{bus, ran, lost, count, uf, timers, phase, started, gone, suspended, wasRunning, credit, budget, counter, block, control, queued, popped, pushed, cleared, reply, device, config, forgot, midi, serial, cabled, received, frame, taken, apply, left, _then_, nothing, if, when, here}
 use Rattle.model.specs.Phases.{now, counts, ticks, sleeps, suspends, cable, leaves, startsFrame, enters}
 use Rattle.model.specs.Control.{posts, configured, stalled, unstalls, stages, controls}
 use Rattle.model.specs.Audio.{overBudget, addsBudget, clearsBudget}
@@ -57,6 +57,7 @@ pub record Each (P : World → Type 0) : Type 0 where
   pub midis : (n : ℕ) (w : World) → n ≤ w .state .lengths .midi → n % 4 ≡ 0 → P w → P (apply (midi n) w)
   pub serials : (n : ℕ) (w : World) → n ≤ w .state .lengths .serial → P w → P (apply (serial n) w)
   pub receives : (bs : List ℕ) (w : World) → P w → P (apply (received bs) w)
+  pub cables : (cs : List ℕ) (w : World) → P w → P (apply (cabled cs) w)
   pub frames : (f : List ℕ) (w : World) → P w → P (apply (frame f) w)
   pub takes : (n : ℕ) (w : World) → P w → P (apply (taken n) w)
 
@@ -109,6 +110,7 @@ module _ (P : World → Type 0) (L : Each P) where
         midis = L .midis;
         serials = L .serials;
         receives = L .receives;
+        cables = L .cables;
       }
 
   sounded : Sounded P

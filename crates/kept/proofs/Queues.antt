@@ -61,6 +61,7 @@ queues-each =
       midis = λ n w l f h. record { midi = less-held _ n (h .midi); packets = whole-left _ n l f (h .packets); serial = h .serial };
       serials = λ n w l h. record { midi = h .midi; packets = h .packets; serial = less-held _ n (h .serial) };
       receives = λ bs w h. h;
+      cables = λ cs w h. h;
       frames = λ f w h. h;
       takes = λ m w h. h;
     }

@@ -1,4 +1,4 @@
--- What no change can change: settings, packer, and the lengths of memory and of every area; and the lengths of the record's queues,
+-- What no change can change: settings, packers, and the lengths of memory and of every area; and the lengths of the record's queues,
 -- whose arrays hold them. One induction over lists serves every step.
 use Prim.Native.Nat.{ℕ, _+_, _-_, _*_, _≤_}
 use mathlib.Core.Path.{_≡_, refl, ap, _∙_}
@@ -29,25 +29,26 @@ pub record Sizes : Type 0 where
 
 pub record Shape : Type 0 where
   pub settings : Settings
-  pub packer : Packer
+  pub packers : List Packer
   pub memory : Sizes
   pub device : ℕ
   pub reply : ℕ
   pub config : ℕ
   pub receive : ℕ
+  pub cables : ℕ
   pub received : ℕ
   pub sending : ℕ
 
 abbrev pub sizes : Memory → Sizes
 sizes m = record { dynamic = length (m .dynamic); sram = length (m .sram); page = length (m .page) }
 
-abbrev shaped : World → Sizes → ℕ → ℕ → ℕ → ℕ → ℕ → Shape
-shaped w z d a b c e =
-    record { settings = w .settings; packer = w .packer; memory = z; device = d; reply = a; config = b; receive = c; received = e; sending = length (w .lent .sending) }
+abbrev shaped : World → Sizes → ℕ → ℕ → ℕ → ℕ → ℕ → ℕ → Shape
+shaped w z d a b c k e =
+    record { settings = w .settings; packers = w .packers; memory = z; device = d; reply = a; config = b; receive = c; cables = k; received = e; sending = length (w .lent .sending) }
 
 abbrev pub shape : World → Shape
 shape w =
-    shaped w (sizes (w .lent .memory)) (length (w .own .device)) (length (w .lent .reply)) (length (w .lent .config)) (length (w .lent .receive)) (length (w .lent .received))
+    shaped w (sizes (w .lent .memory)) (length (w .own .device)) (length (w .lent .reply)) (length (w .lent .config)) (length (w .lent .receive)) (length (w .lent .cables)) (length (w .lent .received))
 
 -- ---- memory
 
@@ -77,7 +78,7 @@ store-kept (irq l) b = refl
 module _ (w : World) where
   change-kept : (c : Change) → shape (apply c w) ≡ shape w
   unfolding apply ringed
-  change-kept (bus s) = ap (λ (z : Sizes). shaped w z (length (w .own .device)) (length (w .lent .reply)) (length (w .lent .config)) (length (w .lent .receive)) (length (w .lent .received))) (store-kept s (busOf w))
+  change-kept (bus s) = ap (λ (z : Sizes). shaped w z (length (w .own .device)) (length (w .lent .reply)) (length (w .lent .config)) (length (w .lent .receive)) (length (w .lent .cables)) (length (w .lent .received))) (store-kept s (busOf w))
   change-kept (ran e k n) = refl
   change-kept (lost n) = refl
   change-kept (count c n) = refl
@@ -87,20 +88,21 @@ module _ (w : World) where
   change-kept (audio (Part.budget n)) = refl
   change-kept (audio (Part.counter n)) = refl
   change-kept (audio (Part.block n c)) = refl
-  change-kept (audio (Part.frame f)) = ap (λ (x : ℕ). shaped w (sizes (w .lent .memory)) (length (w .own .device)) (length (w .lent .reply)) (length (w .lent .config)) (length (w .lent .receive)) x) (length-sets (w .lent .received) _ f)
+  change-kept (audio (Part.frame f)) = ap (λ (x : ℕ). shaped w (sizes (w .lent .memory)) (length (w .own .device)) (length (w .lent .reply)) (length (w .lent .config)) (length (w .lent .receive)) (length (w .lent .cables)) x) (length-sets (w .lent .received) _ f)
   change-kept (audio (Part.taken n)) = refl
   change-kept (request (Part.control c)) = refl
   change-kept (request (Part.queued bs)) = refl
   change-kept (request Part.popped) = refl
   change-kept (request (Part.pushed bs)) = refl
   change-kept (request Part.cleared) = refl
-  change-kept (request (Part.reply n bs)) = ap (λ (x : ℕ). shaped w (sizes (w .lent .memory)) (length (w .own .device)) x (length (w .lent .config)) (length (w .lent .receive)) (length (w .lent .received))) (length-sets (w .lent .reply) n bs)
-  change-kept (request (Part.device bs)) = ap (λ (x : ℕ). shaped w (sizes (w .lent .memory)) x (length (w .lent .reply)) (length (w .lent .config)) (length (w .lent .receive)) (length (w .lent .received))) (length-sets (w .own .device) 0 bs)
-  change-kept (request (Part.config bs)) = ap (λ (x : ℕ). shaped w (sizes (w .lent .memory)) (length (w .own .device)) (length (w .lent .reply)) x (length (w .lent .receive)) (length (w .lent .received))) (length-sets (w .lent .config) 0 bs)
+  change-kept (request (Part.reply n bs)) = ap (λ (x : ℕ). shaped w (sizes (w .lent .memory)) (length (w .own .device)) x (length (w .lent .config)) (length (w .lent .receive)) (length (w .lent .cables)) (length (w .lent .received))) (length-sets (w .lent .reply) n bs)
+  change-kept (request (Part.device bs)) = ap (λ (x : ℕ). shaped w (sizes (w .lent .memory)) x (length (w .lent .reply)) (length (w .lent .config)) (length (w .lent .receive)) (length (w .lent .cables)) (length (w .lent .received))) (length-sets (w .own .device) 0 bs)
+  change-kept (request (Part.config bs)) = ap (λ (x : ℕ). shaped w (sizes (w .lent .memory)) (length (w .own .device)) (length (w .lent .reply)) x (length (w .lent .receive)) (length (w .lent .cables)) (length (w .lent .received))) (length-sets (w .lent .config) 0 bs)
   change-kept (request Part.forgot) = refl
   change-kept (stream (Part.midi n)) = refl
   change-kept (stream (Part.serial n)) = refl
-  change-kept (stream (Part.received bs)) = ap (λ (x : ℕ). shaped w (sizes (w .lent .memory)) (length (w .own .device)) (length (w .lent .reply)) (length (w .lent .config)) x (length (w .lent .received))) (length-sets (w .lent .receive) (w .state .answer .received) bs)
+  change-kept (stream (Part.cabled cs)) = ap (λ (x : ℕ). shaped w (sizes (w .lent .memory)) (length (w .own .device)) (length (w .lent .reply)) (length (w .lent .config)) (length (w .lent .receive)) x (length (w .lent .received))) (length-sets (w .lent .cables) (w .state .answer .received) cs)
+  change-kept (stream (Part.received bs)) = ap (λ (x : ℕ). shaped w (sizes (w .lent .memory)) (length (w .own .device)) (length (w .lent .reply)) (length (w .lent .config)) x (length (w .lent .cables)) (length (w .lent .received))) (length-sets (w .lent .receive) (w .state .answer .received) bs)
 
 pub list-kept : (cs : List Change) (w : World) → shape (replay apply cs w) ≡ shape w
 list-kept [] w = refl
@@ -205,6 +207,7 @@ module _ (a b c : ℕ) where
         midis = λ n w l f h. drained-midi n w h;
         serials = λ n w l h. drained-serial n w h;
         receives = λ bs w h. h;
+        cables = λ cs w h. h;
         frames = λ f w h. h;
         takes = λ m w h. h;
       }

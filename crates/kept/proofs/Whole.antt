@@ -19,7 +19,7 @@ use Rattle.model.specs.Microframe.{rsSet, goneAt, asleepAt, microframe}
 use Rattle.model.specs.Earned.{Counts, countsOf, sentCounts}
 use Rattle.bits.proofs.Tests.{and-first, and-second, and-both}
 use Rattle.model.proofs.History.{counts-microframe}
-use Rattle.bounds.specs.Bounds.{MOST, times, setupsOk, enumeratingOk, requestOk, made, asksConfiguration, queuesOk, packerOk, countsOk, countersOk, creditOk, timersOk, audioOk, askedOk, heldOk, countedOk, inBounds, ringOk, areasOk}
+use Rattle.bounds.specs.Bounds.{MOST, times, setupsOk, enumeratingOk, requestOk, made, asksConfiguration, queuesOk, packersOk, countsOk, countersOk, creditOk, timersOk, audioOk, askedOk, heldOk, countedOk, inBounds, ringOk, areasOk}
 use Rattle.bounds.proofs.Laws.{counter-below}
 use Rattle.kept.proofs.Credit.{SMALL, sent-le, sent-seven}
 use Rattle.kept.proofs.Timers.{timers-kept}
@@ -33,7 +33,7 @@ use Rattle.kept.proofs.Setups.{Requests, Entry, requests-kept, setups-k
 
 -- every bound, of a record in its World
 pub record Bounded (w : World) : Type 0 where
-  pub record-bounds : inBounds (w .state) (w .packer) (w .own .setups) ≡ true
+  pub record-bounds : inBounds (w .state) (w .packers) (w .own .setups) ≡ true
   pub areas : areasOk (w .state) (length (w .lent .reply)) (length (w .lent .config)) ≡ true
   pub received : ringOk (w .state .audio .received) FRAMES ≡ true
   pub sending : ringOk (w .state .audio .sending) (length (w .lent .sending) / WORDS) ≡ true
@@ -43,7 +43,7 @@ pub record Bounded (w : World) : Type 0 where
 record Parts (w : World) : Type 0 where
   requests : Requests w
   queues : Queues (w .state .lengths)
-  packer : packerOk (w .packer) ≡ true
+  packers : packersOk (w .packers) ≡ true
   counts : countsOk (w .state) ≡ true
   counters : countersOk (w .state .stats) ≡ true
   credit : creditOk (w .state .audio .credit) (counterOf microframes (w .state .stats)) ≡ true
@@ -58,8 +58,8 @@ apart w b =
     let s = w .state in
     let asked = and-first (askedOk s (w .own .setups)) _ (b .record-bounds) in
     let r₁ = and-second (askedOk s (w .own .setups)) _ (b .record-bounds) in
-    let held = and-first (heldOk s (w .packer)) _ r₁ in
-    let r₂ = and-second (heldOk s (w .packer)) _ r₁ in
+    let held = and-first (heldOk s (w .packers)) _ r₁ in
+    let r₂ = and-second (heldOk s (w .packers)) _ r₁ in
     let counted = and-first (countedOk s) _ r₂ in
     let a₁ = and-second (setupsOk (s .lengths .setups) (w .own .setups)) _ asked in
     let queues = and-first (queuesOk (s .lengths)) _ held in
@@ -81,7 +81,7 @@ apart w b =
         packets = and-first (eqb (s .lengths .midi % 4) 0) _ q₁;
         serial = and-first (leb (s .lengths .serial) 4096) _ q₂;
       };
-      packer = and-second (queuesOk (s .lengths)) _ held;
+      packers = and-second (queuesOk (s .lengths)) _ held;
       counts = and-first (countsOk s) _ counted;
       counters = and-first (countersOk (s .stats)) _ c₁;
       credit = and-first (creditOk (s .audio .credit) (counterOf microframes (s .stats))) _ c₂;
@@ -120,7 +120,7 @@ together w h p =
     record {
       record-bounds =
           and-both _ _ (and-both _ _ (r .setups) (and-both _ _ (r .enumeration) (r .request)))
-          (and-both _ _ (and-both _ _ (and-both _ _ (p .queues .midi) (and-both _ _ (p .queues .packets) (and-both _ _ (p .queues .serial) (r .device)))) (p .packer))
+          (and-both _ _ (and-both _ _ (and-both _ _ (p .queues .midi) (and-both _ _ (p .queues .packets) (and-both _ _ (p .queues .serial) (r .device)))) (p .packers))
           (and-both _ _ (and-both _ _ (p .counts) (and-both _ _ (p .counters) (and-both _ _ (p .credit) (p .timers)))) (p .audio)));
       areas = and-both _ _ (r .config) (reply-inside (w .state) (length (w .lent .reply)) (r .request) (r .second) h);
       received = p .received;
@@ -187,7 +187,7 @@ of-parts t w e p =
     record {
       requests = requests-kept t w (p .requests) e;
       queues = queues-kept t w (p .queues);
-      packer = ap (λ (x : Shape). packerOk (x .packer)) lens ∙ p .packer;
+      packers = ap (λ (x : Shape). packersOk (x .packers)) lens ∙ p .packers;
       counts = counts-kept t w (p .counts) (e .uf);
       counters = counters-kept t w (p .counters) before;
       credit = credit-kept t w (p .credit) few n (old .microframes) (e .uf) more;
@@ -230,10 +230,10 @@ lasts t w e b midi serial =
     }
 
 -- a record in bounds whose configuration has at most 65,535 bytes fits any areas of the right lengths
-pub areas-fit : (s : State) (p : Packer) (setups : List ℕ) (reply config : ℕ) → inBounds s p setups ≡ true → s .control .second < 2 ^ 32 → s .lengths .config ≤ 65535
+pub areas-fit : (s : State) (ps : List Packer) (setups : List ℕ) (reply config : ℕ) → inBounds s ps setups ≡ true → s .control .second < 2 ^ 32 → s .lengths .config ≤ 65535
     → 65535 ≤ reply → 65535 ≤ config → areasOk s reply config ≡ true
 unfolding inBounds areasOk
-areas-fit s p setups reply config e short few long wide =
+areas-fit s ps setups reply config e short few long wide =
     let asked = and-first (askedOk s setups) _ e in
     let request = and-second (enumeratingOk s) _ (and-second (setupsOk (s .lengths .setups) setups) _ asked) in
     and-both _ _ (le-leb (s .lengths .config) config (omega (arith, few, wide))) (reply-inside s reply request short long)

@@ -17,8 +17,8 @@ request-ok-requires c κs = search needs
 queues-ok-requires : tie.Need-queues-ok-requires
 queues-ok-requires c κs = search needs
 
-packer-ok-requires : tie.Need-packer-ok-requires
-packer-ok-requires c κs = search needs
+packers-ok-requires : tie.Need-packers-ok-requires
+packers-ok-requires c κs = search needs
 
 counted-ok-requires : tie.Need-counted-ok-requires
 counted-ok-requires c κs = search needs
@@ -28,7 +28,7 @@ audio-ok-requires c κs = search needs
 
 returns : tie.Need-returns
 unfolding inBounds
-returns c = rw (c .before .before .before .before .before .before .setups-ok .ensures, c .before .before .before .before .before .enumerating-ok .ensures, c .before .before .before .before .request-ok .ensures, c .before .before .before .queues-ok .ensures, c .before .before .packer-ok .ensures, c .before .counted-ok .ensures, c .audio-ok .ensures) refl
+returns c = rw (c .before .before .before .before .before .before .setups-ok .ensures, c .before .before .before .before .before .enumerating-ok .ensures, c .before .before .before .before .request-ok .ensures, c .before .before .before .queues-ok .ensures, c .before .before .packers-ok .ensures, c .before .counted-ok .ensures, c .audio-ok .ensures) refl
 
 pub in-bounds-spec : {M : Type 1} → statement M
 in-bounds-spec =
@@ -38,7 +38,7 @@ in-bounds-spec =
     enumerating-ok-requires
     request-ok-requires
     queues-ok-requires
-    packer-ok-requires
+    packers-ok-requires
     counted-ok-requires
     audio-ok-requires
     returns)
