@@ -14,7 +14,7 @@ use Rattle.record.specs.declared.State.{State}
 use Rattle.record.specs.Record.{counterOf, microframes}
 use Rattle.model.specs.Control.{wLength, enumerating}
 use Rattle.bounds.proofs.Shapes.{made-device, made-configuration}
-use Rattle.bounds.specs.Bounds.{MOST, made, asksConfiguration, setupsOk, enumeratingOk, requestOk, queuesOk, packerOk, countsOk, countersOk, creditOk, timersOk, audioOk, askedOk, heldOk, countedOk, inBounds, ringOk, receivedOk, sendingOk}
+use Rattle.bounds.specs.Bounds.{MOST, made, asksConfiguration, setupsOk, enumeratingOk, requestOk, queuesOk, packersOk, countsOk, countersOk, creditOk, timersOk, audioOk, askedOk, heldOk, countedOk, inBounds, ringOk, receivedOk, sendingOk}
 use Rattle.kept.proofs.Timers.{timers-range}
 use Rattle.framing.specs.Promises.{Rings}
 use Rattle.frames.specs.Promises.{Asks, Fit}
@@ -63,13 +63,13 @@ rings-of a words e f g few =
       channels = omega (arith, block, channels, least);
     }
 
-pub fit-of : (s : State) (p : Packer) (setups : List ℕ) (words : ℕ) → inBounds s p setups ≡ true → receivedOk s ≡ true → sendingOk s words ≡ true → words ≤ 576000 → s .answer .received ≡ 0 → Fit s words
+pub fit-of : (s : State) (ps : List Packer) (setups : List ℕ) (words : ℕ) → inBounds s ps setups ≡ true → receivedOk s ≡ true → sendingOk s words ≡ true → words ≤ 576000 → s .answer .received ≡ 0 → Fit s words
 unfolding inBounds queuesOk countsOk
-fit-of s p setups words e f g few none =
+fit-of s ps setups words e f g few none =
     let a = and-true (askedOk s setups) _ e in
-    let b = and-true (heldOk s p) _ (a .1) in
+    let b = and-true (heldOk s ps) _ (a .1) in
     let d = and-true (countedOk s) (audioOk (s .audio)) (b .1) in
-    let queues = and-true (leb (s .lengths .midi) 4096) _ (and-true (queuesOk (s .lengths)) (packerOk p) (b .0) .0) in
+    let queues = and-true (leb (s .lengths .midi) 4096) _ (and-true (queuesOk (s .lengths)) (packersOk ps) (b .0) .0) in
     let rest = and-true (eqb (s .lengths .midi % 4) 0) _ (queues .1) in
     let counts = and-true (countsOk s) _ (d .0) in
     let equal = and-true (eqb (counterOf microframes (s .stats)) (s .port .uf)) _ (counts .0) in

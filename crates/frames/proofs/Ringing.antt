@@ -79,6 +79,7 @@ rings-each =
       midis = λ m w l f h. h;
       serials = λ m w l h. h;
       receives = λ bs w h. h;
+      cables = λ cs w h. h;
       frames = λ f w h. rings-frame _ _ h;
       takes = λ m w h. rings-taken _ _ m h;
     }

@@ -69,16 +69,16 @@ module _ (c : Settings) (t : ℕ) (s : State) (o : Own) (l : Lent) where
 
   pub talks-goes : (rs : Bool) → rs ≡ true → (s₁ : State) (page₁ : List ℕ) → Paged startsFrame s (l .memory .page) s₁ page₁
       → (s₂ : State) (m₂ : Memory) (q d p f : List ℕ) → Controls (controls (c .«device_stack»)) s₁ (lentPage l page₁ .memory) (o .setups) (o .device) (l .reply) (l .config) s₂ m₂ q d p f
-      → (s₃ : State) (m₃ : Memory) (i u out ring : List ℕ) → Transfers (transfers c t) s₂ m₂ (o .midi) (o .serial) (l .receive) (l .received) (l .sending) s₃ m₃ i u out ring
-      → Goes (talks c t rs) s o l s₃ (own q i u d) (lent m₃ p f out ring (l .sending))
+      → (s₃ : State) (m₃ : Memory) (i u out cs ring : List ℕ) → Transfers (transfers c t) s₂ m₂ (o .midi) (o .serial) (l .receive) (l .cables) (l .received) (l .sending) s₃ m₃ i u out cs ring
+      → Goes (talks c t rs) s o l s₃ (own q i u d) (lent m₃ p f out cs ring (l .sending))
   unfolding talks enumerates
-  talks-goes rs e s₁ page₁ starts s₂ m₂ q d p f asks s₃ m₃ i u out ring flows =
+  talks-goes rs e s₁ page₁ starts s₂ m₂ q d p f asks s₃ m₃ i u out cs ring flows =
       record {
         leads = λ w.
             by-true _ _ _ e
             (in-turn
             (in-turn (starts .leads (atAll w s o l)) (asks .leads (atAll w s₁ o (lentPage l page₁))))
-            (flows .leads (atAll w s₂ (own q (o .midi) (o .serial) d) (lent m₂ p f (l .receive) (l .received) (l .sending)))));
+            (flows .leads (atAll w s₂ (own q (o .midi) (o .serial) d) (lent m₂ p f (l .receive) (l .cables) (l .received) (l .sending)))));
         sized = flows .sized;
       }
 
@@ -146,8 +146,8 @@ module _ (c : Settings) (t : ℕ) (s : State) (o : Own) (l : Lent) where
   unfolding microframe
   whole-frame rs g er eg s₁ s′ page o′ l′ p d =
       record {
-        leads = λ packer.
-            let w = world c packer s o l in
+        leads = λ ps.
+            let w = world c ps s o l in
             from-here _ w (rw (← er, ← eg) (frame-parts c t rs g (within (c .suspend) t) _ _ _ (p .leads w) (d .leads w)));
         sized = d .sized;
       }

@@ -57,14 +57,15 @@ afterGone c t rs false s = suspends s then afterSuspend c t rs s
 -- ---- a World with what a function takes in its place
 
 -- the areas are long enough
-pub record Long (reply config receive received : List ℕ) : Type 0 where
+pub record Long (reply config receive cables received : List ℕ) : Type 0 where
   pub reply-long : REPLY ≤ length reply
   pub config-long : REPLY ≤ length config
   pub receive-long : RECEIVE ≤ length receive
+  pub cables-long : RECEIVE ≤ length cables
   pub received-whole : length received ≡ RING
 
 abbrev pub atAll : World → State → Own → Lent → World
-atAll w s o l = world (w .settings) (w .packer) s o l
+atAll w s o l = world (w .settings) (w .packers) s o l
 
 -- ---- what a function does
 
@@ -75,5 +76,5 @@ pub record Goes (f : Step) (s : State) (o : Own) (l : Lent) (s′ : State) (o′
 
 -- a whole microframe at a time, by the settings
 pub record Frame (t : ℕ) (c : Settings) (s : State) (o : Own) (l : Lent) (s′ : State) (o′ : Own) (l′ : Lent) : Type 0 where
-  pub leads : (p : Packer) → Leads (microframe t) (world c p s o l) (world c p s′ o′ l′)
+  pub leads : (ps : List Packer) → Leads (microframe t) (world c ps s o l) (world c ps s′ o′ l′)
   pub sized : Sized (l′ .memory)

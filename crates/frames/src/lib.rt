@@ -30,15 +30,16 @@ fn connected(
     reply: &mut [u8],
     config: &mut [u8],
     receive: &mut [u8],
+    cables: &mut [u8],
     received: &mut [u32],
     sending: &[u32],
     time: u64,
     running: bool,
 ) -> State
     requires { ⌜ Sized (shown dynamic sram page) ⌝ }
-    requires { ⌜ P.Long (now reply) (now config) (now receive) (now received) ⌝ }
+    requires { ⌜ P.Long (now reply) (now config) (now receive) (now cables) (now received) ⌝ }
     requires { ⌜ P.Going s (length (now sending)) ⌝ }
-    ensures { λ r. ⌜ P.Goes (M.talks c time running) s (own (now (setups .entry)) (now (midi .entry)) (now (serial .entry)) (now (device .entry))) (lent (shown (dynamic .entry) (sram .entry) (page .entry)) (now (reply .entry)) (now (config .entry)) (now (receive .entry)) (now (received .entry)) (now (sending .entry))) r (own (now (setups .exit)) (now (midi .exit)) (now (serial .exit)) (now (device .exit))) (lent (shown (dynamic .exit) (sram .exit) (page .exit)) (now (reply .exit)) (now (config .exit)) (now (receive .exit)) (now (received .exit)) (now (sending .entry))) ⌝ }
+    ensures { λ r. ⌜ P.Goes (M.talks c time running) s (own (now (setups .entry)) (now (midi .entry)) (now (serial .entry)) (now (device .entry))) (lent (shown (dynamic .entry) (sram .entry) (page .entry)) (now (reply .entry)) (now (config .entry)) (now (receive .entry)) (now (cables .entry)) (now (received .entry)) (now (sending .entry))) r (own (now (setups .exit)) (now (midi .exit)) (now (serial .exit)) (now (device .exit))) (lent (shown (dynamic .exit) (sram .exit) (page .exit)) (now (reply .exit)) (now (config .exit)) (now (receive .exit)) (now (cables .exit)) (now (received .exit)) (now (sending .entry))) ⌝ }
 {
     if !running {
         return s;
@@ -64,6 +65,7 @@ fn connected(
         sram,
         page,
         receive,
+        cables,
         received,
         sending,
         time,
@@ -84,15 +86,16 @@ fn by_phase(
     reply: &mut [u8],
     config: &mut [u8],
     receive: &mut [u8],
+    cables: &mut [u8],
     received: &mut [u32],
     sending: &[u32],
     time: u64,
     running: bool,
 ) -> State
     requires { ⌜ Sized (shown dynamic sram page) ⌝ }
-    requires { ⌜ P.Long (now reply) (now config) (now receive) (now received) ⌝ }
+    requires { ⌜ P.Long (now reply) (now config) (now receive) (now cables) (now received) ⌝ }
     requires { ⌜ P.Going s (length (now sending)) ⌝ }
-    ensures { λ r. ⌜ P.Goes (M.byPhase c time running) s (own (now (setups .entry)) (now (midi .entry)) (now (serial .entry)) (now (device .entry))) (lent (shown (dynamic .entry) (sram .entry) (page .entry)) (now (reply .entry)) (now (config .entry)) (now (receive .entry)) (now (received .entry)) (now (sending .entry))) r (own (now (setups .exit)) (now (midi .exit)) (now (serial .exit)) (now (device .exit))) (lent (shown (dynamic .exit) (sram .exit) (page .exit)) (now (reply .exit)) (now (config .exit)) (now (receive .exit)) (now (received .exit)) (now (sending .entry))) ⌝ }
+    ensures { λ r. ⌜ P.Goes (M.byPhase c time running) s (own (now (setups .entry)) (now (midi .entry)) (now (serial .entry)) (now (device .entry))) (lent (shown (dynamic .entry) (sram .entry) (page .entry)) (now (reply .entry)) (now (config .entry)) (now (receive .entry)) (now (cables .entry)) (now (received .entry)) (now (sending .entry))) r (own (now (setups .exit)) (now (midi .exit)) (now (serial .exit)) (now (device .exit))) (lent (shown (dynamic .exit) (sram .exit) (page .exit)) (now (reply .exit)) (now (config .exit)) (now (receive .exit)) (now (cables .exit)) (now (received .exit)) (now (sending .entry))) ⌝ }
 {
     let phase = s.phase;
     match phase {
@@ -112,6 +115,7 @@ fn by_phase(
             reply,
             config,
             receive,
+            cables,
             received,
             sending,
             time,
@@ -134,6 +138,7 @@ fn after_suspend(
     reply: &mut [u8],
     config: &mut [u8],
     receive: &mut [u8],
+    cables: &mut [u8],
     received: &mut [u32],
     sending: &[u32],
     time: u64,
@@ -141,9 +146,9 @@ fn after_suspend(
     asleep: bool,
 ) -> State
     requires { ⌜ Sized (shown dynamic sram page) ⌝ }
-    requires { ⌜ P.Long (now reply) (now config) (now receive) (now received) ⌝ }
+    requires { ⌜ P.Long (now reply) (now config) (now receive) (now cables) (now received) ⌝ }
     requires { ⌜ P.Going s (length (now sending)) ⌝ }
-    ensures { λ r. ⌜ P.Goes (P.afterSuspend c time running asleep) s (own (now (setups .entry)) (now (midi .entry)) (now (serial .entry)) (now (device .entry))) (lent (shown (dynamic .entry) (sram .entry) (page .entry)) (now (reply .entry)) (now (config .entry)) (now (receive .entry)) (now (received .entry)) (now (sending .entry))) r (own (now (setups .exit)) (now (midi .exit)) (now (serial .exit)) (now (device .exit))) (lent (shown (dynamic .exit) (sram .exit) (page .exit)) (now (reply .exit)) (now (config .exit)) (now (receive .exit)) (now (received .exit)) (now (sending .entry))) ⌝ }
+    ensures { λ r. ⌜ P.Goes (P.afterSuspend c time running asleep) s (own (now (setups .entry)) (now (midi .entry)) (now (serial .entry)) (now (device .entry))) (lent (shown (dynamic .entry) (sram .entry) (page .entry)) (now (reply .entry)) (now (config .entry)) (now (receive .entry)) (now (cables .entry)) (now (received .entry)) (now (sending .entry))) r (own (now (setups .exit)) (now (midi .exit)) (now (serial .exit)) (now (device .exit))) (lent (shown (dynamic .exit) (sram .exit) (page .exit)) (now (reply .exit)) (now (config .exit)) (now (receive .exit)) (now (cables .exit)) (now (received .exit)) (now (sending .entry))) ⌝ }
 {
     if asleep {
         return phases::asleep(s);
@@ -162,6 +167,7 @@ fn after_suspend(
         reply,
         config,
         receive,
+        cables,
         received,
         sending,
         time,
@@ -183,6 +189,7 @@ fn after_gone(
     reply: &mut [u8],
     config: &mut [u8],
     receive: &mut [u8],
+    cables: &mut [u8],
     received: &mut [u32],
     sending: &[u32],
     time: u64,
@@ -190,9 +197,9 @@ fn after_gone(
     gone: bool,
 ) -> State
     requires { ⌜ Sized (shown dynamic sram page) ⌝ }
-    requires { ⌜ P.Long (now reply) (now config) (now receive) (now received) ⌝ }
+    requires { ⌜ P.Long (now reply) (now config) (now receive) (now cables) (now received) ⌝ }
     requires { ⌜ P.Going s (length (now sending)) ⌝ }
-    ensures { λ r. ⌜ P.Goes (P.afterGone c time running gone (within (c .suspend) time)) s (own (now (setups .entry)) (now (midi .entry)) (now (serial .entry)) (now (device .entry))) (lent (shown (dynamic .entry) (sram .entry) (page .entry)) (now (reply .entry)) (now (config .entry)) (now (receive .entry)) (now (received .entry)) (now (sending .entry))) r (own (now (setups .exit)) (now (midi .exit)) (now (serial .exit)) (now (device .exit))) (lent (shown (dynamic .exit) (sram .exit) (page .exit)) (now (reply .exit)) (now (config .exit)) (now (receive .exit)) (now (received .exit)) (now (sending .entry))) ⌝ }
+    ensures { λ r. ⌜ P.Goes (P.afterGone c time running gone (within (c .suspend) time)) s (own (now (setups .entry)) (now (midi .entry)) (now (serial .entry)) (now (device .entry))) (lent (shown (dynamic .entry) (sram .entry) (page .entry)) (now (reply .entry)) (now (config .entry)) (now (receive .entry)) (now (cables .entry)) (now (received .entry)) (now (sending .entry))) r (own (now (setups .exit)) (now (midi .exit)) (now (serial .exit)) (now (device .exit))) (lent (shown (dynamic .exit) (sram .exit) (page .exit)) (now (reply .exit)) (now (config .exit)) (now (receive .exit)) (now (cables .exit)) (now (received .exit)) (now (sending .entry))) ⌝ }
 {
     if gone {
         return phases::asleep(s);
@@ -213,6 +220,7 @@ fn after_gone(
         reply,
         config,
         receive,
+        cables,
         received,
         sending,
         time,
@@ -247,14 +255,15 @@ pub fn microframe(
     reply: &mut [u8],
     config: &mut [u8],
     receive: &mut [u8],
+    cables: &mut [u8],
     received: &mut [u32],
     sending: &[u32],
     time: u64,
 ) -> State
     requires { ⌜ Sized (shown dynamic sram page) ⌝ }
-    requires { ⌜ P.Long (now reply) (now config) (now receive) (now received) ⌝ }
+    requires { ⌜ P.Long (now reply) (now config) (now receive) (now cables) (now received) ⌝ }
     requires { ⌜ P.Fit s (length (now sending)) × (c .spans ≤ 16) ⌝ }
-    ensures { λ r. ⌜ P.Frame time c s (own (now (setups .entry)) (now (midi .entry)) (now (serial .entry)) (now (device .entry))) (lent (shown (dynamic .entry) (sram .entry) (page .entry)) (now (reply .entry)) (now (config .entry)) (now (receive .entry)) (now (received .entry)) (now (sending .entry))) r (own (now (setups .exit)) (now (midi .exit)) (now (serial .exit)) (now (device .exit))) (lent (shown (dynamic .exit) (sram .exit) (page .exit)) (now (reply .exit)) (now (config .exit)) (now (receive .exit)) (now (received .exit)) (now (sending .entry))) ⌝ }
+    ensures { λ r. ⌜ P.Frame time c s (own (now (setups .entry)) (now (midi .entry)) (now (serial .entry)) (now (device .entry))) (lent (shown (dynamic .entry) (sram .entry) (page .entry)) (now (reply .entry)) (now (config .entry)) (now (receive .entry)) (now (cables .entry)) (now (received .entry)) (now (sending .entry))) r (own (now (setups .exit)) (now (midi .exit)) (now (serial .exit)) (now (device .exit))) (lent (shown (dynamic .exit) (sram .exit) (page .exit)) (now (reply .exit)) (now (config .exit)) (now (receive .exit)) (now (cables .exit)) (now (received .exit)) (now (sending .entry))) ⌝ }
 {
     let running = bits::any(bus::word_at(&*page, USBCMD), 1);
     let gone = in_gone(c, time);
@@ -272,6 +281,7 @@ pub fn microframe(
         reply,
         config,
         receive,
+        cables,
         received,
         sending,
         time,

@@ -27,7 +27,8 @@ use Rattle.model.specs.Phases.{within, counts, sleeps, ticks, cable}
 use Rattle.model.specs.Streams.{midiIn, serialStep, midiOut, readsVendor}
 use Rattle.model.specs.Audio.{streams}
 use Rattle.model.specs.Microframe.{streaming, others, transfers, opens}
-use Rattle.streams.specs.Promises.{atReceive, Fewer, Receives, Serves, ServesBoth}
+use Rattle.streams.specs.Promises.{Fewer, Serves, ServesBoth}
+use Rattle.midiin.specs.Promises.{atCabled, Hears}
 use Rattle.audio.specs.Promises.{CanSend, atStream, Streams}
 use Rattle.framing.specs.Promises.{Rings, atFlow, Stacks, Bridges, Transfers}
 use Rattle.model.specs.Microframe.{midiSteps, stackSteps, bridgeSteps}
@@ -38,10 +39,10 @@ abbrev pub some : Settings → State → List ℕ → World
 some c s k =
     record {
       settings = c;
-      packer = record { status = 0; first = 0; second = 0; held = 0; sysex = false };
+      packers = [];
       state = s;
       own = record { setups = []; midi = []; serial = []; device = [] };
-      lent = record { memory = memory [] [] []; reply = []; config = []; receive = []; received = []; sending = k };
+      lent = record { memory = memory [] [] []; reply = []; config = []; receive = []; cables = []; received = []; sending = k };
     }
 
 pub can-of : (s : State) (k : List ℕ) → Rings (s .audio) (length k) → CanSend s k
@@ -55,21 +56,22 @@ fewer-as l m e = subst (Fewer l) (sym e) (fewer-same l)
 
 -- ---- MIDI input
 
-module _ (c : Settings) (t : ℕ) (s : State) (m : Memory) (out : List ℕ) where
-  pub midi-off : c .«midi_in» ≡ false → Sized m → Receives (midiSteps c t) s m out s m out
+module _ (c : Settings) (t : ℕ) (s : State) (m : Memory) (out cs : List ℕ) where
+  pub midi-off : c .«midi_in» ≡ false → Sized m → Hears (midiSteps c t) s m out cs s m out cs
   midi-off e z = record { leads = λ w. by-false _ _ _ e (unchanged _); sized = z; few = fewer-same (s .lengths) }
 
-  pub midi-sleeps : c .«midi_in» ≡ true → within (c .sleep) t ≡ true → (r : State) → r ≡ withStats s (counted «midi_asleep» 1 (s .stats)) → Sized m → Receives (midiSteps c t) s m out r m out
+  pub midi-sleeps : c .«midi_in» ≡ true → within (c .sleep) t ≡ true → (r : State) → r ≡ withStats s (counted «midi_asleep» 1 (s .stats)) → Sized m → Hears (midiSteps c t) s m out cs r m out cs
   unfolding midiIn sleeps
   midi-sleeps e n r is z =
       record {
-        leads = λ w. by-true _ _ _ e (rw n (counts-one «midi_asleep» 1 (atReceive w s m out) is));
+        leads = λ w. by-true _ _ _ e (rw n (counts-one «midi_asleep» 1 (atCabled w s m out cs) is));
         sized = z;
         few = fewer-as (s .lengths) (r .lengths) (ap (λ (x : State). x .lengths) is);
       }
 
-  pub midi-wakes : c .«midi_in» ≡ true → within (c .sleep) t ≡ false → (r : State) (m′ : Memory) (out′ : List ℕ) → Receives (midiIn false (c .«midi_every»)) s m out r m′ out′ → Receives (midiSteps c t) s m out r m′ out′
-  midi-wakes e n r m′ out′ p = record { leads = λ w. by-true _ _ _ e (rw n (p .leads w)); sized = p .sized; few = p .few }
+  pub midi-wakes : c .«midi_in» ≡ true → within (c .sleep) t ≡ false → (r : State) (m′ : Memory) (out′ cs′ : List ℕ) → Hears (midiIn false (c .«midi_every»)) s m out cs r m′ out′ cs′
+      → Hears (midiSteps c t) s m out cs r m′ out′ cs′
+  midi-wakes e n r m′ out′ cs′ p = record { leads = λ w. by-true _ _ _ e (rw n (p .leads w)); sized = p .sized; few = p .few }
 
 -- ---- what the device stack adds
 
@@ -80,7 +82,7 @@ module _ (stack : Bool) (s : State) (m : Memory) (q : List ℕ) where
   pub stack-goes : stack ≡ true → (s₁ s₂ : State) (m₁ m₂ : Memory) (q₁ : List ℕ) → Serves withMidiQueue midiOut s m q s₁ m₁ q₁ → Did readsVendor s₁ m₁ s₂ m₂ → Stacks (stackSteps stack) s m q s₂ m₂ q₁
   stack-goes e s₁ s₂ m₁ m₂ q₁ p d =
       record {
-        leads = λ w. by-true _ _ _ e (in-turn (p .leads w) (d .leads (atFlow w s₁ m₁ q₁ (w .own .serial) (w .lent .receive) (w .lent .received) (w .lent .sending))));
+        leads = λ w. by-true _ _ _ e (in-turn (p .leads w) (d .leads (atFlow w s₁ m₁ q₁ (w .own .serial) (w .lent .receive) (w .lent .cables) (w .lent .received) (w .lent .sending))));
         sized = d .sized;
       }
 
@@ -97,15 +99,15 @@ module _ (c : Settings) (s s′ : State) (m m′ : Memory) (l l′ k : List ℕ)
   pub streams-answered : s′ .answer .received ≡ s .answer .received
   streams-answered = ap (λ (h : Held). h .answered) held-streams
 
-pub bridge-goes : (c : Settings) (t : ℕ) (s s₁ s₂ s₃ : State) (m m₁ m₂ m₃ : Memory) (q q₃ out out₂ l l₁ k : List ℕ)
-    → Streams streams s m l k s₁ m₁ l₁ → Receives (midiSteps c t) s₁ m₁ out s₂ m₂ out₂ → Stacks (stackSteps (c .«device_stack»)) s₂ m₂ q s₃ m₃ q₃
-    → Bridges (bridgeSteps c t) s m q out l k s₃ m₃ q₃ out₂ l₁
+pub bridge-goes : (c : Settings) (t : ℕ) (s s₁ s₂ s₃ : State) (m m₁ m₂ m₃ : Memory) (q q₃ out out₂ cs cs₂ l l₁ k : List ℕ)
+    → Streams streams s m l k s₁ m₁ l₁ → Hears (midiSteps c t) s₁ m₁ out cs s₂ m₂ out₂ cs₂ → Stacks (stackSteps (c .«device_stack»)) s₂ m₂ q s₃ m₃ q₃
+    → Bridges (bridgeSteps c t) s m q out cs l k s₃ m₃ q₃ out₂ cs₂ l₁
 unfolding others
-bridge-goes c t s s₁ s₂ s₃ m m₁ m₂ m₃ q q₃ out out₂ l l₁ k p r d =
+bridge-goes c t s s₁ s₂ s₃ m m₁ m₂ m₃ q q₃ out out₂ cs cs₂ l l₁ k p r d =
     record {
       leads = λ w.
-          in-turn (p .leads (atFlow w s m q (w .own .serial) out l k))
-          (in-turn (r .leads (atFlow w s₁ m₁ q (w .own .serial) out l₁ k)) (d .leads (atFlow w s₂ m₂ q (w .own .serial) out₂ l₁ k)));
+          in-turn (p .leads (atFlow w s m q (w .own .serial) out cs l k))
+          (in-turn (r .leads (atFlow w s₁ m₁ q (w .own .serial) out cs l₁ k)) (d .leads (atFlow w s₂ m₂ q (w .own .serial) out₂ cs₂ l₁ k)));
       sized = d .sized;
     }
 
@@ -119,20 +121,22 @@ not-streaming Reset k = refl
 not-streaming Enumerate k = refl
 not-streaming Stream k = absurd (⊎-elim (λ e. omega arith) (⊎-elim (λ e. omega arith) (⊎-elim (λ e. omega arith) (λ e. omega arith))) k)
 
-module _ (c : Settings) (t : ℕ) (s : State) (m : Memory) (q u out l k : List ℕ) where
-  pub no-stream : streaming (s .phase) ≡ false → Sized m → Transfers (transfers c t) s m q u out l k s m q u out l
+module _ (c : Settings) (t : ℕ) (s : State) (m : Memory) (q u out cs l k : List ℕ) where
+  pub no-stream : streaming (s .phase) ≡ false → Sized m → Transfers (transfers c t) s m q u out cs l k s m q u out cs l
   unfolding transfers
   no-stream e z = record { leads = λ w. by-false _ _ _ e (unchanged _); sized = z }
 
-  pub stream-serial : s .phase ≡ Stream → c .cdc ≡ true → (s′ : State) (m′ : Memory) (u′ out′ : List ℕ) → ServesBoth serialStep s m u out s′ m′ u′ out′ → Transfers (transfers c t) s m q u out l k s′ m′ q u′ out′ l
+  pub stream-serial : s .phase ≡ Stream → c .cdc ≡ true → (s′ : State) (m′ : Memory) (u′ out′ : List ℕ) → ServesBoth serialStep s m u out s′ m′ u′ out′
+      → Transfers (transfers c t) s m q u out cs l k s′ m′ q u′ out′ cs l
   unfolding transfers
   stream-serial e f s′ m′ u′ out′ p =
-      record { leads = λ w. by-true _ _ _ (ap streaming e) (by-true _ _ _ f (p .leads (atFlow w s m q u out l k))); sized = p .sized }
+      record { leads = λ w. by-true _ _ _ (ap streaming e) (by-true _ _ _ f (p .leads (atFlow w s m q u out cs l k))); sized = p .sized }
 
-  pub stream-bridge : s .phase ≡ Stream → c .cdc ≡ false → (s′ : State) (m′ : Memory) (q′ out′ l′ : List ℕ) → Bridges (bridgeSteps c t) s m q out l k s′ m′ q′ out′ l′ → Transfers (transfers c t) s m q u out l k s′ m′ q′ u out′ l′
+  pub stream-bridge : s .phase ≡ Stream → c .cdc ≡ false → (s′ : State) (m′ : Memory) (q′ out′ cs′ l′ : List ℕ) → Bridges (bridgeSteps c t) s m q out cs l k s′ m′ q′ out′ cs′ l′
+      → Transfers (transfers c t) s m q u out cs l k s′ m′ q′ u out′ cs′ l′
   unfolding transfers
-  stream-bridge e f s′ m′ q′ out′ l′ p =
-      record { leads = λ w. by-true _ _ _ (ap streaming e) (by-false _ _ _ f (p .leads (atFlow w s m q u out l k))); sized = p .sized }
+  stream-bridge e f s′ m′ q′ out′ cs′ l′ p =
+      record { leads = λ w. by-true _ _ _ (ap streaming e) (by-false _ _ _ f (p .leads (atFlow w s m q u out cs l k))); sized = p .sized }
 
 -- ---- what a microframe begins with
 

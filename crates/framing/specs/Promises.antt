@@ -6,7 +6,7 @@ use Rattle.bus.specs.Memory.{Memory}
 use Rattle.bus.specs.Sized.{Sized}
 use Rattle.record.specs.declared.Audio.{Audio}
 use Rattle.record.specs.declared.State.{State}
-use Rattle.record.specs.World.{World, withMidiQueue, withSerialQueue, withReceiveArea, withReceivedRing, withSendingRing, atBus}
+use Rattle.record.specs.World.{World, withMidiQueue, withSerialQueue, withReceiveArea, withCablesArea, withReceivedRing, withSendingRing, atBus}
 use Rattle.record.specs.Change.{Step}
 use Rattle.record.specs.Did.{Leads}
 use Rattle.blocks.specs.Promises.{InRing}
@@ -33,23 +33,24 @@ pub record Flows (s : State) (words : ℕ) : Type 0 where
 
 -- ---- a World with what a function takes in its place
 
--- with the parts of the streams: MIDI and serial queue, receive area, both rings
-abbrev pub atFlow : World → State → Memory → List ℕ → List ℕ → List ℕ → List ℕ → List ℕ → World
-atFlow w s m midi serial receive received k = withSendingRing (withReceivedRing (withReceiveArea (withSerialQueue (withMidiQueue (atBus w s m) midi) serial) receive) received) k
+-- with the parts of the streams: MIDI and serial queue, receive area and its cables, both rings
+abbrev pub atFlow : World → State → Memory → List ℕ → List ℕ → List ℕ → List ℕ → List ℕ → List ℕ → World
+atFlow w s m midi serial receive cables received k =
+    withSendingRing (withReceivedRing (withCablesArea (withReceiveArea (withSerialQueue (withMidiQueue (atBus w s m) midi) serial) receive) cables) received) k
 
 -- ---- what a function does
 
 -- on state, memory and MIDI queue
 pub record Stacks (f : Step) (s : State) (m : Memory) (midi : List ℕ) (s′ : State) (m′ : Memory) (midi′ : List ℕ) : Type 0 where
-  pub leads : (w : World) → Leads f (atFlow w s m midi (w .own .serial) (w .lent .receive) (w .lent .received) (w .lent .sending)) (atFlow w s′ m′ midi′ (w .own .serial) (w .lent .receive) (w .lent .received) (w .lent .sending))
+  pub leads : (w : World) → Leads f (atFlow w s m midi (w .own .serial) (w .lent .receive) (w .lent .cables) (w .lent .received) (w .lent .sending)) (atFlow w s′ m′ midi′ (w .own .serial) (w .lent .receive) (w .lent .cables) (w .lent .received) (w .lent .sending))
   pub sized : Sized m′
 
--- on state, memory, MIDI queue, receive area and rings
-pub record Bridges (f : Step) (s : State) (m : Memory) (midi receive received k : List ℕ) (s′ : State) (m′ : Memory) (midi′ receive′ received′ : List ℕ) : Type 0 where
-  pub leads : (w : World) → Leads f (atFlow w s m midi (w .own .serial) receive received k) (atFlow w s′ m′ midi′ (w .own .serial) receive′ received′ k)
+-- on state, memory, MIDI queue, receive area, cables and rings
+pub record Bridges (f : Step) (s : State) (m : Memory) (midi receive cables received k : List ℕ) (s′ : State) (m′ : Memory) (midi′ receive′ cables′ received′ : List ℕ) : Type 0 where
+  pub leads : (w : World) → Leads f (atFlow w s m midi (w .own .serial) receive cables received k) (atFlow w s′ m′ midi′ (w .own .serial) receive′ cables′ received′ k)
   pub sized : Sized m′
 
 -- on these and the serial queue
-pub record Transfers (f : Step) (s : State) (m : Memory) (midi serial receive received k : List ℕ) (s′ : State) (m′ : Memory) (midi′ serial′ receive′ received′ : List ℕ) : Type 0 where
-  pub leads : (w : World) → Leads f (atFlow w s m midi serial receive received k) (atFlow w s′ m′ midi′ serial′ receive′ received′ k)
+pub record Transfers (f : Step) (s : State) (m : Memory) (midi serial receive cables received k : List ℕ) (s′ : State) (m′ : Memory) (midi′ serial′ receive′ cables′ received′ : List ℕ) : Type 0 where
+  pub leads : (w : World) → Leads f (atFlow w s m midi serial receive cables received k) (atFlow w s′ m′ midi′ serial′ receive′ cables′ received′ k)
   pub sized : Sized m′

@@ -10,7 +10,7 @@ ghost use Rattle.record.specs.Change.{when};
 ghost use Rattle.record.specs.Did.{Paged};
 ghost use Rattle.model.specs.Phases.{ticks};
 ghost use Rattle.model.specs.Microframe as M;
-ghost use Rattle.streams.specs.Promises.{Receives};
+ghost use Rattle.midiin.specs.Promises.{Hears};
 ghost use Rattle.framing.specs.Promises as P;
 ghost use Rattle.record.specs.Sizes as Sizes;
 use record::Phase;
@@ -26,11 +26,12 @@ fn midi_in(
     sram: &mut [u8],
     page: &mut [u8],
     receive: &mut [u8],
+    cables: &mut [u8],
     time: u64,
 ) -> State
     requires { ⌜ Sized (shown dynamic sram page) ⌝ }
-    requires { ⌜ s .answer .received + 196584 ≤ length (now receive) ⌝ }
-    ensures { λ r. ⌜ Receives (M.midiSteps c time) s (shown (dynamic .entry) (sram .entry) (page .entry)) (now (receive .entry)) r (shown (dynamic .exit) (sram .exit) (page .exit)) (now (receive .exit)) ⌝ }
+    requires { ⌜ (s .answer .received + 196584 ≤ length (now receive)) × (s .answer .received + 196584 ≤ length (now cables)) ⌝ }
+    ensures { λ r. ⌜ Hears (M.midiSteps c time) s (shown (dynamic .entry) (sram .entry) (page .entry)) (now (receive .entry)) (now (cables .entry)) r (shown (dynamic .exit) (sram .exit) (page .exit)) (now (receive .exit)) (now (cables .exit)) ⌝ }
 {
     if !c.midi_in {
         return s;
@@ -39,7 +40,7 @@ fn midi_in(
     if phases::in_span(sleep.from, sleep.to, time) {
         return record::count(s, record::MIDI_ASLEEP, 1);
     }
-    midiin::midi_step(s, c.midi_every, dynamic, sram, page, receive)
+    midiin::midi_step(s, c.midi_every, dynamic, sram, page, receive, cables)
 }
 
 // What the device stack adds: MIDI output and vendor bytes.
@@ -71,17 +72,17 @@ fn overbridge(
     sram: &mut [u8],
     page: &mut [u8],
     receive: &mut [u8],
+    cables: &mut [u8],
     received: &mut [u32],
     sending: &[u32],
     time: u64,
 ) -> State
     requires { ⌜ Sized (shown dynamic sram page) ⌝ }
-    requires { ⌜ (Sizes.RECEIVE ≤ length (now receive)) × (length (now received) ≡ Sizes.RING) ⌝ }
-    requires { ⌜ P.Flows s (length (now sending)) ⌝ }
-    ensures { λ r. ⌜ P.Bridges (M.bridgeSteps c time) s (shown (dynamic .entry) (sram .entry) (page .entry)) (now (midi .entry)) (now (receive .entry)) (now (received .entry)) (now (sending .entry)) r (shown (dynamic .exit) (sram .exit) (page .exit)) (now (midi .exit)) (now (receive .exit)) (now (received .exit)) ⌝ }
+    requires { ⌜ ((Sizes.RECEIVE ≤ length (now receive)) × ((Sizes.RECEIVE ≤ length (now cables)) × (length (now received) ≡ Sizes.RING))) × P.Flows s (length (now sending)) ⌝ }
+    ensures { λ r. ⌜ P.Bridges (M.bridgeSteps c time) s (shown (dynamic .entry) (sram .entry) (page .entry)) (now (midi .entry)) (now (receive .entry)) (now (cables .entry)) (now (received .entry)) (now (sending .entry)) r (shown (dynamic .exit) (sram .exit) (page .exit)) (now (midi .exit)) (now (receive .exit)) (now (cables .exit)) (now (received .exit)) ⌝ }
 {
     let streamed = audio::stream(s, dynamic, sram, page, received, sending);
-    let heard = midi_in(streamed, c, dynamic, sram, page, receive, time);
+    let heard = midi_in(streamed, c, dynamic, sram, page, receive, cables, time);
     stack_step(heard, c.device_stack, midi, dynamic, sram, page)
 }
 
@@ -95,14 +96,14 @@ pub fn streaming(
     sram: &mut [u8],
     page: &mut [u8],
     receive: &mut [u8],
+    cables: &mut [u8],
     received: &mut [u32],
     sending: &[u32],
     time: u64,
 ) -> State
     requires { ⌜ Sized (shown dynamic sram page) ⌝ }
-    requires { ⌜ (Sizes.RECEIVE ≤ length (now receive)) × (length (now received) ≡ Sizes.RING) ⌝ }
-    requires { ⌜ P.Flows s (length (now sending)) ⌝ }
-    ensures { λ r. ⌜ P.Transfers (M.transfers c time) s (shown (dynamic .entry) (sram .entry) (page .entry)) (now (midi .entry)) (now (serial .entry)) (now (receive .entry)) (now (received .entry)) (now (sending .entry)) r (shown (dynamic .exit) (sram .exit) (page .exit)) (now (midi .exit)) (now (serial .exit)) (now (receive .exit)) (now (received .exit)) ⌝ }
+    requires { ⌜ ((Sizes.RECEIVE ≤ length (now receive)) × ((Sizes.RECEIVE ≤ length (now cables)) × (length (now received) ≡ Sizes.RING))) × P.Flows s (length (now sending)) ⌝ }
+    ensures { λ r. ⌜ P.Transfers (M.transfers c time) s (shown (dynamic .entry) (sram .entry) (page .entry)) (now (midi .entry)) (now (serial .entry)) (now (receive .entry)) (now (cables .entry)) (now (received .entry)) (now (sending .entry)) r (shown (dynamic .exit) (sram .exit) (page .exit)) (now (midi .exit)) (now (serial .exit)) (now (receive .exit)) (now (cables .exit)) (now (received .exit)) ⌝ }
 {
     let phase = s.phase;
     let Phase::Stream = phase else {
@@ -119,6 +120,7 @@ pub fn streaming(
         sram,
         page,
         receive,
+        cables,
         received,
         sending,
         time,

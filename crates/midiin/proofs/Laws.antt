@@ -29,18 +29,18 @@ use Rattle.dtd.specs.Promises.{TakesOne, Runs, noneRan}
 use Rattle.dtd.proofs.Runs.{single, runs-unprimed, runs-ended, runs-active}
 use Rattle.record.specs.declared.State.{State}
 use Rattle.record.specs.Record.{withStats, counted, «midi_dtds»}
-use Rattle.record.specs.World.{World, atPage, withReceiveArea}
-use Rattle.record.specs.Change.{count, received, apply, nothing}
+use Rattle.record.specs.World.{World, atPage, withReceiveArea, withCablesArea}
+use Rattle.record.specs.Change.{count, cabled, received, apply, nothing}
 use Rattle.record.specs.Did.{Leads, afterRun}
 use Rattle.record.proofs.Laws.{in-turn, by-true, by-false, unchanged, once, from-here, on-page, run-then}
 use Rattle.model.specs.Phases.{changing}
-use Rattle.model.specs.Streams.{naks, reads, readsAt, midiIn, brought, nonempty, decoded}
-use Rattle.streams.specs.Promises.{atReceive, Fewer, Receives}
+use Rattle.model.specs.Streams.{naks, reads, readsAt, midiIn, brought, nonempty, packetData, packetCables, eachPacket, decoded, cablesOf}
+use Rattle.streams.specs.Promises.{Fewer}
 use Rattle.streams.proofs.Found.{unprimed-bytes, ended-bytes, active-input, brings}
 use Rattle.streams.proofs.Laws.{fewer-same, fewer-then}
 use Rattle.midiin.specs.declared.Read.{Read}
-use Rattle.midiin.specs.Promises.{OnPage, Decodes, countRead, afterRead, ReadsOne}
-use Rattle.midiin.proofs.Decoding.{decoded-few}
+use Rattle.midiin.specs.Promises.{atCabled, OnPage, Decodes, countRead, afterRead, ReadsOne, Hears}
+use Rattle.model.proofs.Decoded.{decoded-few}
 
 -- ---- NAK
 
@@ -73,47 +73,50 @@ abbrev MIDI-IN : Endpoint
 MIDI-IN = endpoint 1 true
 
 -- a run that brought neither byte nor completion
-module _ (s : State) (m m′ : Memory) (out : List ℕ) (r : Ran) (run : Runs MIDI-IN [] (S.bus m (s .port .line)) (S.bus m′ (r .line)) r)
+module _ (s : State) (m m′ : Memory) (out cs : List ℕ) (r : Ran) (run : Runs MIDI-IN [] (S.bus m (s .port .line)) (S.bus m′ (r .line)) r)
     (quiet : brought (runDtds MIDI-IN [] (S.bus m (s .port .line))) ≡ false) where
-  pub quiet-read : ReadsOne s m out (record { state = afterRun s r; stop = true }) m′ out
+  pub quiet-read : ReadsOne s m out cs (record { state = afterRun s r; stop = true }) m′ out cs
   unfolding reads nothing
   quiet-read =
       record {
-        goes = λ n w p. run-then MIDI-IN [] _ (withReceiveArea w out) s m m′ r run (by-false _ _ _ quiet p);
+        goes = λ n w p. run-then MIDI-IN [] _ (withCablesArea (withReceiveArea w out) cs) s m m′ r run (by-false _ _ _ quiet p);
         sized = run .does .sized;
         few = fewer-same refl;
         most = omega arith;
       }
 
--- one that brought one of them: it is counted, and its packets go to the receive area
-module _ (s : State) (m m′ : Memory) (out out′ : List ℕ) (r : Ran) (run : Runs MIDI-IN [] (S.bus m (s .port .line)) (S.bus m′ (r .line)) r) where
+-- one that brought one of them: it is counted, and its packets go to the receive area and their cables beside them
+module _ (s : State) (m m′ : Memory) (out out′ cs cs′ : List ℕ) (r : Ran) (run : Runs MIDI-IN [] (S.bus m (s .port .line)) (S.bus m′ (r .line)) r) where
   abbrev ran : Run
   ran = runDtds MIDI-IN [] (S.bus m (s .port .line))
 
-  module _ (heard : brought ran ≡ true) (at : ℕ) (puts : Decodes (length (ran .bytes) / 4) (ran .bytes) out out′ (s .answer .received) at) where
-    pub heard-read : ReadsOne s m out (record { state = countRead (afterRun s r) at; stop = false }) m′ out′
+  module _ (heard : brought ran ≡ true) (at : ℕ) (puts : Decodes (length (ran .bytes) / 4) (ran .bytes) out out′ cs cs′ (s .answer .received) at) where
+    pub heard-read : ReadsOne s m out cs (record { state = countRead (afterRun s r) at; stop = false }) m′ out′ cs′
     unfolding reads apply
     heard-read =
         let bytes = decoded (length (ran .bytes) / 4) (ran .bytes) in
+        let cables = cablesOf (length (ran .bytes) / 4) (ran .bytes) in
+        let s₁ = withStats (afterRun s r) (counted «midi_dtds» 1 (s .stats)) in
         record {
-          goes = λ n w p. run-then MIDI-IN [] _ (withReceiveArea w out) s m m′ r run
+          goes = λ n w p. run-then MIDI-IN [] _ (withCablesArea (withReceiveArea w out) cs) s m m′ r run
               (by-true _ _ _ heard
-              (in-turn (once (λ v. count «midi_dtds» 1) (atReceive w (afterRun s r) m′ out) (atReceive w (withStats (afterRun s r) (counted «midi_dtds» 1 (s .stats))) m′ out) refl)
-              (in-turn (once (λ v. received bytes) (atReceive w (withStats (afterRun s r) (counted «midi_dtds» 1 (s .stats))) m′ out) (atReceive w (countRead (afterRun s r) at) m′ out′)
-              (ap₂ (λ (x : ℕ) (y : List ℕ). atReceive w (countRead (afterRun s r) x) m′ y) (puts .behind) (puts .area)))
-              p)));
+              (in-turn (once (λ v. count «midi_dtds» 1) (atCabled w (afterRun s r) m′ out cs) (atCabled w s₁ m′ out cs) refl)
+              (in-turn (once (λ v. cabled cables) (atCabled w s₁ m′ out cs) (atCabled w s₁ m′ out cs′) (ap (atCabled w s₁ m′ out) (puts .cables)))
+              (in-turn (once (λ v. received bytes) (atCabled w s₁ m′ out cs′) (atCabled w (countRead (afterRun s r) at) m′ out′ cs′)
+              (ap₂ (λ (x : ℕ) (y : List ℕ). atCabled w (countRead (afterRun s r) x) m′ y cs′) (puts .behind) (puts .area)))
+              p))));
           sized = run .does .sized;
           few = fewer-same refl;
           most = omega (arith, puts .behind, decoded-few (length (ran .bytes) / 4) (ran .bytes), brings 1 (omega arith) m (s .port .line) .few);
         }
 
-reads-as : {s : State} {m m′ : Memory} {out out′ : List ℕ} {r r′ : Read} → r ≡ r′ → ReadsOne s m out r′ m′ out′ → ReadsOne s m out r m′ out′
-reads-as {s} {m} {m′} {out} {out′} e p = subst (λ (x : Read). ReadsOne s m out x m′ out′) (sym e) p
+reads-as : {s : State} {m m′ : Memory} {out out′ cs cs′ : List ℕ} {r r′ : Read} → r ≡ r′ → ReadsOne s m out cs r′ m′ out′ cs′ → ReadsOne s m out cs r m′ out′ cs′
+reads-as {s} {m} {m′} {out} {out′} {cs} {cs′} e p = subst (λ (x : Read). ReadsOne s m out cs x m′ out′ cs′) (sym e) p
 
 -- a run of an active descriptor, by its total
-module _ (s : State) (m m′ : Memory) (out out′ : List ℕ) (r : Ran) (run : Runs MIDI-IN [] (S.bus m (s .port .line)) (S.bus m′ (r .line)) r)
+module _ (s : State) (m m′ : Memory) (out out′ cs cs′ : List ℕ) (r : Ran) (run : Runs MIDI-IN [] (S.bus m (s .port .line)) (S.bus m′ (r .line)) r)
     (total at : ℕ) (bs : List ℕ) (is-bytes : runDtds MIDI-IN [] (S.bus m (s .port .line)) .bytes ≡ bs) (size : length bs ≡ total)
-    (puts : Decodes (total / 4) bs out out′ (s .answer .received) at) where
+    (puts : Decodes (total / 4) bs out out′ cs cs′ (s .answer .received) at) where
   some : (l : List ℕ) → nonempty l ≡ not (eqb (length l) 0)
   some [] = refl
   some (x ∷ l) = sym (ap not (ne-eqb (suc (length l)) 0 (λ e. omega arith)))
@@ -123,59 +126,61 @@ module _ (s : State) (m m′ : Memory) (out out′ : List ℕ) (r : Ran) (run : 
       ap₂ (λ (x y : Bool). x || y) (run .done)
       (sym (ap nonempty is-bytes ∙ some bs ∙ ap (λ (k : ℕ). not (eqb k 0)) size))
 
-  decodes : Decodes (length (runDtds MIDI-IN [] (S.bus m (s .port .line)) .bytes) / 4) (runDtds MIDI-IN [] (S.bus m (s .port .line)) .bytes) out out′ (s .answer .received) at
+  decodes : Decodes (length (runDtds MIDI-IN [] (S.bus m (s .port .line)) .bytes) / 4) (runDtds MIDI-IN [] (S.bus m (s .port .line)) .bytes) out out′ cs cs′ (s .answer .received) at
   decodes =
-      subst (λ (l : List ℕ). Decodes (length l / 4) l out out′ (s .answer .received) at) (sym is-bytes)
-      (subst (λ (k : ℕ). Decodes (k / 4) bs out out′ (s .answer .received) at) (sym size) puts)
+      subst (λ (l : List ℕ). Decodes (length l / 4) l out out′ cs cs′ (s .answer .received) at) (sym is-bytes)
+      (subst (λ (k : ℕ). Decodes (k / 4) bs out out′ cs cs′ (s .answer .received) at) (sym size) puts)
 
-  pub active-read : ReadsOne s m out (afterRead s r total at) m′ out′
-  unfolding decoded
+  pub active-read : ReadsOne s m out cs (afterRead s r total at) m′ out′ cs′
+  unfolding eachPacket
   active-read = by-case (r .done || not (eqb total 0)) refl
     where
-      by-case : (b : Bool) → r .done || not (eqb total 0) ≡ b → ReadsOne s m out (afterRead s r total at) m′ out′
+      by-case : (b : Bool) → r .done || not (eqb total 0) ≡ b → ReadsOne s m out cs (afterRead s r total at) m′ out′ cs′
       by-case true h =
           reads-as (sym (read-goes s r total at (afterRun s r) refl h (countRead (afterRun s r) at) refl))
-          (heard-read s m m′ out out′ r run (sym test ∙ h) at decodes)
+          (heard-read s m m′ out out′ cs cs′ r run (sym test ∙ h) at decodes)
       by-case false h =
           reads-as (sym (read-stops s r total at (afterRun s r) refl h))
-          (subst (λ (x : List ℕ). ReadsOne s m out (record { state = afterRun s r; stop = true }) m′ x) (sym (same h))
-          (quiet-read s m m′ out r run (sym test ∙ h)))
+          (subst (λ (x : List ℕ). ReadsOne s m out cs (record { state = afterRun s r; stop = true }) m′ x cs′) (sym (same packetData out (puts .area)))
+          (subst (λ (x : List ℕ). ReadsOne s m out cs (record { state = afterRun s r; stop = true }) m′ out x) (sym (same packetCables cs (puts .cables)))
+          (quiet-read s m m′ out cs r run (sym test ∙ h))))
         where
           both : (x y : Bool) → x || not y ≡ false → y ≡ true
           both true y e = let z : _≡_ {A = ℕ} 0 1 = cc in absurd (omega arith)
           both false true e = refl
           both false false e = let z : _≡_ {A = ℕ} 0 1 = cc in absurd (omega arith)
 
-          same : r .done || not (eqb total 0) ≡ false → out′ ≡ out
-          same e =
-              let none : total / 4 ≡ 0 = omega (arith, eqb-true total 0 (both (r .done) (eqb total 0) e)) in
-              puts .area ∙ ap (λ (k : ℕ). sets out (s .answer .received) (decoded k bs)) none
+          none : total / 4 ≡ 0
+          none = omega (arith, eqb-true total 0 (both (r .done) (eqb total 0) h))
+
+          same : (form : List ℕ → List ℕ) (l : List ℕ) {l′ : List ℕ} → l′ ≡ sets l (s .answer .received) (eachPacket form (total / 4) bs) → l′ ≡ l
+          same form l e = e ∙ ap (λ (k : ℕ). sets l (s .answer .received) (eachPacket form k bs)) none
 
 -- ---- a read by what `find` says
 
-module _ (s : State) (m : Memory) (out : List ℕ) (z : Sized m) where
+module _ (s : State) (m : Memory) (out cs : List ℕ) (z : Sized m) where
   abbrev before : S.Bus
   before = S.bus m (s .port .line)
 
   none-brought : runDtds MIDI-IN [] before .done ≡ false → runDtds MIDI-IN [] before .bytes ≡ [] → brought (runDtds MIDI-IN [] before) ≡ false
   none-brought p q = ap₂ (λ (x : Bool) (l : List ℕ). x || nonempty l) p q
 
-  pub unprimed-read : found MIDI-IN m ≡ Unprimed → (r : Ran) → r ≡ noneRan (s .port .line) → (t : State) → t ≡ afterRun s r → ReadsOne s m out (record { state = t; stop = true }) m out
+  pub unprimed-read : found MIDI-IN m ≡ Unprimed → (r : Ran) → r ≡ noneRan (s .port .line) → (t : State) → t ≡ afterRun s r → ReadsOne s m out cs (record { state = t; stop = true }) m out cs
   unprimed-read f r is t e =
       let run = runs-unprimed MIDI-IN [] m (s .port .line) z f in
       reads-as (ap (λ (x : State). record { state = x; stop = true }) (e ∙ ap (afterRun s) is))
-      (quiet-read s m m out (noneRan (s .port .line)) run (none-brought (sym (run .done)) (unprimed-bytes 1 (omega arith) m (s .port .line) f)))
+      (quiet-read s m m out cs (noneRan (s .port .line)) run (none-brought (sym (run .done)) (unprimed-bytes 1 (omega arith) m (s .port .line) f)))
 
   pub ended-read : found MIDI-IN m ≡ Ended → (m′ : Memory) (line : Bool) → S.Does (settling 0x20000 1 false) before (S.bus m′ line) 0
-      → (r : Ran) → r ≡ noneRan line → (t : State) → t ≡ afterRun s r → ReadsOne s m out (record { state = t; stop = true }) m′ out
+      → (r : Ran) → r ≡ noneRan line → (t : State) → t ≡ afterRun s r → ReadsOne s m out cs (record { state = t; stop = true }) m′ out cs
   ended-read f m′ line does r is t e =
       let run = runs-ended MIDI-IN [] m (s .port .line) z (single 1 true (omega arith)) f does in
       reads-as (ap (λ (x : State). record { state = x; stop = true }) (e ∙ ap (afterRun s) is))
-      (quiet-read s m m′ out (noneRan line) run (none-brought (sym (run .done)) (ended-bytes 1 (omega arith) m (s .port .line) f)))
+      (quiet-read s m m′ out cs (noneRan line) run (none-brought (sym (run .done)) (ended-bytes 1 (omega arith) m (s .port .line) f)))
 
-  module _ (qh td tok : ℕ) (f : found MIDI-IN m ≡ Active qh td tok) (m′ : Memory) (out′ : List ℕ) (r : Ran) (takes : TakesOne qh td tok 0x20000 before (S.bus m′ (r .line)) r)
+  module _ (qh td tok : ℕ) (f : found MIDI-IN m ≡ Active qh td tok) (m′ : Memory) (out′ cs′ : List ℕ) (r : Ran) (takes : TakesOne qh td tok 0x20000 before (S.bus m′ (r .line)) r)
       (total d : ℕ) (ps : List ℕ) (at : ℕ) (is-total : total ≡ totalOf tok) (is-d : d ≡ descriptor td) (is-ps : ps ≡ pointersFor m d total)
-      (puts : Decodes (total / 4) (bytesIn m ps total) out out′ (s .answer .received) at) where
+      (puts : Decodes (total / 4) (bytesIn m ps total) out out′ cs cs′ (s .answer .received) at) where
     few-total : total ≤ 32767
     few-total = omega (arith, is-total, total-lt tok)
 
@@ -187,63 +192,63 @@ module _ (s : State) (m : Memory) (out : List ℕ) (z : Sized m) where
     run-bytes : runDtds MIDI-IN [] before .bytes ≡ bytesIn m (pointers m (descriptor td)) total
     run-bytes = active-input 1 (omega arith) m (s .port .line) qh td tok f ∙ ap (bytesIn m (pointers m (descriptor td))) (sym is-total)
 
-    pub found-read : {x : Read} → x ≡ afterRead s r total at → ReadsOne s m out x m′ out′
+    pub found-read : {x : Read} → x ≡ afterRead s r total at → ReadsOne s m out cs x m′ out′ cs′
     found-read e =
         reads-as e
-        (active-read s m m′ out out′ r (runs-active MIDI-IN [] m (s .port .line) z (single 1 true (omega arith)) qh td tok f 0x20000 refl (takes 1)) total at
+        (active-read s m m′ out out′ cs cs′ r (runs-active MIDI-IN [] m (s .port .line) z (single 1 true (omega arith)) qh td tok f 0x20000 refl (takes 1)) total at
         (bytesIn m (pointers m (descriptor td)) total) run-bytes (length-bytesIn m (pointers m (descriptor td)) total)
-        (subst (λ (l : List ℕ). Decodes (total / 4) l out out′ (s .answer .received) at) same-bytes puts))
+        (subst (λ (l : List ℕ). Decodes (total / 4) l out out′ cs cs′ (s .answer .received) at) same-bytes puts))
 
 -- ---- the loop over reads: what is left to read from here leads to where the whole does
 
-pub record Reading (count : ℕ) (s₀ : State) (m₀ : Memory) (out₀ : List ℕ) (s : State) (m : Memory) (out : List ℕ) (left : ℕ) : Type 0 where
-  pub goes : (w : World) {c : World} → Leads (reads left) (atReceive w s m out) c → Leads (reads count) (atReceive w s₀ m₀ out₀) c
+pub record Reading (count : ℕ) (s₀ : State) (m₀ : Memory) (out₀ cs₀ : List ℕ) (s : State) (m : Memory) (out cs : List ℕ) (left : ℕ) : Type 0 where
+  pub goes : (w : World) {c : World} → Leads (reads left) (atCabled w s m out cs) c → Leads (reads count) (atCabled w s₀ m₀ out₀ cs₀) c
   pub sized : Sized m
   pub few : Fewer (s₀ .lengths) (s .lengths)
   pub windows : Kept m₀ m
-  pub long : length out ≡ length out₀
-  pub room : s .answer .received + left * 24573 ≤ length out
+  pub long : (length out ≡ length out₀) × (length cs ≡ length cs₀)
+  pub room : (s .answer .received + left * 24573 ≤ length out) × (s .answer .received + left * 24573 ≤ length cs)
 
-module _ {count : ℕ} {s₀ : State} {m₀ : Memory} {out₀ : List ℕ} where
-  pub reading-first : Sized m₀ → s₀ .answer .received + count * 24573 ≤ length out₀ → Reading count s₀ m₀ out₀ s₀ m₀ out₀ count
+module _ {count : ℕ} {s₀ : State} {m₀ : Memory} {out₀ cs₀ : List ℕ} where
+  pub reading-first : Sized m₀ → (s₀ .answer .received + count * 24573 ≤ length out₀) × (s₀ .answer .received + count * 24573 ≤ length cs₀) → Reading count s₀ m₀ out₀ cs₀ s₀ m₀ out₀ cs₀ count
   reading-first z room =
-      record { goes = λ w p. p; sized = z; few = fewer-same refl; windows = kept-refl m₀; long = refl; room = room }
+      record { goes = λ w p. p; sized = z; few = fewer-same refl; windows = kept-refl m₀; long = (refl, refl); room = room }
 
-  module _ {s : State} {m : Memory} {out : List ℕ} {left : ℕ} (inv : Reading count s₀ m₀ out₀ s m out left) where
-    pub reading-end : left ≡ 0 → Receives (reads count) s₀ m₀ out₀ s m out
+  module _ {s : State} {m : Memory} {out cs : List ℕ} {left : ℕ} (inv : Reading count s₀ m₀ out₀ cs₀ s m out cs left) where
+    pub reading-end : left ≡ 0 → Hears (reads count) s₀ m₀ out₀ cs₀ s m out cs
     unfolding reads
     reading-end h =
         record {
-          leads = λ w. inv .goes w (subst (λ (n : ℕ). Leads (reads n) (atReceive w s m out) (atReceive w s m out)) (sym h) (unchanged (atReceive w s m out)));
+          leads = λ w. inv .goes w (subst (λ (n : ℕ). Leads (reads n) (atCabled w s m out cs) (atCabled w s m out cs)) (sym h) (unchanged (atCabled w s m out cs)));
           sized = inv .sized;
           few = inv .few;
         }
 
     -- one more read
-    module _ (k : ℕ) (is : left ≡ suc k) {r : Read} {m′ : Memory} {out′ : List ℕ} (read : ReadsOne s m out r m′ out′) where
-      next : (w : World) {c : World} (b : Bool) → r .stop ≡ b → Leads (pick b nothing (reads k)) (atReceive w (r .state) m′ out′) c → Leads (reads count) (atReceive w s₀ m₀ out₀) c
+    module _ (k : ℕ) (is : left ≡ suc k) {r : Read} {m′ : Memory} {out′ cs′ : List ℕ} (read : ReadsOne s m out cs r m′ out′ cs′) where
+      next : (w : World) {c : World} (b : Bool) → r .stop ≡ b → Leads (pick b nothing (reads k)) (atCabled w (r .state) m′ out′ cs′) c → Leads (reads count) (atCabled w s₀ m₀ out₀ cs₀) c
       next w {c} b h p =
           inv .goes w
-          (subst (λ (n : ℕ). Leads (reads n) (atReceive w s m out) c) (sym is)
-          (read .goes k w (subst (λ (x : Bool). Leads (pick x nothing (reads k)) (atReceive w (r .state) m′ out′) c) (sym h) p)))
+          (subst (λ (n : ℕ). Leads (reads n) (atCabled w s m out cs) c) (sym is)
+          (read .goes k w (subst (λ (x : Bool). Leads (pick x nothing (reads k)) (atCabled w (r .state) m′ out′ cs′) c) (sym h) p)))
 
-      pub reading-stop : r .stop ≡ true → Receives (reads count) s₀ m₀ out₀ (r .state) m′ out′
+      pub reading-stop : r .stop ≡ true → Hears (reads count) s₀ m₀ out₀ cs₀ (r .state) m′ out′ cs′
       reading-stop h =
           record {
-            leads = λ w. next w true h (unchanged (atReceive w (r .state) m′ out′));
+            leads = λ w. next w true h (unchanged (atCabled w (r .state) m′ out′ cs′));
             sized = read .sized;
             few = fewer-then (inv .few) (read .few);
           }
 
-      pub reading-more : r .stop ≡ false → Kept m m′ → length out′ ≡ length out → Reading count s₀ m₀ out₀ (r .state) m′ out′ k
-      reading-more h kept same =
+      pub reading-more : r .stop ≡ false → Kept m m′ → length out′ ≡ length out → length cs′ ≡ length cs → Reading count s₀ m₀ out₀ cs₀ (r .state) m′ out′ cs′ k
+      reading-more h kept same same-cables =
           record {
             goes = λ w p. next w false h p;
             sized = read .sized;
             few = fewer-then (inv .few) (read .few);
             windows = kept-trans (inv .windows) kept;
-            long = same ∙ inv .long;
-            room = omega (arith, inv .room, is, read .most, same);
+            long = (same ∙ inv .long .0, same-cables ∙ inv .long .1);
+            room = omega (arith, inv .room, is, read .most, same, same-cables);
           }
 
 -- ---- the whole of MIDI input
@@ -253,15 +258,15 @@ pub reads-few : (every uf : ℕ) → readsAt every uf ≤ 8
 reads-few every uf =
     pick-both (λ (n : ℕ). n ≤ 8) (eqb every 0) (omega arith) (pick-both (λ (n : ℕ). n ≤ 8) (eqb (uf % every) 0) (omega arith) (omega arith))
 
-module _ (every : ℕ) (s t : State) (d f p p′ : List ℕ) (m′ : Memory) (out out′ : List ℕ) (naked : OnPage naks p p′) (count : ℕ) (is : count ≡ readsAt every (s .port .uf))
-    (all : Receives (reads count) s (memory d f p′) out t m′ out′) where
-  pub midi-steps : Receives (midiIn false every) s (memory d f p) out t m′ out′
+module _ (every : ℕ) (s t : State) (d f p p′ : List ℕ) (m′ : Memory) (out out′ cs cs′ : List ℕ) (naked : OnPage naks p p′) (count : ℕ) (is : count ≡ readsAt every (s .port .uf))
+    (all : Hears (reads count) s (memory d f p′) out cs t m′ out′ cs′) where
+  pub midi-steps : Hears (midiIn false every) s (memory d f p) out cs t m′ out′ cs′
   unfolding midiIn
   midi-steps =
       record {
-        leads = λ w. in-turn (naked .leads (atReceive w s (memory d f p) out) s)
-            (from-here _ (atReceive w s (memory d f p′) out)
-            (subst (λ (n : ℕ). Leads (reads n) (atReceive w s (memory d f p′) out) (atReceive w t m′ out′)) is (all .leads w)));
+        leads = λ w. in-turn (naked .leads (atCabled w s (memory d f p) out cs) s)
+            (from-here _ (atCabled w s (memory d f p′) out cs)
+            (subst (λ (n : ℕ). Leads (reads n) (atCabled w s (memory d f p′) out cs) (atCabled w t m′ out′ cs′)) is (all .leads w)));
         sized = all .sized;
         few = all .few;
       }

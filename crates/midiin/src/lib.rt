@@ -1,4 +1,4 @@
-// MIDI input of a configured host: the packets of its descriptors, decoded into the receive area.
+// MIDI input of a configured host: the packets of its descriptors, decoded into the receive area and the area of their cables.
 ghost use mathlib.Core.Path.{_≡_};
 ghost use mathlib.Core.Bool.{true, false};
 ghost use mathlib.Core.List.{[], _∷_};
@@ -11,7 +11,6 @@ ghost use Rattle.dtd.specs.Dtd as D;
 ghost use Rattle.dtd.specs.declared.Found.the-variants.{Active};
 ghost use Rattle.record.specs.Did as R;
 ghost use Rattle.model.specs.Streams as M;
-ghost use Rattle.streams.specs.Promises as S;
 ghost use Rattle.midiin.specs.Promises as P;
 use bus::put_at;
 use bus::word_at;
@@ -25,37 +24,50 @@ use usbdev::EPSR;
 // The bit of MIDI input, endpoint 1, in EPSR.
 const MIDI_IN: u32 = 0x2_0000;
 
-// One packet: as many of its bytes as its code says go to `receive` from `at` on; the place behind them.
-fn decode_packet(receive: &mut [u8], at: usize, header: u8, x: u8, y: u8, z: u8) -> usize
-    requires { ⌜ at + 3 ≤ length (now receive) ⌝ }
-    ensures { λ r. ⌜ P.Decodes 1 (header ∷ x ∷ y ∷ z ∷ []) (now (receive .entry)) (now (receive .exit)) at r ⌝ }
+// One packet: as many of its bytes as its code says go to `receive` from `at` on, and its cable beside each; the place behind them.
+fn decode_packet(
+    receive: &mut [u8],
+    cables: &mut [u8],
+    at: usize,
+    header: u8,
+    x: u8,
+    y: u8,
+    z: u8,
+) -> usize
+    requires { ⌜ (at + 3 ≤ length (now receive)) × (at + 3 ≤ length (now cables)) ⌝ }
+    ensures { λ r. ⌜ P.Decodes 1 (header ∷ x ∷ y ∷ z ∷ []) (now (receive .entry)) (now (receive .exit)) (now (cables .entry)) (now (cables .exit)) at r ⌝ }
 {
     let n = midi::byte_count(header % 16);
     if n == 0 {
         return at;
     }
+    let cable = header / 16;
     receive[at] = x;
+    cables[at] = cable;
     if n == 1 {
         return at + 1;
     }
     receive[at + 1] = y;
+    cables[at + 1] = cable;
     if n == 2 {
         return at + 2;
     }
     receive[at + 2] = z;
+    cables[at + 2] = cable;
     at + 3
 }
 
 // The whole packets of a piece of a run.
-fn decode_piece(piece: &[u8], receive: &mut [u8], start: usize) -> usize
-    requires { ⌜ start + 3 * (length (now piece) / 4) ≤ length (now receive) ⌝ }
-    ensures { λ r. ⌜ P.Decodes (length (now (piece .entry)) / 4) (now (piece .entry)) (now (receive .entry)) (now (receive .exit)) start r ⌝ }
+fn decode_piece(piece: &[u8], receive: &mut [u8], cables: &mut [u8], start: usize) -> usize
+    requires { ⌜ (start + 3 * (length (now piece) / 4) ≤ length (now receive)) × (start + 3 * (length (now piece) / 4) ≤ length (now cables)) ⌝ }
+    ensures { λ r. ⌜ P.Decodes (length (now (piece .entry)) / 4) (now (piece .entry)) (now (receive .entry)) (now (receive .exit)) (now (cables .entry)) (now (cables .exit)) start r ⌝ }
 {
     let mut at = start;
     let mut i = 0;
     while i + 4 <= piece.len() {
         at = decode_packet(
             receive,
+            cables,
             at,
             piece[i],
             piece[i + 1],
@@ -76,15 +88,16 @@ fn decode_some(
     from: usize,
     piece: &mut [u8],
     receive: &mut [u8],
+    cables: &mut [u8],
     at: usize,
 ) -> usize
     requires { ⌜ Sized (shown dynamic sram page) ⌝ }
     requires { ⌜ from + length (now piece) ≤ 32767 ⌝ }
-    requires { ⌜ at + 3 * (length (now piece) / 4) ≤ length (now receive) ⌝ }
-    ensures { λ r. ⌜ P.Decodes (length (now (piece .entry)) / 4) (T.bytesFrom (shown (dynamic .entry) (sram .entry) (page .entry)) (now (pointers .entry)) from (length (now (piece .entry)))) (now (receive .entry)) (now (receive .exit)) at r ⌝ }
+    requires { ⌜ (at + 3 * (length (now piece) / 4) ≤ length (now receive)) × (at + 3 * (length (now piece) / 4) ≤ length (now cables)) ⌝ }
+    ensures { λ r. ⌜ P.Decodes (length (now (piece .entry)) / 4) (T.bytesFrom (shown (dynamic .entry) (sram .entry) (page .entry)) (now (pointers .entry)) from (length (now (piece .entry)))) (now (receive .entry)) (now (receive .exit)) (now (cables .entry)) (now (cables .exit)) at r ⌝ }
 {
     transfer::copy_part(dynamic, sram, page, pointers, from, piece);
-    decode_piece(&*piece, receive, at)
+    decode_piece(&*piece, receive, cables, at)
 }
 
 // The packets of a run of `total` bytes, by pieces of 512; less than four bytes at the end are no packet.
@@ -96,12 +109,13 @@ fn decode_run(
     total: usize,
     piece: &mut [u8],
     receive: &mut [u8],
+    cables: &mut [u8],
     start: usize,
 ) -> usize
     requires { ⌜ Sized (shown dynamic sram page) ⌝ }
     requires { ⌜ (total ≤ 32767) × (length (now piece) ≡ 512) ⌝ }
-    requires { ⌜ start + 3 * (total / 4) ≤ length (now receive) ⌝ }
-    ensures { λ r. ⌜ P.Decodes (total / 4) (T.bytesIn (shown (dynamic .entry) (sram .entry) (page .entry)) (now (pointers .entry)) total) (now (receive .entry)) (now (receive .exit)) start r ⌝ }
+    requires { ⌜ (start + 3 * (total / 4) ≤ length (now receive)) × (start + 3 * (total / 4) ≤ length (now cables)) ⌝ }
+    ensures { λ r. ⌜ P.Decodes (total / 4) (T.bytesIn (shown (dynamic .entry) (sram .entry) (page .entry)) (now (pointers .entry)) total) (now (receive .entry)) (now (receive .exit)) (now (cables .entry)) (now (cables .exit)) start r ⌝ }
 {
     let mut at = start;
     let mut from = 0;
@@ -115,6 +129,7 @@ fn decode_run(
             from,
             &mut piece[..n],
             receive,
+            cables,
             at,
         );
         from += n;
@@ -130,11 +145,13 @@ fn decode(
     pointers: &[u32; 9],
     total: usize,
     receive: &mut [u8],
+    cables: &mut [u8],
     start: usize,
 ) -> usize
     requires { ⌜ Sized (shown dynamic sram page) ⌝ }
-    requires { ⌜ (total ≤ 32767) × (start + 3 * (total / 4) ≤ length (now receive)) ⌝ }
-    ensures { λ r. ⌜ P.Decodes (total / 4) (T.bytesIn (shown (dynamic .entry) (sram .entry) (page .entry)) (now (pointers .entry)) total) (now (receive .entry)) (now (receive .exit)) start r ⌝ }
+    requires { ⌜ total ≤ 32767 ⌝ }
+    requires { ⌜ (start + 3 * (total / 4) ≤ length (now receive)) × (start + 3 * (total / 4) ≤ length (now cables)) ⌝ }
+    ensures { λ r. ⌜ P.Decodes (total / 4) (T.bytesIn (shown (dynamic .entry) (sram .entry) (page .entry)) (now (pointers .entry)) total) (now (receive .entry)) (now (receive .exit)) (now (cables .entry)) (now (cables .exit)) start r ⌝ }
 {
     let mut piece = [0u8; 512];
     decode_run(
@@ -145,6 +162,7 @@ fn decode(
         total,
         &mut piece,
         receive,
+        cables,
         start,
     )
 }
@@ -188,19 +206,29 @@ fn read_active(
     sram: &mut [u8],
     page: &mut [u8],
     receive: &mut [u8],
+    cables: &mut [u8],
     qh: u32,
     td: u32,
     tok: u32,
 ) -> Read
     requires { ⌜ Sized (shown dynamic sram page) ⌝ }
-    requires { ⌜ s .answer .received + 24573 ≤ length (now receive) ⌝ }
+    requires { ⌜ (s .answer .received + 24573 ≤ length (now receive)) × (s .answer .received + 24573 ≤ length (now cables)) ⌝ }
     requires { ⌜ D.found (D.endpoint 1 true) (shown dynamic sram page) ≡ Active qh td tok ⌝ }
-    ensures { λ r. ⌜ P.ReadsOne s (shown (dynamic .entry) (sram .entry) (page .entry)) (now (receive .entry)) r (shown (dynamic .exit) (sram .exit) (page .exit)) (now (receive .exit)) ⌝ }
+    ensures { λ r. ⌜ P.ReadsOne s (shown (dynamic .entry) (sram .entry) (page .entry)) (now (receive .entry)) (now (cables .entry)) r (shown (dynamic .exit) (sram .exit) (page .exit)) (now (receive .exit)) (now (cables .exit)) ⌝ }
 {
     let total = usbdev::total(tok) as usize;
     let start = s.answer.received;
     let ps = transfer::pointers_for(&*dynamic, &*sram, &*page, bits::clear(td, 0x1F), total);
-    let at = decode(&*dynamic, &*sram, &*page, &ps, total, receive, start);
+    let at = decode(
+        &*dynamic,
+        &*sram,
+        &*page,
+        &ps,
+        total,
+        receive,
+        cables,
+        start,
+    );
     let ran = dtd::take_one(dynamic, sram, page, qh, td, tok, MIDI_IN, s.port.line);
     after_read(s, ran, total, at)
 }
@@ -212,10 +240,11 @@ fn read_one(
     sram: &mut [u8],
     page: &mut [u8],
     receive: &mut [u8],
+    cables: &mut [u8],
 ) -> Read
     requires { ⌜ Sized (shown dynamic sram page) ⌝ }
-    requires { ⌜ s .answer .received + 24573 ≤ length (now receive) ⌝ }
-    ensures { λ r. ⌜ P.ReadsOne s (shown (dynamic .entry) (sram .entry) (page .entry)) (now (receive .entry)) r (shown (dynamic .exit) (sram .exit) (page .exit)) (now (receive .exit)) ⌝ }
+    requires { ⌜ (s .answer .received + 24573 ≤ length (now receive)) × (s .answer .received + 24573 ≤ length (now cables)) ⌝ }
+    ensures { λ r. ⌜ P.ReadsOne s (shown (dynamic .entry) (sram .entry) (page .entry)) (now (receive .entry)) (now (cables .entry)) r (shown (dynamic .exit) (sram .exit) (page .exit)) (now (receive .exit)) (now (cables .exit)) ⌝ }
 {
     match dtd::find(&*dynamic, &*sram, &*page, 1, true, MIDI_IN) {
         Found::Unprimed => {
@@ -233,7 +262,9 @@ fn read_one(
                 stop: true,
             }
         }
-        Found::Active(qh, td, tok) => read_active(s, dynamic, sram, page, receive, qh, td, tok),
+        Found::Active(qh, td, tok) => {
+            read_active(s, dynamic, sram, page, receive, cables, qh, td, tok)
+        }
     }
 }
 
@@ -244,16 +275,17 @@ fn read_all(
     sram: &mut [u8],
     page: &mut [u8],
     receive: &mut [u8],
+    cables: &mut [u8],
     count: u32,
 ) -> State
     requires { ⌜ Sized (shown dynamic sram page) ⌝ }
-    requires { ⌜ s .answer .received + count * 24573 ≤ length (now receive) ⌝ }
-    ensures { λ r. ⌜ S.Receives (M.reads count) s (shown (dynamic .entry) (sram .entry) (page .entry)) (now (receive .entry)) r (shown (dynamic .exit) (sram .exit) (page .exit)) (now (receive .exit)) ⌝ }
+    requires { ⌜ (s .answer .received + count * 24573 ≤ length (now receive)) × (s .answer .received + count * 24573 ≤ length (now cables)) ⌝ }
+    ensures { λ r. ⌜ P.Hears (M.reads count) s (shown (dynamic .entry) (sram .entry) (page .entry)) (now (receive .entry)) (now (cables .entry)) r (shown (dynamic .exit) (sram .exit) (page .exit)) (now (receive .exit)) (now (cables .exit)) ⌝ }
 {
     let mut next = s;
     let mut left = count;
     while left > 0 {
-        let read = read_one(next, dynamic, sram, page, receive);
+        let read = read_one(next, dynamic, sram, page, receive, cables);
         next = read.state;
         if read.stop {
             return next;
@@ -288,7 +320,7 @@ fn reads(every: u64, uf: u64) -> u32
     0
 }
 
-// MIDI input of a host that is awake: its packets' bytes go into the receive area.
+// MIDI input of a host that is awake: its packets' bytes go into the receive area, and beside each its cable.
 pub fn midi_step(
     s: State,
     every: u64,
@@ -296,12 +328,13 @@ pub fn midi_step(
     sram: &mut [u8],
     page: &mut [u8],
     receive: &mut [u8],
+    cables: &mut [u8],
 ) -> State
     requires { ⌜ Sized (shown dynamic sram page) ⌝ }
-    requires { ⌜ s .answer .received + 196584 ≤ length (now receive) ⌝ }
-    ensures { λ r. ⌜ S.Receives (M.midiIn false every) s (shown (dynamic .entry) (sram .entry) (page .entry)) (now (receive .entry)) r (shown (dynamic .exit) (sram .exit) (page .exit)) (now (receive .exit)) ⌝ }
+    requires { ⌜ (s .answer .received + 196584 ≤ length (now receive)) × (s .answer .received + 196584 ≤ length (now cables)) ⌝ }
+    ensures { λ r. ⌜ P.Hears (M.midiIn false every) s (shown (dynamic .entry) (sram .entry) (page .entry)) (now (receive .entry)) (now (cables .entry)) r (shown (dynamic .exit) (sram .exit) (page .exit)) (now (receive .exit)) (now (cables .exit)) ⌝ }
 {
     nak(page);
     let count = reads(every, s.port.uf);
-    read_all(s, dynamic, sram, page, receive, count)
+    read_all(s, dynamic, sram, page, receive, cables, count)
 }

@@ -23,7 +23,7 @@ enum-told-3 : tie.Need-enum-told-3
 enum-told-3 c = search needs
 
 reset-requires : tie.Need-reset-requires
-reset-requires c κs = let z = c .before .before .before .before .before .before .before .before .before .before .before .before .pre .1 .1 .asks .room (c .before .before .enum-told3 .given .1) in (c .before .before .before .before .before .before .before .before .before .before .before .before .pre .0 .page-length, omega (arith, z))
+reset-requires c κs = let z = c .before .before .before .before .before .before .before .before .before .before .before .before .before .pre .1 .1 .asks .room (c .before .before .enum-told3 .given .1) in (c .before .before .before .before .before .before .before .before .before .before .before .before .before .pre .0 .page-length, omega (arith, z))
 
 connected-requires : tie.Need-connected-requires
 connected-requires c κs = search needs
@@ -32,19 +32,19 @@ same-length : tie.Need-same-length
 same-length c = search needs
 
 returns : tie.Need-returns
-returns c = let a = c .before .before .before .before .before .before .before .before .before .before .before .before .before .before .args in phase-idle (a .c) (a .time) (a .running) (a .s) (own (a .setups .now) (a .midi .now) (a .serial .now) (a .device .now)) (lent (memory (a .dynamic .now) (a .sram .now) (a .page .now)) (a .reply .now) (a .config .now) (a .receive .now) (a .received .now) (a .sending .now)) _ _ (c .before .before .before .before .before .before .before .before .before .before .before .before .before .before .pre .0) (omega (arith, c .before .page .given, c .before .before .before .before .before .before .before .before .before .before .before .before .before .before .pre .0 .page-length)) (c .before .before .before .before .enum-told .given .1) (c .before .before .idle .ensures)
+returns c = let a = c .before .before .before .before .before .before .before .before .before .before .before .before .before .before .before .args in phase-idle (a .c) (a .time) (a .running) (a .s) (own (a .setups .now) (a .midi .now) (a .serial .now) (a .device .now)) (lent (memory (a .dynamic .now) (a .sram .now) (a .page .now)) (a .reply .now) (a .config .now) (a .receive .now) (a .cables .now) (a .received .now) (a .sending .now)) _ _ (c .before .before .before .before .before .before .before .before .before .before .before .before .before .before .before .pre .0) (omega (arith, c .before .page .given, c .before .before .before .before .before .before .before .before .before .before .before .before .before .before .before .pre .0 .page-length)) (c .before .before .before .before .enum-told .given .1) (c .before .before .idle .ensures)
 
 same-length-2 : tie.Need-same-length-2
 same-length-2 c = search needs
 
 returns-2 : tie.Need-returns-2
-returns-2 c = let a = c .before .before .before .before .before .before .before .before .before .before .before .before .before .before .args in phase-vbus (a .c) (a .time) (a .running) (a .s) (own (a .setups .now) (a .midi .now) (a .serial .now) (a .device .now)) (lent (memory (a .dynamic .now) (a .sram .now) (a .page .now)) (a .reply .now) (a .config .now) (a .receive .now) (a .received .now) (a .sending .now)) _ _ (c .before .before .before .before .before .before .before .before .before .before .before .before .before .before .pre .0) (omega (arith, c .before .page2 .given, c .before .before .before .before .before .before .before .before .before .before .before .before .before .before .pre .0 .page-length)) (c .before .before .before .before .enum-told2 .given .1) (c .before .before .vbus .ensures)
+returns-2 c = let a = c .before .before .before .before .before .before .before .before .before .before .before .before .before .before .before .args in phase-vbus (a .c) (a .time) (a .running) (a .s) (own (a .setups .now) (a .midi .now) (a .serial .now) (a .device .now)) (lent (memory (a .dynamic .now) (a .sram .now) (a .page .now)) (a .reply .now) (a .config .now) (a .receive .now) (a .cables .now) (a .received .now) (a .sending .now)) _ _ (c .before .before .before .before .before .before .before .before .before .before .before .before .before .before .before .pre .0) (omega (arith, c .before .page2 .given, c .before .before .before .before .before .before .before .before .before .before .before .before .before .before .before .pre .0 .page-length)) (c .before .before .before .before .enum-told2 .given .1) (c .before .before .vbus .ensures)
 
 same-length-3 : tie.Need-same-length-3
 same-length-3 c = search needs
 
 returns-3 : tie.Need-returns-3
-returns-3 c = let a = c .before .before .before .before .before .before .before .before .before .before .before .before .before .before .before .args in phase-reset (a .c) (a .time) (a .running) (a .s) (own (a .setups .now) (a .midi .now) (a .serial .now) (a .device .now)) (lent (memory (a .dynamic .now) (a .sram .now) (a .page .now)) (a .reply .now) (a .config .now) (a .receive .now) (a .received .now) (a .sending .now)) _ _ (c .before .before .before .before .before .before .before .before .before .before .before .before .before .before .before .pre .0) (omega (arith, c .before .page3 .given, c .before .before .before .before .before .before .before .before .before .before .before .before .before .before .before .pre .0 .page-length)) (c .before .before .before .before .before .enum-told3 .given .1) _ (c .before .before .reset .ensures)
+returns-3 c = let a = c .before .before .before .before .before .before .before .before .before .before .before .before .before .before .before .before .args in phase-reset (a .c) (a .time) (a .running) (a .s) (own (a .setups .now) (a .midi .now) (a .serial .now) (a .device .now)) (lent (memory (a .dynamic .now) (a .sram .now) (a .page .now)) (a .reply .now) (a .config .now) (a .receive .now) (a .cables .now) (a .received .now) (a .sending .now)) _ _ (c .before .before .before .before .before .before .before .before .before .before .before .before .before .before .before .before .pre .0) (omega (arith, c .before .page3 .given, c .before .before .before .before .before .before .before .before .before .before .before .before .before .before .before .before .pre .0 .page-length)) (c .before .before .before .before .before .enum-told3 .given .1) _ (c .before .before .reset .ensures)
 
 same-length-4 : tie.Need-same-length-4
 same-length-4 c = search needs
@@ -67,8 +67,11 @@ same-length-9 c = search needs
 same-length-10 : tie.Need-same-length-10
 same-length-10 c = search needs
 
+same-length-11 : tie.Need-same-length-11
+same-length-11 c = search needs
+
 returns-4 : tie.Need-returns-4
-returns-4 c = let a = c .before .before .before .before .before .before .before .before .before .before .before .before .before .before .before .before .before .before .before .before .before .before .before .before .before .before .before .before .before .before .before .before .before .before .before .args in phase-talks (a .c) (a .time) (a .running) (a .s) (own (a .setups .now) (a .midi .now) (a .serial .now) (a .device .now)) (lent (memory (a .dynamic .now) (a .sram .now) (a .page .now)) (a .reply .now) (a .config .now) (a .receive .now) (a .received .now) (a .sending .now)) _ _ _ (c .before .before .before .before .before .before .before .before .before .before .before .before .before .before .before .before .before .before .before .before .before .before .before .before .before .before .match .keys4) (c .before .before .before .before .before .before .before .before .before .before .before .before .before .before .connected .ensures)
+returns-4 c = let a = c .before .before .before .before .before .before .before .before .before .before .before .before .before .before .before .before .before .before .before .before .before .before .before .before .before .before .before .before .before .before .before .before .before .before .before .before .before .before .before .args in phase-talks (a .c) (a .time) (a .running) (a .s) (own (a .setups .now) (a .midi .now) (a .serial .now) (a .device .now)) (lent (memory (a .dynamic .now) (a .sram .now) (a .page .now)) (a .reply .now) (a .config .now) (a .receive .now) (a .cables .now) (a .received .now) (a .sending .now)) _ _ _ (c .before .before .before .before .before .before .before .before .before .before .before .before .before .before .before .before .before .before .before .before .before .before .before .before .before .before .before .before .before .match .keys4) (c .before .before .before .before .before .before .before .before .before .before .before .before .before .before .before .before .connected .ensures)
 
 pub by-phase-spec : {M : Type 1} → statement M
 by-phase-spec =
@@ -94,4 +97,5 @@ by-phase-spec =
     same-length-8
     same-length-9
     same-length-10
+    same-length-11
     returns-4)

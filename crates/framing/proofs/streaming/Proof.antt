@@ -8,7 +8,7 @@ enum-told : tie.Need-enum-told
 enum-told c = search needs
 
 returns : tie.Need-returns
-returns c = let a = c .before .before .before .before .before .before .before .args in no-stream (a .c) (a .time) (a .s) _ _ _ _ _ _ (not-streaming (a .s .phase) (c .match .keys2)) (c .before .before .before .before .before .before .before .pre .0)
+returns c = let a = c .before .before .before .before .before .before .before .before .args in no-stream (a .c) (a .time) (a .s) _ _ _ _ _ _ _ (not-streaming (a .s .phase) (c .match .keys2)) (c .before .before .before .before .before .before .before .before .pre .0)
 
 serial-step-requires : tie.Need-serial-step-requires
 serial-step-requires c κs = search needs
@@ -26,7 +26,7 @@ same-length-4 : tie.Need-same-length-4
 same-length-4 c = search needs
 
 returns-2 : tie.Need-returns-2
-returns-2 c = let a = c .before .before .before .before .before .before .before .before .before .before .before .before .before .before .before .before .before .before .before .before .before .before .before .args in stream-serial (a .c) (a .time) (a .s) _ (a .midi .now) _ _ (a .received .now) (a .sending .now) (c .before .before .before .before .before .before .before .before .before .before .before .before .before .before .before .enum-told .given .1) (c .before .before .before .before .before .before .before .before .before .before .before .before .before .before .if1 .taken) _ _ _ _ (c .before .before .before .before .before .before .before .before .serial-step .ensures)
+returns-2 c = let a = c .before .before .before .before .before .before .before .before .before .before .before .before .before .before .before .before .before .before .before .before .before .before .before .before .args in stream-serial (a .c) (a .time) (a .s) _ (a .midi .now) _ _ (a .cables .now) (a .received .now) (a .sending .now) (c .before .before .before .before .before .before .before .before .before .before .before .before .before .before .before .enum-told .given .1) (c .before .before .before .before .before .before .before .before .before .before .before .before .before .before .if1 .taken) _ _ _ _ (c .before .before .before .before .before .before .before .before .serial-step .ensures)
 
 overbridge-requires : tie.Need-overbridge-requires
 overbridge-requires c κs = search needs
@@ -46,8 +46,11 @@ same-length-8 c = search needs
 same-length-9 : tie.Need-same-length-9
 same-length-9 c = search needs
 
+same-length-10 : tie.Need-same-length-10
+same-length-10 c = search needs
+
 returns-3 : tie.Need-returns-3
-returns-3 c = let a = c .before .before .before .before .before .before .before .before .before .before .before .before .before .before .before .before .before .before .before .before .before .before .before .before .before .before .args in stream-bridge (a .c) (a .time) (a .s) _ _ (a .serial .now) _ _ _ (c .before .before .before .before .before .before .before .before .before .before .before .before .before .before .before .before .before .before .enum-told .given .1) (c .before .before .before .before .before .before .before .before .before .before .before .before .before .before .before .before .before .if1 .left) _ _ _ _ _ (c .before .before .before .before .before .before .before .before .before .before .overbridge .ensures)
+returns-3 c = let a = c .before .before .before .before .before .before .before .before .before .before .before .before .before .before .before .before .before .before .before .before .before .before .before .before .before .before .before .before .before .before .args in stream-bridge (a .c) (a .time) (a .s) _ _ (a .serial .now) _ _ _ _ (c .before .before .before .before .before .before .before .before .before .before .before .before .before .before .before .before .before .before .before .before .before .enum-told .given .1) (c .before .before .before .before .before .before .before .before .before .before .before .before .before .before .before .before .before .before .before .before .if1 .left) _ _ _ _ _ _ (c .before .before .before .before .before .before .before .before .before .before .before .before .overbridge .ensures)
 
 pub streaming-spec : {M : Type 1} → statement M
 streaming-spec =
@@ -67,4 +70,5 @@ streaming-spec =
     same-length-7
     same-length-8
     same-length-9
+    same-length-10
     returns-3)

@@ -7,13 +7,13 @@ use Rattle.midiin.proofs.decode_piece.Statement.{statement}
 use Rattle.midiin.proofs.decode_piece.Tie as tie
 
 abbrev Inv-loop : tie.InvT-loop
-Inv-loop piece receive₀ start at₀ i₀ receive at i = Decoding piece receive₀ receive start at i
+Inv-loop piece receive₀ cables₀ start at₀ i₀ receive cables at i = Decoding piece receive₀ receive cables₀ cables start at i
 
 abbrev μ-loop : tie.MeasureT-loop
-μ-loop piece receive₀ start at₀ i₀ receive at i = length piece - i
+μ-loop piece receive₀ cables₀ start at₀ i₀ receive cables at i = length piece - i
 
 loop-holds : tie.Need-loop-holds Inv-loop μ-loop
-loop-holds c = decoding-first (c .before .before .pre)
+loop-holds c = decoding-first (c .before .before .before .pre .0) (c .before .before .before .pre .1)
 
 add-loop : tie.Need-add-loop Inv-loop μ-loop
 add-loop c = omega arith
@@ -40,7 +40,7 @@ shared-slice-read-decode-packet-4 : tie.Need-shared-slice-read-decode-packet-4 I
 shared-slice-read-decode-packet-4 c = omega arith
 
 decode-packet-requires : tie.Need-decode-packet-requires Inv-loop μ-loop
-decode-packet-requires c κs = omega (arith, c .before .before .before .before .before .before .loop .inv .room)
+decode-packet-requires c κs = omega (arith, c .before .before .before .before .before .before .before .loop .inv .bytes .room, c .before .before .before .before .before .before .before .loop .inv .cables .room)
 
 add-i : tie.Need-add-i Inv-loop μ-loop
 add-i c = omega arith
@@ -49,10 +49,13 @@ loop-less : tie.Need-loop-less Inv-loop μ-loop
 loop-less c = omega arith
 
 loop-again : tie.Need-loop-again Inv-loop μ-loop
-loop-again c = decoding-packet (c .before .before .before .before .before .before .before .before .before .loop .inv) (omega arith) (c .before .before .decode-packet .ensures)
+loop-again c = decoding-packet (c .before .before .before .before .before .before .before .before .before .before .before .before .loop .inv) (omega arith) (c .before .before .before .before .decode-packet .ensures)
 
 same-length : tie.Need-same-length Inv-loop μ-loop
-same-length c = c .before .loop .inv .same
+same-length c = c .before .loop .inv .bytes .same
+
+same-length-2 : tie.Need-same-length-2 Inv-loop μ-loop
+same-length-2 c = c .before .loop .inv .cables .same
 
 returns : tie.Need-returns Inv-loop μ-loop
 returns c = decoding-end (c .before .loop .inv) (omega arith)
@@ -77,4 +80,5 @@ decode-piece-spec =
     loop-less
     loop-again
     same-length
+    same-length-2
     returns)

@@ -18,11 +18,14 @@ same-length c = search needs
 same-length-2 : tie.Need-same-length-2
 same-length-2 c = search needs
 
+same-length-3 : tie.Need-same-length-3
+same-length-3 c = search needs
+
 returns : tie.Need-returns
 returns c =
-    let a = c .before .before .before .before .before .before .before .before .before .before .before .before .before .before .args in
-    decodes-as (c .before .before .before .before .before .before .before .copy-part .ensures) (length-from (shown (a .dynamic) (a .sram) (a .page)) (a .pointers .now) (a .from) _) (c .before .before .decode-piece .ensures)
+    let a = c .before .before .before .before .before .before .before .before .before .before .before .before .before .before .before .before .before .before .args in
+    decodes-as (c .before .before .before .before .before .before .before .before .before .before .copy-part .ensures) (length-from (shown (a .dynamic) (a .sram) (a .page)) (a .pointers .now) (a .from) _) (c .before .before .before .before .decode-piece .ensures)
 
 pub decode-some-spec : {M : Type 1} → statement M
 decode-some-spec =
-    tie.close (tie.spec copy-part-requires decode-piece-requires same-length same-length-2 returns)
+    tie.close (tie.spec copy-part-requires decode-piece-requires same-length same-length-2 same-length-3 returns)

@@ -35,8 +35,8 @@ enum-known-qh c = search needs
 
 read-active-requires : tie.Need-read-active-requires
 read-active-requires c κs =
-    let start = c .before .before .before .before .before .before .before .before .before .before .before .before .before .before .before in
-    (start .pre .0, (start .pre .1, sym (c .before .before .before .before .before .before .before .find .ensures) ∙ c .before .before .before .before .before .qh .given .1))
+    let start = c .before .before .before .before .before .before .before .before .before .before .before .before .before .before .before .before .before in
+    (start .pre .0, (start .pre .1, sym (c .before .before .before .before .before .before .before .before .find .ensures) ∙ c .before .before .before .before .before .before .qh .given .1))
 
 same-length : tie.Need-same-length
 same-length c = search needs
@@ -49,8 +49,8 @@ same-length-3 c = search needs
 
 returns : tie.Need-returns
 returns c =
-    let start = c .before .before .before .before .before .before .before .before .before .before .before .before in
-    unprimed-read (start .args .s) (shown (start .args .dynamic) (start .args .sram) (start .args .page)) (start .args .receive .now) (start .pre .0) (sym (c .before .before .before .before .find .ensures) ∙ c .before .before .enum-told .given .1) _ (c .before .none-ran .ensures) _ (c .after-run .ensures)
+    let start = c .before .before .before .before .before .before .before .before .before .before .before .before .before in
+    unprimed-read (start .args .s) (shown (start .args .dynamic) (start .args .sram) (start .args .page)) (start .args .receive .now) (start .args .cables .now) (start .pre .0) (sym (c .before .before .before .before .find .ensures) ∙ c .before .before .enum-told .given .1) _ (c .before .none-ran .ensures) _ (c .after-run .ensures)
 
 same-length-4 : tie.Need-same-length-4
 same-length-4 c = search needs
@@ -63,8 +63,8 @@ same-length-6 c = search needs
 
 returns-2 : tie.Need-returns-2
 returns-2 c =
-    let start = c .before .before .before .before .before .before .before .before .before .before .before .before .before .before .before .before .before .before in
-    ended-read (start .args .s) (shown (start .args .dynamic) (start .args .sram) (start .args .page)) (start .args .receive .now) (start .pre .0) (sym (c .before .before .before .before .before .before .before .before .before .before .find .ensures) ∙ c .before .before .before .before .before .before .before .before .enum-told2 .given .1) _ _ (c .before .before .before .before .settle .ensures) _ (c .before .none-ran2 .ensures) _ (c .after-run2 .ensures)
+    let start = c .before .before .before .before .before .before .before .before .before .before .before .before .before .before .before .before .before .before .before in
+    ended-read (start .args .s) (shown (start .args .dynamic) (start .args .sram) (start .args .page)) (start .args .receive .now) (start .args .cables .now) (start .pre .0) (sym (c .before .before .before .before .before .before .before .before .before .before .find .ensures) ∙ c .before .before .before .before .before .before .before .before .enum-told2 .given .1) _ _ (c .before .before .before .before .settle .ensures) _ (c .before .none-ran2 .ensures) _ (c .after-run2 .ensures)
 
 same-length-7 : tie.Need-same-length-7
 same-length-7 c = search needs
@@ -77,6 +77,9 @@ same-length-9 c = search needs
 
 same-length-10 : tie.Need-same-length-10
 same-length-10 c = search needs
+
+same-length-11 : tie.Need-same-length-11
+same-length-11 c = search needs
 
 returns-3 : tie.Need-returns-3
 returns-3 c = search needs
@@ -107,4 +110,5 @@ read-one-spec =
     same-length-8
     same-length-9
     same-length-10
+    same-length-11
     returns-3)
