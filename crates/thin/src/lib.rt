@@ -25,10 +25,11 @@ pub fn microframe(
     reply: &mut [u8],
     config: &mut [u8],
     receive: &mut [u8],
+    cables: &mut [u8],
     received: &mut [u32],
     sending: &[u32],
 ) -> Answered
-    ensures { λ r. ⌜ (answered r (now (host .exit)) ≡ frameAnswer time (now (host .entry)) (lent (shown (dynamic .entry) (sram .entry) (page .entry)) (now (reply .entry)) (now (config .entry)) (now (receive .entry)) (now (received .entry)) (now (sending .entry)))) × (lent (shown (dynamic .exit) (sram .exit) (page .exit)) (now (reply .exit)) (now (config .exit)) (now (receive .exit)) (now (received .exit)) (now (sending .entry)) ≡ framed time (now (host .entry)) (lent (shown (dynamic .entry) (sram .entry) (page .entry)) (now (reply .entry)) (now (config .entry)) (now (receive .entry)) (now (received .entry)) (now (sending .entry))) .lent) ⌝ }
+    ensures { λ r. ⌜ (answered r (now (host .exit)) ≡ frameAnswer time (now (host .entry)) (lent (shown (dynamic .entry) (sram .entry) (page .entry)) (now (reply .entry)) (now (config .entry)) (now (receive .entry)) (now (cables .entry)) (now (received .entry)) (now (sending .entry)))) × (lent (shown (dynamic .exit) (sram .exit) (page .exit)) (now (reply .exit)) (now (config .exit)) (now (receive .exit)) (now (cables .exit)) (now (received .exit)) (now (sending .entry)) ≡ framed time (now (host .entry)) (lent (shown (dynamic .entry) (sram .entry) (page .entry)) (now (reply .entry)) (now (config .entry)) (now (receive .entry)) (now (cables .entry)) (now (received .entry)) (now (sending .entry))) .lent) ⌝ }
 {
     let f = Host::microframe(
         *host,
@@ -39,6 +40,7 @@ pub fn microframe(
         reply,
         config,
         receive,
+        cables,
         received,
         sending,
     );

@@ -1,17 +1,18 @@
 -- Laws of the calls: a record in bounds stays so, a refused call leaves all as it was, a new host is in bounds, and what a record in bounds accepts.
-use mathlib.Core.Path.{_≡_, refl}
+use mathlib.Core.Path.{_≡_, refl, ap, _∙_}
 use mathlib.Core.Bool.{Bool, true, false, _&&_}
 use mathlib.Core.List.{List}
 use Prim.Native.Nat.{ℕ, _+_, _-_, _*_, _/_, _%_, _≤_, _<_}
 use native.Mathlib.Nat.{mod-lt}
 use native.Mathlib.Omega.{arith}
 use lib.Dec.{eqb, leb, ltb}
-use lib.ListN.{length, replicate}
+use lib.ListN.{length, set, replicate}
 use lib.Seq.{length-sets}
 use borrow.Author.Tests.{eq-eqb, ne-eqb, le-leb, lt-leb, lt-ltb, eqb-true, leb-true, ltb-true}
 use Rattle.bits.specs.Pick.{pick, pick-both}
 use Rattle.bus.proofs.Sizes.{and-true}
-use Rattle.midi.specs.Packer.{packetCount, roomFor, fedAll}
+use Rattle.midi.specs.declared.Packer.{Packer}
+use Rattle.midi.specs.Packer.{isCable, packerAt, packetCount, roomFor, fedAll}
 use Rattle.midi.proofs.Bounds.{fedAll-bound}
 use Rattle.usbdev.specs.Access.{fits, readSized, writeSized}
 use Rattle.record.specs.declared.Lengths.{Lengths}
@@ -19,8 +20,8 @@ use Rattle.record.specs.declared.Ring.{Ring}
 use Rattle.record.specs.declared.Settings.{Settings}
 use Rattle.record.specs.Record.{withMidi, withSerial, counterAt}
 use Rattle.record.specs.Change.{takenFrom}
-use Rattle.bounds.specs.Bounds.{inBounds, askedOk, heldOk, countedOk, audioOk, setupsOk, allMade, noneAsks, enumeratingOk, requestOk, queuesOk, packerOk, countsOk, noneAbove, countersOk, creditOk, timersOk, timerOk, ringOk, receivedOk, sendingOk}
-use Rattle.bounds.proofs.Laws.{packer-bound, packer-ok}
+use Rattle.bounds.specs.Bounds.{inBounds, askedOk, heldOk, countedOk, audioOk, setupsOk, allMade, noneAsks, enumeratingOk, requestOk, queuesOk, packerOk, eachPacker, packersOk, countsOk, noneAbove, countersOk, creditOk, timersOk, timerOk, ringOk, receivedOk, sendingOk}
+use Rattle.bounds.proofs.Laws.{packer-bound, packer-ok, each-one, packers-set}
 use Rattle.usbhost.specs.declared.Host.{Host}
 use Rattle.usbhost.specs.Host.{stateOf, settled, noSettings, newHost, created}
 use Rattle.usbhost.specs.Calls.{unless, fewSpans, bounded, midiNumber, midiQueued, midiSent, serialNumber, serialQueued, serialSent, sendingLength, giveNumber, framePut, frameGiven, given, givenRing, takeNumber, frameTaken, holdsFrame, takenFrame, accessNumber, deviceRead, registersOf, withFlag, deviceWritten, writtenPage}
@@ -60,38 +61,67 @@ queues-midi l k h e =
     let whole : (l .midi + 4 * k) % 4 ≡ 0 = omega (arith, eqb-true (l .midi % 4) 0 (fours .0)) in
     simp (le-leb (l .midi + 4 * k) 4096 h, whole, fours .1)
 
--- an accepted send had room for its packets
-pub midi-room : (h : Host) (bs : List ℕ) → midiNumber h bs ≡ 0 → roomFor (h .packer) bs (h .lengths .midi) ≡ true
-unfolding midiNumber
-midi-room h bs e =
-    let seven = unless 7 (roomFor (h .packer) bs (h .lengths .midi)) 0 in
-    let three = met 3 (fewSpans h) (unless 5 (bounded h) seven) (omega arith) e in
-    let five = met 5 (bounded h) seven (omega arith) (three .1) in
-    met 7 (roomFor (h .packer) bs (h .lengths .midi)) 0 (omega arith) (five .1) .0
+-- an accepted send has a cable, and had room for its packets
+module _ (h : Host) (cable : ℕ) (bs : List ℕ) (e : midiNumber h cable bs ≡ 0) where
+  abbrev sender : Packer
+  sender = packerAt (h .packers) cable
 
-midi-held : (h : Host) (bs : List ℕ) → roomFor (h .packer) bs (h .lengths .midi) ≡ true
-    → heldOk (stateOf h) (h .packer) ≡ true → heldOk (stateOf (midiQueued h bs)) (midiQueued h bs .packer) ≡ true
+  abbrev seven : ℕ
+  seven = unless 7 (roomFor sender bs (h .lengths .midi)) 0
+
+  unfolded : unless 3 (fewSpans h) (unless 8 (isCable cable) (unless 5 (bounded h) seven)) ≡ 0
+  unfolding midiNumber
+  unfolded = e
+
+  eight : (isCable cable ≡ true) × (unless 5 (bounded h) seven ≡ 0)
+  eight = met 8 (isCable cable) (unless 5 (bounded h) seven) (omega arith) (met 3 (fewSpans h) (unless 8 (isCable cable) (unless 5 (bounded h) seven)) (omega arith) unfolded .1)
+
+  pub midi-cable : cable < 16
+  midi-cable = ltb-true cable 16 (eight .0)
+
+  pub midi-room : roomFor (packerAt (h .packers) cable) bs (h .lengths .midi) ≡ true
+  midi-room = met 7 (roomFor sender bs (h .lengths .midi)) 0 (omega arith) (met 5 (bounded h) seven (omega arith) (eight .1) .1) .0
+
+-- every packer in its bounds stays so when one is fed
+fed-packers : (packers : List Packer) (cable : ℕ) (bs : List ℕ) → cable < 16 → packersOk packers ≡ true
+    → packersOk (set packers cable (fedAll (packerAt packers cable) bs)) ≡ true
+fed-packers packers cable bs there ok =
+    let p = packerAt packers cable in
+    packers-set packers cable (fedAll p bs) ok
+    (packer-ok (fedAll p bs) (fedAll-bound p bs (packer-bound p (each-one packerOk packers 16 ok cable there))))
+
+-- and so under any send, refused or not
+pub packers-kept : (h : Host) (cable : ℕ) (bs : List ℕ) → packersOk (h .packers) ≡ true → packersOk (midiSent h cable bs .host .packers) ≡ true
+unfolding midiSent midiQueued
+packers-kept h cable bs ok =
+    by-test (eqb (midiNumber h cable bs) 0)
+    (λ z. ap (λ (t : Bool). packersOk (pick t (midiQueued h cable bs) h .packers)) z ∙ fed-packers (h .packers) cable bs (midi-cable h cable bs (eqb-true (midiNumber h cable bs) 0 z)) ok)
+    (λ m. ap (λ (t : Bool). packersOk (pick t (midiQueued h cable bs) h .packers)) m ∙ ok)
+
+midi-held : (h : Host) (cable : ℕ) (bs : List ℕ) → cable < 16 → roomFor (packerAt (h .packers) cable) bs (h .lengths .midi) ≡ true
+    → heldOk (stateOf h) (h .packers) ≡ true → heldOk (stateOf (midiQueued h cable bs)) (midiQueued h cable bs .packers) ≡ true
 unfolding midiQueued
-midi-held h bs room e =
-    let both = and-true (queuesOk (h .lengths)) (packerOk (h .packer)) e in
-    let k = packetCount (h .packer) bs in
+midi-held h cable bs there room e =
+    let both = and-true (queuesOk (h .lengths)) (packersOk (h .packers)) e in
+    let k = packetCount (packerAt (h .packers) cable) bs in
     let queues = queues-midi (h .lengths) k (leb-true (h .lengths .midi + 4 * k) 4096 room) (both .0) in
-    simp (queues, packer-ok (fedAll (h .packer) bs) (fedAll-bound (h .packer) bs (packer-bound (h .packer) (both .1))))
+    simp (queues, fed-packers (h .packers) cable bs there (both .1))
 
-midi-queued : (n : ℕ) (h : Host) (bs : List ℕ) → roomFor (h .packer) bs (h .lengths .midi) ≡ true → Kept n h (midiQueued h bs)
+midi-queued : (n : ℕ) (h : Host) (cable : ℕ) (bs : List ℕ) → cable < 16 → roomFor (packerAt (h .packers) cable) bs (h .lengths .midi) ≡ true → Kept n h (midiQueued h cable bs)
 unfolding midiQueued inBounds enumeratingOk countsOk
-midi-queued n h bs room =
+midi-queued n h cable bs there room =
     record {
       settings = refl;
-      bounds = middle (askedOk (stateOf h) (h .setups)) (heldOk (stateOf h) (h .packer)) _ (countedOk (stateOf h) && audioOk (h .audio)) (midi-held h bs room);
+      bounds = middle (askedOk (stateOf h) (h .setups)) (heldOk (stateOf h) (h .packers)) _ (countedOk (stateOf h) && audioOk (h .audio)) (midi-held h cable bs there room);
       received = λ e. e;
       sending = λ e. e;
     }
 
-pub midi-kept : (n : ℕ) (h : Host) (bs : List ℕ) → Kept n h (midiSent h bs .host)
+pub midi-kept : (n : ℕ) (h : Host) (cable : ℕ) (bs : List ℕ) → Kept n h (midiSent h cable bs .host)
 unfolding midiSent
-midi-kept n h bs =
-    either n h (midiQueued h bs) (eqb (midiNumber h bs) 0) (λ t. midi-queued n h bs (midi-room h bs (eqb-true (midiNumber h bs) 0 t)))
+midi-kept n h cable bs =
+    either n h (midiQueued h cable bs) (eqb (midiNumber h cable bs) 0)
+    (λ t. let z = eqb-true (midiNumber h cable bs) 0 t in midi-queued n h cable bs (midi-cable h cable bs z) (midi-room h cable bs z))
 
 -- ---- serial send
 
@@ -113,10 +143,10 @@ queues-serial l k h e =
     simp (first .0, fours .0, le-leb (l .serial + k) 4096 h, last .1)
 
 serial-held : (h : Host) (bs : List ℕ) → h .lengths .serial + length bs ≤ 4096
-    → heldOk (stateOf h) (h .packer) ≡ true → heldOk (stateOf (serialQueued h bs)) (h .packer) ≡ true
+    → heldOk (stateOf h) (h .packers) ≡ true → heldOk (stateOf (serialQueued h bs)) (h .packers) ≡ true
 unfolding serialQueued
 serial-held h bs room e =
-    let both = and-true (queuesOk (h .lengths)) (packerOk (h .packer)) e in
+    let both = and-true (queuesOk (h .lengths)) (packersOk (h .packers)) e in
     simp (queues-serial (h .lengths) (length bs) room (both .0), both .1)
 
 serial-queued : (n : ℕ) (h : Host) (bs : List ℕ) → h .lengths .serial + length bs ≤ 4096 → Kept n h (serialQueued h bs)
@@ -124,7 +154,7 @@ unfolding serialQueued inBounds enumeratingOk countsOk
 serial-queued n h bs room =
     record {
       settings = refl;
-      bounds = middle (askedOk (stateOf h) (h .setups)) (heldOk (stateOf h) (h .packer)) _ (countedOk (stateOf h) && audioOk (h .audio)) (serial-held h bs room);
+      bounds = middle (askedOk (stateOf h) (h .setups)) (heldOk (stateOf h) (h .packers)) _ (countedOk (stateOf h) && audioOk (h .audio)) (serial-held h bs room);
       received = λ e. e;
       sending = λ e. e;
     }
@@ -209,8 +239,12 @@ write-kept n h page off size v =
 
 -- in bounds, and its rings too, where a frame fits them
 pub new-bounded : (c : Settings) → bounded (newHost c) ≡ true
-unfolding newHost inBounds setupsOk allMade noneAsks enumeratingOk requestOk queuesOk packerOk countsOk countersOk noneAbove counterAt creditOk timersOk timerOk audioOk
+unfolding newHost inBounds setupsOk allMade noneAsks enumeratingOk requestOk queuesOk packerOk eachPacker countsOk countersOk noneAbove counterAt creditOk timersOk timerOk audioOk
 new-bounded c = refl
+
+pub new-packers : (c : Settings) → packersOk (newHost c .packers) ≡ true
+unfolding newHost packerOk eachPacker
+new-packers c = refl
 
 pub new-received : (c : Settings) → receivedOk (stateOf (newHost c)) ≡ true
 unfolding newHost ringOk
@@ -239,9 +273,9 @@ new-few c = by-test (leb (c .spans) 16) (λ few. simp few) (λ many. simp many)
 other : {A : Type 0} (n : ℕ) (next a : A) → (n ≡ 0 → ⊥) → pick (eqb n 0) next a ≡ a
 other n next a m = simp (ne-eqb n 0 m)
 
-pub midi-refused : (h : Host) (bs : List ℕ) → (midiSent h bs .refusal ≡ 0 → ⊥) → midiSent h bs .host ≡ h
+pub midi-refused : (h : Host) (cable : ℕ) (bs : List ℕ) → (midiSent h cable bs .refusal ≡ 0 → ⊥) → midiSent h cable bs .host ≡ h
 unfolding midiSent
-midi-refused h bs m = other (midiNumber h bs) (midiQueued h bs) h m
+midi-refused h cable bs m = other (midiNumber h cable bs) (midiQueued h cable bs) h m
 
 pub serial-refused : (h : Host) (bs : List ℕ) → (serialSent h bs .refusal ≡ 0 → ⊥) → serialSent h bs .host ≡ h
 unfolding serialSent
@@ -280,12 +314,13 @@ module _ (h : Host) (page : List ℕ) (off size v : ℕ) (m : deviceWritten h pa
   unfolding deviceWritten writtenPage
   page-refused = other (accessNumber h (length page) off size) (writeSized (registersOf h page) off size v .page) page m
 
--- ---- a record in bounds accepts: a send is refused for room alone, a frame given too, and no other call is
+-- ---- a record in bounds accepts: a send is refused for its cable or for room alone, a frame given too, and no other call is
 
 module _ (h : Host) (few : fewSpans h ≡ true) (ok : bounded h ≡ true) where
-  pub midi-accepts : (bs : List ℕ) → midiSent h bs .refusal ≡ unless 7 (roomFor (h .packer) bs (h .lengths .midi)) 0
+  pub midi-accepts : (cable : ℕ) (bs : List ℕ)
+      → midiSent h cable bs .refusal ≡ unless 8 (isCable cable) (unless 7 (roomFor (packerAt (h .packers) cable) bs (h .lengths .midi)) 0)
   unfolding midiSent midiNumber
-  midi-accepts bs = simp (few, ok)
+  midi-accepts cable bs = simp (few, ok)
 
   pub serial-accepts : (bs : List ℕ) → serialSent h bs .refusal ≡ unless 7 (leb (h .lengths .serial + length bs) 4096) 0
   unfolding serialSent serialNumber

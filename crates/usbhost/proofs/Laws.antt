@@ -71,17 +71,19 @@ twelve ring at h q e =
 
 -- ---- numbers of refusal
 
--- numbers 3 and 5, and what follows them: where neither is met that decides
-pub record-stands : (a b : Bool) (x : ℕ) → unless 3 a (unless 5 b 0) ≡ 0 → unless 3 a (unless 5 b x) ≡ x
-record-stands true true x e = refl
-record-stands true false x e = absurd (omega arith)
-record-stands false b x e = absurd (omega arith)
+-- numbers 3, 8 and 5, and what follows them: where none is met that decides
+pub cable-stands : (a k b : Bool) (x : ℕ) → unless 3 a (unless 8 k (unless 5 b 0)) ≡ 0 → unless 3 a (unless 8 k (unless 5 b x)) ≡ x
+cable-stands true true true x e = refl
+cable-stands true true false x e = absurd (omega arith)
+cable-stands true false b x e = absurd (omega arith)
+cable-stands false k b x e = absurd (omega arith)
 
 -- and where one is met it is the number
-pub record-stops : (a b : Bool) (x n : ℕ) → n ≡ unless 3 a (unless 5 b 0) → (n ≡ 0 → ⊥) → unless 3 a (unless 5 b x) ≡ n
-record-stops true true x n e h = absurd (h e)
-record-stops true false x n e h = sym e
-record-stops false b x n e h = sym e
+pub cable-stops : (a k b : Bool) (x n : ℕ) → n ≡ unless 3 a (unless 8 k (unless 5 b 0)) → (n ≡ 0 → ⊥) → unless 3 a (unless 8 k (unless 5 b x)) ≡ n
+cable-stops true true true x n e h = absurd (h e)
+cable-stops true true false x n e h = sym e
+cable-stops true false b x n e h = sym e
+cable-stops false k b x n e h = sym e
 
 -- a test that gives no number is met
 pub met : (number : ℕ) (t : Bool) (x : ℕ) → 0 < number → unless number t x ≡ 0 → (t ≡ true) × (x ≡ 0)
@@ -102,15 +104,15 @@ by-test false p q = q refl
 
 -- ---- a record by its parts is in bounds as they are
 
-pub same-bounds : (s : State) (c : Settings) (p : Packer) (o : Own) → bounded (hostOf s c p o) ≡ inBounds s p (o .setups)
+pub same-bounds : (s : State) (c : Settings) (packers : List Packer) (o : Own) → bounded (hostOf s c packers o) ≡ inBounds s packers (o .setups)
 unfolding inBounds enumeratingOk countsOk
-same-bounds s c p o = refl
+same-bounds s c packers o = refl
 
 -- the bounds of a microframe's record with areas of some lengths
-pub frame-bounds : (s : State) (c : Settings) (p : Packer) (o : Own) (reply config sending : ℕ)
-    → (inBounds s p (o .setups) && (areasOk s reply config && (ringOk (s .audio .received) 48000 && ringOk (s .audio .sending) (sending / 12)))) ≡ boundsOk (hostOf s c p o) reply config sending
+pub frame-bounds : (s : State) (c : Settings) (packers : List Packer) (o : Own) (reply config sending : ℕ)
+    → (inBounds s packers (o .setups) && (areasOk s reply config && (ringOk (s .audio .received) 48000 && ringOk (s .audio .sending) (sending / 12)))) ≡ boundsOk (hostOf s c packers o) reply config sending
 unfolding boundsOk inBounds enumeratingOk countsOk areasOk
-frame-bounds s c p o reply config sending = refl
+frame-bounds s c packers o reply config sending = refl
 
 -- number 4 of an access, from the number of a read at the same place
 pub access-by : (whole few fit ok : Bool)

@@ -4,3 +4,4 @@ pub mod Entries
 pub mod Kept
 pub mod Frame
 pub mod Descriptors
+pub mod Cables

@@ -1,16 +1,16 @@
--- The calls on a host record but the microframe: their numbers of refusal, lowest first, and what an accepted one leaves
--- (document 01, "Numbers of refusal"; usbhost.rs 362-364, usbdev.rs; frames given and taken are the caller's queues in the source).
+-- The calls on a host record but the microframe: their numbers of refusal in the order of their tests, and what an accepted one leaves
+-- (document 01, "Numbers of refusal", and document 02; usbhost.rs 362-364, usbdev.rs; frames given and taken are the caller's queues in the source).
 use Prim.Native.Nat.{ℕ, _+_, _*_, _/_, _%_}
 use mathlib.Core.Bool.{Bool, not, _&&_}
 use mathlib.Core.List.{List}
 use lib.Dec.{eqb, leb, ltb}
-use lib.ListN.{length, take, drop, replicate}
+use lib.ListN.{length, take, drop, set, replicate}
 use lib.Seq.{sets}
 use Rattle.bits.specs.Pick.{pick}
 use Rattle.bus.specs.Sized.{PAGE}
 use Rattle.usbdev.specs.Registers.{Registers, registers}
 use Rattle.usbdev.specs.Access.{fits, readSized, writeSized}
-use Rattle.midi.specs.Packer.{fedAll, packetCount, packetsOf, roomFor}
+use Rattle.midi.specs.Packer.{isCable, packerAt, fedAll, packetCount, packetsOf, roomFor}
 use Rattle.record.specs.Record.{withLine, withMidi, withSerial, withReceived, withSending, withPort, withAudio, withLengths}
 use Rattle.record.specs.World.{ownMidi, ownSerial}
 use Rattle.record.specs.Sizes.{QUEUE, FRAMES, WORDS, RING}
@@ -30,7 +30,7 @@ fewSpans h = leb (h .settings .spans) 16
 
 -- 5: what no area bounds
 abbrev pub bounded : Host → Bool
-bounded h = inBounds (stateOf h) (h .packer) (h .setups)
+bounded h = inBounds (stateOf h) (h .packers) (h .setups)
 
 -- a test that fails gives its number, and otherwise what follows decides
 abbrev pub unless : ℕ → Bool → ℕ → ℕ
@@ -44,19 +44,23 @@ answered number next h = record { refusal = number; host = pick (eqb number 0) n
 abbrev pub kept : ℕ → List ℕ → List ℕ → List ℕ
 kept number next area = pick (eqb number 0) next area
 
--- ---- MIDI send: 3, 5, 7
+-- ---- MIDI send on a cable: 3, 8, 5, 7
 
-unfoldable pub midiNumber : Host → List ℕ → ℕ
-midiNumber h bs = unless 3 (fewSpans h) (unless 5 (bounded h) (unless 7 (roomFor (h .packer) bs (h .lengths .midi)) 0))
+-- S-2: 8 asks of the cable alone, so an empty send meets it too
+unfoldable pub midiNumber : Host → ℕ → List ℕ → ℕ
+midiNumber h cable bs =
+    unless 3 (fewSpans h)
+    (unless 8 (isCable cable) (unless 5 (bounded h) (unless 7 (roomFor (packerAt (h .packers) cable) bs (h .lengths .midi)) 0)))
 
--- 362-364: the packer fed, and its packets behind those that wait
-unfoldable pub midiQueued : Host → List ℕ → Host
-midiQueued r bs =
-    hostOf (withLengths (stateOf r) (withMidi (r .lengths) (r .lengths .midi + 4 * packetCount (r .packer) bs))) (r .settings) (fedAll (r .packer) bs)
-    (ownMidi (ownOf r) (sets (r .midi) (r .lengths .midi) (packetsOf 0 (r .packer) bs)))
+-- 362-364, S-2: the cable's packer fed, and its packets behind those that wait; the other packers stay
+unfoldable pub midiQueued : Host → ℕ → List ℕ → Host
+midiQueued r cable bs =
+    let p = packerAt (r .packers) cable in
+    hostOf (withLengths (stateOf r) (withMidi (r .lengths) (r .lengths .midi + 4 * packetCount p bs))) (r .settings) (set (r .packers) cable (fedAll p bs))
+    (ownMidi (ownOf r) (sets (r .midi) (r .lengths .midi) (packetsOf cable p bs)))
 
-unfoldable pub midiSent : Host → List ℕ → Sent
-midiSent h bs = answered (midiNumber h bs) (midiQueued h bs) h
+unfoldable pub midiSent : Host → ℕ → List ℕ → Sent
+midiSent h cable bs = answered (midiNumber h cable bs) (midiQueued h cable bs) h
 
 -- ---- serial send: 3, 5, 7
 
@@ -66,7 +70,7 @@ serialNumber h bs = unless 3 (fewSpans h) (unless 5 (bounded h) (unless 7 (leb (
 -- the bytes behind those that wait (`cdc_to_device`, 285)
 unfoldable pub serialQueued : Host → List ℕ → Host
 serialQueued r bs =
-    hostOf (withLengths (stateOf r) (withSerial (r .lengths) (r .lengths .serial + length bs))) (r .settings) (r .packer)
+    hostOf (withLengths (stateOf r) (withSerial (r .lengths) (r .lengths .serial + length bs))) (r .settings) (r .packers)
     (ownSerial (ownOf r) (sets (r .serial) (r .lengths .serial) bs))
 
 unfoldable pub serialSent : Host → List ℕ → Sent

@@ -18,20 +18,21 @@ use Rattle.usbhost.specs.Calls.{fewSpans, bounded, unless, sendingLength
 
 -- the World of a record and what it is lent, with nothing received and nothing dropped so far
 abbrev pub worldOf : Host → Lent → World
-worldOf h l = world (h .settings) (h .packer) (stateOf h) (ownOf h) l
+worldOf h l = world (h .settings) (h .packers) (stateOf h) (ownOf h) l
 
 -- the record in a World
 abbrev pub hostIn : World → Host
-hostIn w = hostOf (w .state) (w .settings) (w .packer) (w .own)
+hostIn w = hostOf (w .state) (w .settings) (w .packers) (w .own)
 
--- number 2, by the lengths: reply and configuration of at least 65,535 bytes, receive area of at least 196,608, the two rings
-unfoldable pub lengthsOk : ℕ → ℕ → ℕ → ℕ → ℕ → Bool
-lengthsOk reply config receive received sending =
+-- number 2, by the lengths: reply and configuration of at least 65,535 bytes, receive area and cables (S-2) of at least 196,608, the two rings
+unfoldable pub lengthsOk : ℕ → ℕ → ℕ → ℕ → ℕ → ℕ → Bool
+lengthsOk reply config receive cables received sending =
     leb REPLY reply
-    && (leb REPLY config && (leb RECEIVE receive && (eqb received RING && sendingLength sending)))
+    && (leb REPLY config && (leb RECEIVE receive && (leb RECEIVE cables && (eqb received RING && sendingLength sending))))
 
 abbrev pub areaLengths : Lent → Bool
-areaLengths l = lengthsOk (length (l .reply)) (length (l .config)) (length (l .receive)) (length (l .received)) (length (l .sending))
+areaLengths l =
+    lengthsOk (length (l .reply)) (length (l .config)) (length (l .receive)) (length (l .cables)) (length (l .received)) (length (l .sending))
 
 -- number 5: the record, and what the areas bound
 unfoldable pub boundsOk : Host → ℕ → ℕ → ℕ → Bool

@@ -6,7 +6,7 @@ use lib.Dec.{leb}
 use lib.ListN.{take, replicate}
 use Rattle.bits.specs.Pick.{pick}
 use Rattle.midi.specs.declared.Packer.{Packer}
-use Rattle.midi.specs.Packer.{fresh}
+use Rattle.midi.specs.Packer.{CABLES, fresh}
 use Rattle.gptimers.specs.Timer.{none}
 use Rattle.record.specs.declared.Phase.the-variants.{Idle}
 use Rattle.record.specs.declared.Stage.the-variants.{Data}
@@ -66,7 +66,7 @@ noSettings =
       gone = replicate 32 0;
     }
 
--- a host that has done nothing: Idle, no credit, blocks of 368 bytes with 12 channels, all queues empty
+-- a host that has done nothing: Idle, no credit, blocks of 368 bytes with 12 channels, all queues empty, a fresh packer for each cable (S-2)
 unfoldable pub newHost : Settings → Host
 newHost c =
     record {
@@ -86,7 +86,7 @@ newHost c =
       timers = record { zero = none; one = none };
       stats = replicate COUNTERS 0;
       lengths = record { setups = 0; midi = 0; serial = 0; device = 0; config = 0 };
-      packer = fresh;
+      packers = replicate CABLES fresh;
       settings = c;
       setups = replicate SETUP-BYTES 0;
       midi = replicate QUEUE 0;
@@ -99,10 +99,10 @@ unfoldable pub created : Settings → Created
 created c =
     pick (leb (c .spans) 16) (record { refusal = 0; host = newHost (settled c) }) (record { refusal = 3; host = newHost noSettings })
 
--- ---- the record by its parts: a state, whose answer is no part of it, settings, packer, and the arrays
+-- ---- the record by its parts: a state, whose answer is no part of it, settings, packers, and the arrays
 
-abbrev pub hostOf : State → Settings → Packer → Own → Host
-hostOf s c p o =
+abbrev pub hostOf : State → Settings → List Packer → Own → Host
+hostOf s c packers o =
     record {
       phase = s .phase;
       port = s .port;
@@ -111,7 +111,7 @@ hostOf s c p o =
       timers = s .timers;
       stats = s .stats;
       lengths = s .lengths;
-      packer = p;
+      packers = packers;
       settings = c;
       setups = o .setups;
       midi = o .midi;
@@ -123,6 +123,10 @@ hostOf s c p o =
 abbrev pub ownOf : Host → Own
 ownOf h = own (h .setups) (h .midi) (h .serial) (h .device)
 
+-- the record with other packers
+abbrev pub withPackers : Host → List Packer → Host
+withPackers h packers = hostOf (stateOf h) (h .settings) packers (ownOf h)
+
 -- the record with another state
 abbrev pub hostWith : Host → State → Host
-hostWith h s = hostOf s (h .settings) (h .packer) (ownOf h)
+hostWith h s = hostOf s (h .settings) (h .packers) (ownOf h)

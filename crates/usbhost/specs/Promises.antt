@@ -24,56 +24,56 @@ abbrev pub withSpans : Settings → ℕ → Settings
 withSpans c n = withGoneSpans c n (c .gone)
 
 -- the parts that numbers of refusal read, in a record that is otherwise empty
-abbrev pub bare : State → ℕ → Packer → List ℕ → Host
-bare s spans p setups = hostOf s (withSpans noSettings spans) p (own setups [] [] [])
+abbrev pub bare : State → ℕ → List Packer → List ℕ → Host
+bare s spans packers setups = hostOf s (withSpans noSettings spans) packers (own setups [] [] [])
 
 abbrev pub sent : ℕ → Host → Sent
 sent number h = record { refusal = number; host = h }
 
-pub record MidiPromise (s : State) (spans : ℕ) (p : Packer) (bs setups midi : List ℕ) (r : MidiSent) (midi′ : List ℕ) : Type 0 where
+pub record MidiPromise (s : State) (spans : ℕ) (packers : List Packer) (cable : ℕ) (bs setups midi : List ℕ) (r : MidiSent) (midi′ : List ℕ) : Type 0 where
   pub answer : r .state .answer ≡ s .answer
   pub done : (c : Settings) (o : Own)
-      → sent (r .refusal) (hostOf (r .state) (withSpans c spans) (r .packer) (ownMidi (ownSetups o setups) midi′))
-      ≡ midiSent (hostOf s (withSpans c spans) p (ownMidi (ownSetups o setups) midi)) bs
+      → sent (r .refusal) (hostOf (r .state) (withSpans c spans) (r .packers) (ownMidi (ownSetups o setups) midi′))
+      ≡ midiSent (hostOf s (withSpans c spans) packers (ownMidi (ownSetups o setups) midi)) cable bs
 
-pub record SerialPromise (s : State) (spans : ℕ) (p : Packer) (bs setups serial : List ℕ) (r : Stored) (serial′ : List ℕ) : Type 0 where
+pub record SerialPromise (s : State) (spans : ℕ) (packers : List Packer) (bs setups serial : List ℕ) (r : Stored) (serial′ : List ℕ) : Type 0 where
   pub answer : r .state .answer ≡ s .answer
   pub done : (c : Settings) (o : Own)
-      → sent (r .refusal) (hostOf (r .state) (withSpans c spans) p (ownSerial (ownSetups o setups) serial′))
-      ≡ serialSent (hostOf s (withSpans c spans) p (ownSerial (ownSetups o setups) serial)) bs
+      → sent (r .refusal) (hostOf (r .state) (withSpans c spans) packers (ownSerial (ownSetups o setups) serial′))
+      ≡ serialSent (hostOf s (withSpans c spans) packers (ownSerial (ownSetups o setups) serial)) bs
 
-pub record GivePromise (s : State) (spans : ℕ) (p : Packer) (frame setups sending : List ℕ) (r : Stored) (sending′ : List ℕ) : Type 0 where
+pub record GivePromise (s : State) (spans : ℕ) (packers : List Packer) (frame setups sending : List ℕ) (r : Stored) (sending′ : List ℕ) : Type 0 where
   pub answer : r .state .answer ≡ s .answer
   pub done : (c : Settings) (o : Own)
-      → sent (r .refusal) (hostOf (r .state) (withSpans c spans) p (ownSetups o setups))
-      ≡ given (hostOf s (withSpans c spans) p (ownSetups o setups)) frame sending
+      → sent (r .refusal) (hostOf (r .state) (withSpans c spans) packers (ownSetups o setups))
+      ≡ given (hostOf s (withSpans c spans) packers (ownSetups o setups)) frame sending
   pub ring : (c : Settings) (o : Own)
-      → sending′ ≡ givenRing (hostOf s (withSpans c spans) p (ownSetups o setups)) frame sending
+      → sending′ ≡ givenRing (hostOf s (withSpans c spans) packers (ownSetups o setups)) frame sending
 
-pub record TakePromise (s : State) (spans : ℕ) (p : Packer) (setups received : List ℕ) (r : TakenFrame) : Type 0 where
+pub record TakePromise (s : State) (spans : ℕ) (packers : List Packer) (setups received : List ℕ) (r : TakenFrame) : Type 0 where
   pub answer : r .state .answer ≡ s .answer
   pub done : (c : Settings) (o : Own)
       → _≡_ {A = Taken}
-      (record { refusal = r .refusal; empty = r .empty; frame = r .frame; host = hostOf (r .state) (withSpans c spans) p (ownSetups o setups) })
-      (takenFrame (hostOf s (withSpans c spans) p (ownSetups o setups)) received)
+      (record { refusal = r .refusal; empty = r .empty; frame = r .frame; host = hostOf (r .state) (withSpans c spans) packers (ownSetups o setups) })
+      (takenFrame (hostOf s (withSpans c spans) packers (ownSetups o setups)) received)
 
-pub record ReadPromise (s : State) (spans : ℕ) (p : Packer) (setups page : List ℕ) (off size : ℕ) (r : Value) : Type 0 where
+pub record ReadPromise (s : State) (spans : ℕ) (packers : List Packer) (setups page : List ℕ) (off size : ℕ) (r : Value) : Type 0 where
   pub done : (c : Settings) (o : Own)
       → _≡_ {A = Read}
-      (record { refusal = r .refusal; value = r .value; host = hostOf s (withSpans c spans) p (ownSetups o setups) })
-      (deviceRead (hostOf s (withSpans c spans) p (ownSetups o setups)) page off size)
+      (record { refusal = r .refusal; value = r .value; host = hostOf s (withSpans c spans) packers (ownSetups o setups) })
+      (deviceRead (hostOf s (withSpans c spans) packers (ownSetups o setups)) page off size)
 
-pub record WritePromise (s : State) (spans : ℕ) (p : Packer) (setups page : List ℕ) (off size v : ℕ) (r : Stored) (page′ : List ℕ) : Type 0 where
+pub record WritePromise (s : State) (spans : ℕ) (packers : List Packer) (setups page : List ℕ) (off size v : ℕ) (r : Stored) (page′ : List ℕ) : Type 0 where
   pub answer : r .state .answer ≡ s .answer
   pub done : (c : Settings) (o : Own)
-      → sent (r .refusal) (hostOf (r .state) (withSpans c spans) p (ownSetups o setups))
-      ≡ deviceWritten (hostOf s (withSpans c spans) p (ownSetups o setups)) page off size v
+      → sent (r .refusal) (hostOf (r .state) (withSpans c spans) packers (ownSetups o setups))
+      ≡ deviceWritten (hostOf s (withSpans c spans) packers (ownSetups o setups)) page off size v
   pub written : (c : Settings) (o : Own)
-      → page′ ≡ writtenPage (hostOf s (withSpans c spans) p (ownSetups o setups)) page off size v
+      → page′ ≡ writtenPage (hostOf s (withSpans c spans) packers (ownSetups o setups)) page off size v
 
 -- ---- the microframe
 
 -- the record h and what it is lent go as Frame says; the state's answer is the call's
 pub record FramePromise (t : ℕ) (h : Host) (l : Lent) (r : Stored) (o : Own) (l′ : Lent) : Type 0 where
   pub number : r .refusal ≡ frameNumber h l
-  pub outcome : world (h .settings) (h .packer) (r .state) o l′ ≡ framed t h l
+  pub outcome : world (h .settings) (h .packers) (r .state) o l′ ≡ framed t h l

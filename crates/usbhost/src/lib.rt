@@ -6,6 +6,7 @@ ghost use lib.ListN.{length, take, drop, replicate};
 ghost use lib.Dec.{leb};
 ghost use lib.Seq.{sets};
 ghost use Rattle.bits.specs.Pick.{pick};
+ghost use Rattle.midi.specs.Packer.{isCable};
 ghost use Rattle.bounds.specs.Bounds.{inBounds};
 ghost use Rattle.model.specs.Microframe.{streaming as Microframe·streaming};
 ghost use Rattle.usbhost.specs.Calls.{unless, sendingLength, midiSent, serialSent, given, givenRing, giveNumber, takenFrame, takeNumber, deviceRead, deviceWritten, writtenPage, accessNumber};
@@ -18,6 +19,7 @@ ghost use Rattle.record.specs.declared.Settings.{Settings as Record·Settings};
 ghost use Rattle.usbhost.specs.Host.{stateOf, hostOf, hostWith, noSettings, newHost, created};
 use gptimers::Timer;
 use gptimers::Timers;
+use midi::CABLES;
 use midi::Packer;
 use record::Answer;
 use record::Audio;
@@ -48,7 +50,7 @@ pub struct Host {
     timers: Timers,
     stats: [u64; record::COUNTERS],
     lengths: Lengths,
-    packer: Packer,
+    packers: [Packer; CABLES],
     settings: Settings,
     setups: [u8; SETUP_BYTES],
     midi: [u8; QUEUE],
@@ -110,7 +112,7 @@ fn is_stream(p: Phase) -> bool
 pub struct MidiSent {
     pub refusal: u8,
     pub state: State,
-    pub packer: Packer,
+    pub packers: [Packer; CABLES],
 }
 
 // A call that changes the state alone.
@@ -258,13 +260,13 @@ pub fn new_state() -> State
 fn host_of(
     s: State,
     c: Settings,
-    p: Packer,
+    packers: [Packer; CABLES],
     setups: [u8; SETUP_BYTES],
     midi: [u8; QUEUE],
     serial: [u8; QUEUE],
     device: [u8; DEVICE],
 ) -> Host
-    ensures { λ r. ⌜ r ≡ hostOf s c p (own setups midi serial device) ⌝ }
+    ensures { λ r. ⌜ r ≡ hostOf s c packers (own setups midi serial device) ⌝ }
 {
     let phase = s.phase;
     let port = s.port;
@@ -281,7 +283,7 @@ fn host_of(
         timers,
         stats,
         lengths,
-        packer: p,
+        packers,
         settings: c,
         setups,
         midi,
@@ -297,7 +299,7 @@ fn new_host(c: Settings) -> Host
     host_of(
         new_state(),
         c,
-        Packer::new(),
+        [Packer::new(); CABLES],
         [0; 2056],
         [0; QUEUE],
         [0; QUEUE],
@@ -306,41 +308,65 @@ fn new_host(c: Settings) -> Host
 }
 
 // Numbers 3 and 5 of a record, or 0.
-fn record_number(s: State, spans: usize, p: Packer, setups: &[u8; SETUP_BYTES]) -> u8
-    ensures { λ r. ⌜ r ≡ unless 3 (leb spans 16) (unless 5 (inBounds s p (now (setups .entry))) 0) ⌝ }
+fn record_number(
+    s: State,
+    spans: usize,
+    packers: [Packer; CABLES],
+    setups: &[u8; SETUP_BYTES],
+) -> u8
+    ensures { λ r. ⌜ r ≡ unless 3 (leb spans 16) (unless 5 (inBounds s packers (now (setups .entry))) 0) ⌝ }
 {
-    let five = first_of(bounds::in_bounds(s, p, setups), 0, 5);
+    let five = first_of(bounds::in_bounds(s, packers, setups), 0, 5);
     first_of(spans <= 16, five, 3)
 }
 
-// Sends MIDI bytes: their packets go behind those that wait.
+// Numbers 3, 8 and 5 of a send on a cable, or 0.
+fn cable_number(
+    s: State,
+    spans: usize,
+    packers: [Packer; CABLES],
+    cable: u8,
+    setups: &[u8; SETUP_BYTES],
+) -> u8
+    ensures { λ r. ⌜ r ≡ unless 3 (leb spans 16) (unless 8 (isCable cable) (unless 5 (inBounds s packers (now (setups .entry))) 0)) ⌝ }
+{
+    let five = first_of(bounds::in_bounds(s, packers, setups), 0, 5);
+    let eight = first_of(cable < 16, five, 8);
+    first_of(spans <= 16, eight, 3)
+}
+
+// Sends MIDI bytes on a cable: their packets go behind those that wait.
 pub fn send_midi(
     s: State,
     spans: usize,
-    p: Packer,
+    packers: [Packer; CABLES],
+    cable: u8,
     bytes: &[u8],
     setups: &[u8; SETUP_BYTES],
     midi: &mut [u8; QUEUE],
 ) -> MidiSent
-    ensures { λ r. ⌜ MidiPromise s spans p (now (bytes .entry)) (now (setups .entry)) (now (midi .entry)) r (now (midi .exit)) ⌝ }
+    ensures { λ r. ⌜ MidiPromise s spans packers cable (now (bytes .entry)) (now (setups .entry)) (now (midi .entry)) r (now (midi .exit)) ⌝ }
 {
-    let number = record_number(s, spans, p, setups);
+    let number = cable_number(s, spans, packers, cable, setups);
     if number != 0 {
         return MidiSent {
             refusal: number,
             state: s,
-            packer: p,
+            packers,
         };
     }
     let held = s.lengths.midi;
-    let sent = midi::send(p, 0, bytes, midi, held);
+    let place = cable as usize;
+    let sent = midi::send(packers[place], cable, bytes, midi, held);
     let packer = sent.packer;
+    let mut fed = packers;
+    fed[place] = packer;
     let mut next = s;
     next.lengths.midi = sent.held;
     MidiSent {
         refusal: sent.refusal,
         state: next,
-        packer,
+        packers: fed,
     }
 }
 
@@ -348,14 +374,14 @@ pub fn send_midi(
 pub fn send_serial(
     s: State,
     spans: usize,
-    p: Packer,
+    packers: [Packer; CABLES],
     bytes: &[u8],
     setups: &[u8; SETUP_BYTES],
     serial: &mut [u8; QUEUE],
 ) -> Stored
-    ensures { λ r. ⌜ SerialPromise s spans p (now (bytes .entry)) (now (setups .entry)) (now (serial .entry)) r (now (serial .exit)) ⌝ }
+    ensures { λ r. ⌜ SerialPromise s spans packers (now (bytes .entry)) (now (setups .entry)) (now (serial .entry)) r (now (serial .exit)) ⌝ }
 {
-    let number = record_number(s, spans, p, setups);
+    let number = record_number(s, spans, packers, setups);
     if number != 0 {
         return Stored {
             refusal: number,
@@ -390,17 +416,17 @@ fn sending_length(n: usize) -> bool
 fn give_number(
     s: State,
     spans: usize,
-    p: Packer,
+    packers: [Packer; CABLES],
     frame: &[u32],
     setups: &[u8; SETUP_BYTES],
     sending: &[u32],
 ) -> u8
-    ensures { λ r. ⌜ r ≡ giveNumber (bare s spans p (now (setups .entry))) (now (frame .entry)) (now (sending .entry)) ⌝ }
+    ensures { λ r. ⌜ r ≡ giveNumber (bare s spans packers (now (setups .entry))) (now (frame .entry)) (now (sending .entry)) ⌝ }
 {
     let ring = s.audio.sending;
     let capacity = sending.len() / Host::CHANNELS;
     let seven = first_of(ring.len < capacity, 0, 7);
-    let bounded = bounds::in_bounds(s, p, setups);
+    let bounded = bounds::in_bounds(s, packers, setups);
     let inside = bounds::ring_ok(ring, capacity);
     let five = first_of(bounded & inside, seven, 5);
     let three = first_of(spans <= 16, five, 3);
@@ -412,14 +438,14 @@ fn give_number(
 pub fn give_frame(
     s: State,
     spans: usize,
-    p: Packer,
+    packers: [Packer; CABLES],
     frame: &[u32],
     setups: &[u8; SETUP_BYTES],
     sending: &mut [u32],
 ) -> Stored
-    ensures { λ r. ⌜ GivePromise s spans p (now (frame .entry)) (now (setups .entry)) (now (sending .entry)) r (now (sending .exit)) ⌝ }
+    ensures { λ r. ⌜ GivePromise s spans packers (now (frame .entry)) (now (setups .entry)) (now (sending .entry)) r (now (sending .exit)) ⌝ }
 {
-    let number = give_number(s, spans, p, frame, setups, &*sending);
+    let number = give_number(s, spans, packers, frame, setups, &*sending);
     if number != 0 {
         return Stored {
             refusal: number,
@@ -444,14 +470,14 @@ pub fn give_frame(
 fn take_number(
     s: State,
     spans: usize,
-    p: Packer,
+    packers: [Packer; CABLES],
     setups: &[u8; SETUP_BYTES],
     received: &[u32],
 ) -> u8
-    ensures { λ r. ⌜ r ≡ takeNumber (bare s spans p (now (setups .entry))) (now (received .entry)) ⌝ }
+    ensures { λ r. ⌜ r ≡ takeNumber (bare s spans packers (now (setups .entry))) (now (received .entry)) ⌝ }
 {
     let ring = s.audio.received;
-    let bounded = bounds::in_bounds(s, p, setups);
+    let bounded = bounds::in_bounds(s, packers, setups);
     let inside = bounds::ring_ok(ring, RING_FRAMES);
     let five = first_of(bounded & inside, 0, 5);
     let three = first_of(spans <= 16, five, 3);
@@ -471,11 +497,19 @@ fn no_frame(refusal: u8, empty: bool, s: State) -> TakenFrame
 }
 
 // Whether the areas of a microframe are as long as they must be.
-fn lengths_ok(reply: usize, config: usize, receive: usize, received: usize, sending: usize) -> bool
-    ensures { λ r. ⌜ r ≡ lengthsOk reply config receive received sending ⌝ }
+fn lengths_ok(
+    reply: usize,
+    config: usize,
+    receive: usize,
+    cables: usize,
+    received: usize,
+    sending: usize,
+) -> bool
+    ensures { λ r. ⌜ r ≡ lengthsOk reply config receive cables received sending ⌝ }
 {
     let ring = sending_length(sending);
-    (REPLY <= reply) & ((REPLY <= config) & ((RECEIVE <= receive) & ((received == RING) & ring)))
+    let rings = (received == RING) & ring;
+    (REPLY <= reply) & ((REPLY <= config) & ((RECEIVE <= receive) & ((RECEIVE <= cables) & rings)))
 }
 
 // Numbers 1, 2, 3, 5 and 6 of a microframe by their tests, or 0.
@@ -492,17 +526,17 @@ fn frame_number(sized: bool, lengths: bool, few: bool, bounded: bool, before: bo
 // Whether a record is in its bounds, with areas of these lengths.
 fn frame_bounds(
     s: State,
-    p: Packer,
+    packers: [Packer; CABLES],
     setups: &[u8; SETUP_BYTES],
     reply: usize,
     config: usize,
     sending: usize,
 ) -> bool
-    ensures { λ r. ⌜ ((c : Record·Settings) (o : Own) → r ≡ boundsOk (hostOf s c p (ownSetups o (now (setups .entry)))) reply config sending) ⌝ }
+    ensures { λ r. ⌜ ((c : Record·Settings) (o : Own) → r ≡ boundsOk (hostOf s c packers (ownSetups o (now (setups .entry)))) reply config sending) ⌝ }
 {
     let received = s.audio.received;
     let ring = s.audio.sending;
-    let bounded = bounds::in_bounds(s, p, setups);
+    let bounded = bounds::in_bounds(s, packers, setups);
     let areas = bounds::areas_ok(s, reply, config);
     let heard = bounds::ring_ok(received, RING_FRAMES);
     let sent = bounds::ring_ok(ring, sending / Host::CHANNELS);
@@ -513,7 +547,7 @@ fn frame_bounds(
 fn microframe_number(
     s: State,
     spans: usize,
-    p: Packer,
+    packers: [Packer; CABLES],
     setups: &[u8; SETUP_BYTES],
     dynamic: &[u8],
     sram: &[u8],
@@ -521,20 +555,22 @@ fn microframe_number(
     reply: &[u8],
     config: &[u8],
     receive: &[u8],
+    cables: &[u8],
     received: &[u32],
     sending: &[u32],
 ) -> u8
-    ensures { λ r. ⌜ r ≡ frameNumber (bare s spans p (now (setups .entry))) (lent (shown (dynamic .entry) (sram .entry) (page .entry)) (now (reply .entry)) (now (config .entry)) (now (receive .entry)) (now (received .entry)) (now (sending .entry))) ⌝ }
+    ensures { λ r. ⌜ r ≡ frameNumber (bare s spans packers (now (setups .entry))) (lent (shown (dynamic .entry) (sram .entry) (page .entry)) (now (reply .entry)) (now (config .entry)) (now (receive .entry)) (now (cables .entry)) (now (received .entry)) (now (sending .entry))) ⌝ }
 {
     let sized = bus::sized(dynamic, sram, page);
     let lengths = lengths_ok(
         reply.len(),
         config.len(),
         receive.len(),
+        cables.len(),
         received.len(),
         sending.len(),
     );
-    let bounded = frame_bounds(s, p, setups, reply.len(), config.len(), sending.len());
+    let bounded = frame_bounds(s, packers, setups, reply.len(), config.len(), sending.len());
     frame_number(
         sized,
         lengths,
@@ -562,7 +598,7 @@ fn unanswered(s: State) -> State
 pub fn run_microframe(
     s: State,
     c: Settings,
-    p: Packer,
+    packers: [Packer; CABLES],
     setups: &mut [u8; SETUP_BYTES],
     midi: &mut [u8; QUEUE],
     serial: &mut [u8; QUEUE],
@@ -573,18 +609,19 @@ pub fn run_microframe(
     reply: &mut [u8],
     config: &mut [u8],
     receive: &mut [u8],
+    cables: &mut [u8],
     received: &mut [u32],
     sending: &[u32],
     time: u64,
 ) -> Stored
-    ensures { λ r. ⌜ FramePromise time (hostOf s c p (own (now (setups .entry)) (now (midi .entry)) (now (serial .entry)) (now (device .entry)))) (lent (shown (dynamic .entry) (sram .entry) (page .entry)) (now (reply .entry)) (now (config .entry)) (now (receive .entry)) (now (received .entry)) (now (sending .entry))) r (own (now (setups .exit)) (now (midi .exit)) (now (serial .exit)) (now (device .exit))) (lent (shown (dynamic .exit) (sram .exit) (page .exit)) (now (reply .exit)) (now (config .exit)) (now (receive .exit)) (now (received .exit)) (now (sending .entry))) ⌝ }
+    ensures { λ r. ⌜ FramePromise time (hostOf s c packers (own (now (setups .entry)) (now (midi .entry)) (now (serial .entry)) (now (device .entry)))) (lent (shown (dynamic .entry) (sram .entry) (page .entry)) (now (reply .entry)) (now (config .entry)) (now (receive .entry)) (now (cables .entry)) (now (received .entry)) (now (sending .entry))) r (own (now (setups .exit)) (now (midi .exit)) (now (serial .exit)) (now (device .exit))) (lent (shown (dynamic .exit) (sram .exit) (page .exit)) (now (reply .exit)) (now (config .exit)) (now (receive .exit)) (now (cables .exit)) (now (received .exit)) (now (sending .entry))) ⌝ }
 {
     let spans = c.spans;
     let fresh = unanswered(s);
     let number = microframe_number(
         fresh,
         spans,
-        p,
+        packers,
         &*setups,
         &*dynamic,
         &*sram,
@@ -592,6 +629,7 @@ pub fn run_microframe(
         &*reply,
         &*config,
         &*receive,
+        &*cables,
         &*received,
         sending,
     );
@@ -614,6 +652,7 @@ pub fn run_microframe(
         reply,
         config,
         receive,
+        cables,
         received,
         sending,
         time,
@@ -628,13 +667,13 @@ pub fn run_microframe(
 pub fn take_frame(
     s: State,
     spans: usize,
-    p: Packer,
+    packers: [Packer; CABLES],
     setups: &[u8; SETUP_BYTES],
     received: &[u32],
 ) -> TakenFrame
-    ensures { λ r. ⌜ TakePromise s spans p (now (setups .entry)) (now (received .entry)) r ⌝ }
+    ensures { λ r. ⌜ TakePromise s spans packers (now (setups .entry)) (now (received .entry)) r ⌝ }
 {
-    let number = take_number(s, spans, p, setups, received);
+    let number = take_number(s, spans, packers, setups, received);
     if number != 0 {
         return no_frame(number, false, s);
     }
@@ -661,16 +700,16 @@ pub fn take_frame(
 fn access_number(
     s: State,
     spans: usize,
-    p: Packer,
+    packers: [Packer; CABLES],
     setups: &[u8; SETUP_BYTES],
     page: &[u8],
     off: u32,
     size: u32,
 ) -> u8
-    ensures { λ r. do ⌜ r ≡ accessNumber (bare s spans p (now (setups .entry))) (length (now (page .entry))) off size ⌝ }
+    ensures { λ r. do ⌜ r ≡ accessNumber (bare s spans packers (now (setups .entry))) (length (now (page .entry))) off size ⌝ }
 {
     let seen = usbdev::read(page, off, size);
-    let five = first_of(bounds::in_bounds(s, p, setups), 0, 5);
+    let five = first_of(bounds::in_bounds(s, packers, setups), 0, 5);
     let four = first_of(seen.refusal == 0, five, 4);
     let three = first_of(spans <= 16, four, 3);
     first_of(page.len() == bus::PAGE, three, 1)
@@ -680,15 +719,15 @@ fn access_number(
 pub fn read_device(
     s: State,
     spans: usize,
-    p: Packer,
+    packers: [Packer; CABLES],
     setups: &[u8; SETUP_BYTES],
     page: &[u8],
     off: u32,
     size: u32,
 ) -> Value
-    ensures { λ r. ⌜ ReadPromise s spans p (now (setups .entry)) (now (page .entry)) off size r ⌝ }
+    ensures { λ r. ⌜ ReadPromise s spans packers (now (setups .entry)) (now (page .entry)) off size r ⌝ }
 {
-    let number = access_number(s, spans, p, setups, page, off, size);
+    let number = access_number(s, spans, packers, setups, page, off, size);
     if number != 0 {
         return Value {
             refusal: number,
@@ -702,16 +741,16 @@ pub fn read_device(
 pub fn write_device(
     s: State,
     spans: usize,
-    p: Packer,
+    packers: [Packer; CABLES],
     setups: &[u8; SETUP_BYTES],
     page: &mut [u8],
     off: u32,
     size: u32,
     v: u32,
 ) -> Stored
-    ensures { λ r. ⌜ WritePromise s spans p (now (setups .entry)) (now (page .entry)) off size v r (now (page .exit)) ⌝ }
+    ensures { λ r. ⌜ WritePromise s spans packers (now (setups .entry)) (now (page .entry)) off size v r (now (page .exit)) ⌝ }
 {
-    let number = access_number(s, spans, p, setups, &*page, off, size);
+    let number = access_number(s, spans, packers, setups, &*page, off, size);
     if number != 0 {
         return Stored {
             refusal: number,
@@ -823,12 +862,12 @@ impl Host {
         ensures { λ r. ⌜ r ≡ hostWith self s ⌝ }
     {
         let settings = self.settings;
-        let packer = self.packer;
+        let packers = self.packers;
         let setups = self.setups;
         let midi = self.midi;
         let serial = self.serial;
         let device = self.device;
-        host_of(s, settings, packer, setups, midi, serial, device)
+        host_of(s, settings, packers, setups, midi, serial, device)
     }
 
     // One microframe of 125 microseconds at a time.
@@ -841,14 +880,15 @@ impl Host {
         reply: &mut [u8],
         config: &mut [u8],
         receive: &mut [u8],
+        cables: &mut [u8],
         received: &mut [u32],
         sending: &[u32],
     ) -> Framed
-        ensures { λ r. ⌜ (r ≡ frameAnswer time self (lent (shown (dynamic .entry) (sram .entry) (page .entry)) (now (reply .entry)) (now (config .entry)) (now (receive .entry)) (now (received .entry)) (now (sending .entry)))) × (lent (shown (dynamic .exit) (sram .exit) (page .exit)) (now (reply .exit)) (now (config .exit)) (now (receive .exit)) (now (received .exit)) (now (sending .entry)) ≡ framed time self (lent (shown (dynamic .entry) (sram .entry) (page .entry)) (now (reply .entry)) (now (config .entry)) (now (receive .entry)) (now (received .entry)) (now (sending .entry))) .lent) ⌝ }
+        ensures { λ r. ⌜ (r ≡ frameAnswer time self (lent (shown (dynamic .entry) (sram .entry) (page .entry)) (now (reply .entry)) (now (config .entry)) (now (receive .entry)) (now (cables .entry)) (now (received .entry)) (now (sending .entry)))) × (lent (shown (dynamic .exit) (sram .exit) (page .exit)) (now (reply .exit)) (now (config .exit)) (now (receive .exit)) (now (cables .exit)) (now (received .exit)) (now (sending .entry)) ≡ framed time self (lent (shown (dynamic .entry) (sram .entry) (page .entry)) (now (reply .entry)) (now (config .entry)) (now (receive .entry)) (now (cables .entry)) (now (received .entry)) (now (sending .entry))) .lent) ⌝ }
     {
         let s = self.state();
         let settings = self.settings;
-        let p = self.packer;
+        let packers = self.packers;
         let mut setups = self.setups;
         let mut midi = self.midi;
         let mut serial = self.serial;
@@ -856,7 +896,7 @@ impl Host {
         let done = run_microframe(
             s,
             settings,
-            p,
+            packers,
             &mut setups,
             &mut midi,
             &mut serial,
@@ -867,6 +907,7 @@ impl Host {
             reply,
             config,
             receive,
+            cables,
             received,
             sending,
             time,
@@ -878,28 +919,28 @@ impl Host {
             received: answer.received,
             dropped: answer.dropped,
             retired: answer.retired,
-            host: host_of(state, settings, p, setups, midi, serial, device),
+            host: host_of(state, settings, packers, setups, midi, serial, device),
         }
     }
 
-    // Sends MIDI bytes to the device.
-    pub fn midi_send(self, bytes: &[u8]) -> Sent
-        ensures { λ r. ⌜ r ≡ midiSent self (now (bytes .entry)) ⌝ }
+    // Sends MIDI bytes to the device on a cable.
+    pub fn midi_send(self, cable: u8, bytes: &[u8]) -> Sent
+        ensures { λ r. ⌜ r ≡ midiSent self cable (now (bytes .entry)) ⌝ }
     {
         let s = self.state();
         let settings = self.settings;
         let spans = settings.spans;
-        let p = self.packer;
+        let packers = self.packers;
         let setups = self.setups;
         let mut midi = self.midi;
         let serial = self.serial;
         let device = self.device;
-        let done = send_midi(s, spans, p, bytes, &setups, &mut midi);
+        let done = send_midi(s, spans, packers, cable, bytes, &setups, &mut midi);
         let state = done.state;
-        let packer = done.packer;
+        let fed = done.packers;
         Sent {
             refusal: done.refusal,
-            host: host_of(state, settings, packer, setups, midi, serial, device),
+            host: host_of(state, settings, fed, setups, midi, serial, device),
         }
     }
 
@@ -910,16 +951,16 @@ impl Host {
         let s = self.state();
         let settings = self.settings;
         let spans = settings.spans;
-        let p = self.packer;
+        let packers = self.packers;
         let setups = self.setups;
         let midi = self.midi;
         let mut serial = self.serial;
         let device = self.device;
-        let done = send_serial(s, spans, p, bytes, &setups, &mut serial);
+        let done = send_serial(s, spans, packers, bytes, &setups, &mut serial);
         let state = done.state;
         Sent {
             refusal: done.refusal,
-            host: host_of(state, settings, p, setups, midi, serial, device),
+            host: host_of(state, settings, packers, setups, midi, serial, device),
         }
     }
 
@@ -929,9 +970,9 @@ impl Host {
     {
         let s = self.state();
         let spans = self.settings.spans;
-        let p = self.packer;
+        let packers = self.packers;
         let setups = self.setups;
-        let done = give_frame(s, spans, p, frame, &setups, sending);
+        let done = give_frame(s, spans, packers, frame, &setups, sending);
         let state = done.state;
         Sent {
             refusal: done.refusal,
@@ -945,9 +986,9 @@ impl Host {
     {
         let s = self.state();
         let spans = self.settings.spans;
-        let p = self.packer;
+        let packers = self.packers;
         let setups = self.setups;
-        let done = take_frame(s, spans, p, &setups, received);
+        let done = take_frame(s, spans, packers, &setups, received);
         let frame = done.frame;
         let state = done.state;
         Taken {
@@ -964,9 +1005,9 @@ impl Host {
     {
         let s = self.state();
         let spans = self.settings.spans;
-        let p = self.packer;
+        let packers = self.packers;
         let setups = self.setups;
-        let seen = read_device(s, spans, p, &setups, page, off, size);
+        let seen = read_device(s, spans, packers, &setups, page, off, size);
         Read {
             refusal: seen.refusal,
             value: seen.value,
@@ -980,9 +1021,9 @@ impl Host {
     {
         let s = self.state();
         let spans = self.settings.spans;
-        let p = self.packer;
+        let packers = self.packers;
         let setups = self.setups;
-        let done = write_device(s, spans, p, &setups, page, off, size, v);
+        let done = write_device(s, spans, packers, &setups, page, off, size, v);
         let state = done.state;
         Sent {
             refusal: done.refusal,

@@ -35,10 +35,10 @@ returns : tie.Need-returns
 unfolding accessNumber reading refusal
 returns c =
     let a = c .before .before .before .before .before .before .before .before .args in
-    let bounded = same-bounds (a .s) (withSpans noSettings (a .spans)) (a .p) (own (a .setups .now) [] [] []) in
+    let bounded = same-bounds (a .s) (withSpans noSettings (a .spans)) (a .packers) (own (a .setups .now) [] [] []) in
     let n = length (a .page .now) in
     rw (c .first-of4 .ensures, c .before .first-of3 .ensures, c .before .before .first-of2 .ensures, c .before .before .before .before .first-of .ensures, c .before .before .before .before .before .in-bounds .ensures, c .before .before .before .before .before .before .read .ensures, bounded)
-    (access-by (eqb n 4096) (leb (a .spans) 16) (fits (a .off) (a .size)) (inBounds (a .s) (a .p) (a .setups .now)))
+    (access-by (eqb n 4096) (leb (a .spans) 16) (fits (a .off) (a .size)) (inBounds (a .s) (a .packers) (a .setups .now)))
 
 pub access-number-spec : {M : Type 1} → statement M
 access-number-spec =

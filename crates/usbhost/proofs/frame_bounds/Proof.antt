@@ -20,7 +20,7 @@ ring-ok-requires-2 c κs = search needs
 returns : tie.Need-returns
 returns c settings o =
     let a = c .before .before .before .before .before .before .args in
-    rw (c .ring-ok2 .ensures, c .before .ring-ok .ensures, c .before .before .areas-ok .ensures, c .before .before .before .in-bounds .ensures) (frame-bounds (a .s) settings (a .p) (ownSetups o (a .setups .now)) (a .reply) (a .config) (a .sending))
+    rw (c .ring-ok2 .ensures, c .before .ring-ok .ensures, c .before .before .areas-ok .ensures, c .before .before .before .in-bounds .ensures) (frame-bounds (a .s) settings (a .packers) (ownSetups o (a .setups .now)) (a .reply) (a .config) (a .sending))
 
 pub frame-bounds-spec : {M : Type 1} → statement M
 frame-bounds-spec =

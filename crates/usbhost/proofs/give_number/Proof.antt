@@ -34,7 +34,7 @@ returns : tie.Need-returns
 unfolding giveNumber
 returns c =
     let a = c .before .before .before .before .before .before .before .before .before .before .before .args in
-    let bounded = same-bounds (a .s) (withSpans noSettings (a .spans)) (a .p) (own (a .setups .now) [] [] []) in
+    let bounded = same-bounds (a .s) (withSpans noSettings (a .spans)) (a .packers) (own (a .setups .now) [] [] []) in
     let inside = c .before .before .before .before .ring-ok .ensures in
     rw (c .first-of4 .ensures, c .before .sending-length .ensures, c .before .before .first-of3 .ensures, c .before .before .before .first-of2 .ensures, inside, c .before .before .before .before .before .in-bounds .ensures, c .before .before .before .before .before .before .first-of .ensures, bounded)
 

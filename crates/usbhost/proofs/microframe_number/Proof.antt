@@ -24,7 +24,7 @@ frame-number-requires c κs = search needs
 returns : tie.Need-returns
 unfolding frameNumber
 returns c =
-    let a = c .before .before .before .before .before .before .before .before .before .before .before .before .before .args in
+    let a = c .before .before .before .before .before .before .before .before .before .before .before .before .before .before .args in
     rw (c .frame-number .ensures, c .before .before .frame-bounds .ensures (withSpans noSettings (a .spans)) (own [] [] [] []), c .before .before .before .lengths-ok .ensures, c .before .before .before .before .sized .ensures) refl
 
 pub microframe-number-spec : {M : Type 1} → statement M

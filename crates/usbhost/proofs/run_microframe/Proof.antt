@@ -33,18 +33,18 @@ same-length-6 c = search needs
 same-length-7 : tie.Need-same-length-7
 same-length-7 c = search needs
 
+same-length-8 : tie.Need-same-length-8
+same-length-8 c = search needs
+
 returns : tie.Need-returns
 returns c =
-    let a = c .before .before .before .before .before .before .before .before .before .before .before .before .before .before .before .before .before .before .before .args in
-    parts-stop (a .time) (a .s) (a .c) (a .p) (own (a .setups .now) (a .midi .now) (a .serial .now) (a .device .now)) (lent (memory (a .dynamic .now) (a .sram .now) (a .page .now)) (a .reply .now) (a .config .now) (a .receive .now) (a .received .now) (a .sending .now)) (c .before .before .before .before .before .before .before .before .before .before .unanswered .ensures) (c .before .microframe-number .ensures) (c .if1 .taken)
+    let a = c .before .before .before .before .before .before .before .before .before .before .before .before .before .before .before .before .before .before .before .before .before .args in
+    parts-stop (a .time) (a .s) (a .c) (a .packers) (own (a .setups .now) (a .midi .now) (a .serial .now) (a .device .now)) (lent (memory (a .dynamic .now) (a .sram .now) (a .page .now)) (a .reply .now) (a .config .now) (a .receive .now) (a .cables .now) (a .received .now) (a .sending .now)) (c .before .before .before .before .before .before .before .before .before .before .before .unanswered .ensures) (c .before .microframe-number .ensures) (c .if1 .taken)
 
 microframe-requires : tie.Need-microframe-requires
 microframe-requires c κs =
-    let a = c .before .before .before .before .before .before .before .before .before .before .before .before .before .before .before .before .before .before .before .before .before .before .before .before .before .before .before .before .before .before .args in
-    parts-ask (a .time) (a .s) (a .c) (a .p) (own (a .setups .now) (a .midi .now) (a .serial .now) (a .device .now)) (lent (memory (a .dynamic .now) (a .sram .now) (a .page .now)) (a .reply .now) (a .config .now) (a .receive .now) (a .received .now) (a .sending .now)) (c .before .before .before .before .before .before .before .before .before .before .before .before .before .before .before .before .before .before .before .before .before .unanswered .ensures) (c .before .before .before .before .before .before .before .before .before .before .before .before .microframe-number .ensures) (c .before .before .before .before .before .before .before .before .before .before .before .if1 .left)
-
-same-length-8 : tie.Need-same-length-8
-same-length-8 c = search needs
+    let a = c .before .before .before .before .before .before .before .before .before .before .before .before .before .before .before .before .before .before .before .before .before .before .before .before .before .before .before .before .before .before .before .before .before .args in
+    parts-ask (a .time) (a .s) (a .c) (a .packers) (own (a .setups .now) (a .midi .now) (a .serial .now) (a .device .now)) (lent (memory (a .dynamic .now) (a .sram .now) (a .page .now)) (a .reply .now) (a .config .now) (a .receive .now) (a .cables .now) (a .received .now) (a .sending .now)) (c .before .before .before .before .before .before .before .before .before .before .before .before .before .before .before .before .before .before .before .before .before .before .before .unanswered .ensures) (c .before .before .before .before .before .before .before .before .before .before .before .before .before .microframe-number .ensures) (c .before .before .before .before .before .before .before .before .before .before .before .before .if1 .left)
 
 same-length-9 : tie.Need-same-length-9
 same-length-9 c = search needs
@@ -64,10 +64,16 @@ same-length-13 c = search needs
 same-length-14 : tie.Need-same-length-14
 same-length-14 c = search needs
 
+same-length-15 : tie.Need-same-length-15
+same-length-15 c = search needs
+
+same-length-16 : tie.Need-same-length-16
+same-length-16 c = search needs
+
 returns-2 : tie.Need-returns-2
 returns-2 c =
-    let a = c .before .before .before .before .before .before .before .before .before .before .before .before .before .before .before .before .before .before .before .before .before .before .before .before .before .before .before .before .before .before .before .before .before .before .before .before .before .before .before .before .before .before .before .before .before .args in
-    parts-go (a .time) (a .s) (a .c) (a .p) (own (a .setups .now) (a .midi .now) (a .serial .now) (a .device .now)) (lent (memory (a .dynamic .now) (a .sram .now) (a .page .now)) (a .reply .now) (a .config .now) (a .receive .now) (a .received .now) (a .sending .now)) (c .before .before .before .before .before .before .before .before .before .before .before .before .before .before .before .before .before .before .before .before .before .before .before .before .before .before .before .before .before .before .before .before .before .before .before .before .unanswered .ensures) (c .before .before .before .before .before .before .before .before .before .before .before .before .before .before .before .before .before .before .before .before .before .before .before .before .before .before .before .microframe-number .ensures) (c .before .before .before .before .before .before .before .before .before .before .before .before .before .before .before .before .before .before .before .before .before .before .before .before .before .before .if1 .left) _ _ _ (c .before .before .before .before .before .before .before .before .before .before .before .before .before .before .microframe .ensures)
+    let a = c .before .before .before .before .before .before .before .before .before .before .before .before .before .before .before .before .before .before .before .before .before .before .before .before .before .before .before .before .before .before .before .before .before .before .before .before .before .before .before .before .before .before .before .before .before .before .before .before .before .before .args in
+    parts-go (a .time) (a .s) (a .c) (a .packers) (own (a .setups .now) (a .midi .now) (a .serial .now) (a .device .now)) (lent (memory (a .dynamic .now) (a .sram .now) (a .page .now)) (a .reply .now) (a .config .now) (a .receive .now) (a .cables .now) (a .received .now) (a .sending .now)) (c .before .before .before .before .before .before .before .before .before .before .before .before .before .before .before .before .before .before .before .before .before .before .before .before .before .before .before .before .before .before .before .before .before .before .before .before .before .before .before .before .unanswered .ensures) (c .before .before .before .before .before .before .before .before .before .before .before .before .before .before .before .before .before .before .before .before .before .before .before .before .before .before .before .before .before .before .microframe-number .ensures) (c .before .before .before .before .before .before .before .before .before .before .before .before .before .before .before .before .before .before .before .before .before .before .before .before .before .before .before .before .before .if1 .left) _ _ _ (c .before .before .before .before .before .before .before .before .before .before .before .before .before .before .before .before .microframe .ensures)
 
 pub run-microframe-spec : {M : Type 1} → statement M
 run-microframe-spec =
@@ -82,13 +88,15 @@ run-microframe-spec =
     same-length-5
     same-length-6
     same-length-7
+    same-length-8
     returns
     microframe-requires
-    same-length-8
     same-length-9
     same-length-10
     same-length-11
     same-length-12
     same-length-13
     same-length-14
+    same-length-15
+    same-length-16
     returns-2)

@@ -16,7 +16,7 @@ host-of-requires c κs = search needs
 returns : tie.Need-returns
 returns c =
     let a = c .before .before .before .before .before .before .before .before .before .before .before .before .before .before .args in
-    midi-entry (a .self) (c .before .before .before .before .before .before .before .before .before .before .before .before .state .ensures) (a .bytes .now) (c .before .before .before .send-midi .result) _ (c .before .before .before .send-midi .ensures) (c .host-of .ensures)
+    midi-entry (a .self) (c .before .before .before .before .before .before .before .before .before .before .before .before .state .ensures) (a .cable) (a .bytes .now) (c .before .before .before .send-midi .result) _ (c .before .before .before .send-midi .ensures) (c .host-of .ensures)
 
 pub midi-send-spec : {M : Type 1} → statement M
 midi-send-spec = tie.close (tie.spec state-requires send-midi-requires host-of-requires returns)
