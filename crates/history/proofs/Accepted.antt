@@ -34,7 +34,7 @@ unfolding inBounds creditOk
 small-bounded h e =
     let s = stateOf h in
     let e₁ = and-second (askedOk s (h .setups)) _ e in
-    let e₂ = and-second (heldOk s (h .packer)) _ e₁ in
+    let e₂ = and-second (heldOk s (h .packers)) _ e₁ in
     let counted = and-first _ (audioOk (h .audio)) e₂ in
     let c₁ = and-second (countsOk s) _ counted in
     let counters = and-first (countersOk (h .stats)) _ c₁ in

@@ -6,7 +6,7 @@ use mathlib.Core.Bool.{Bool, true, false, _&&_, _||_}
 use mathlib.Core.List.{List, [], _∷_}
 use native.Mathlib.Numerals.{add-one}
 use native.Mathlib.Omega.{arith}
-use borrow.Author.Tests.{eqb-true, lt-ltb, ltb-true}
+use borrow.Author.Tests.{eqb-true, lt-ltb, ltb-true, leb-true, leb-false, le-ltb}
 use lib.Dec.{eqb, leb, lit<}
 use lib.ListN.{length, replicate, length-replicate}
 use lib.Seq.{length-sets}
@@ -15,7 +15,7 @@ use Rattle.bits.proofs.Tests.{and-first, and-second}
 use Rattle.bus.specs.Memory.{memory}
 use Rattle.bus.specs.Sized.{isPower, isSized}
 use Rattle.usbdev.specs.Access.{fits, writeSized}
-use Rattle.midi.specs.Packer.{packetsOf}
+use Rattle.midi.specs.Packer.{isCable, packerAt, packetsOf}
 use Rattle.midi.proofs.Laws.{packets-size}
 use Rattle.config.specs.Config.{Bytes}
 use Rattle.record.specs.declared.Settings.{Settings}
@@ -23,7 +23,7 @@ use Rattle.record.specs.Sizes.{FRAMES, WORDS}
 use Rattle.record.specs.Change.{left}
 use Rattle.model.specs.Microframe as M
 use Rattle.record.specs.Record.{counterAt}
-use Rattle.bounds.specs.Bounds.{noneAbove, MOST, inBounds, setupsOk, allMade, noneAsks, enumeratingOk, requestOk, queuesOk, packerOk, countsOk, countersOk, creditOk, timersOk, timerOk, audioOk, ringOk, areasOk, receivedOk, sendingOk}
+use Rattle.bounds.specs.Bounds.{noneAbove, MOST, inBounds, setupsOk, allMade, noneAsks, enumeratingOk, requestOk, queuesOk, packerOk, eachPacker, countsOk, countersOk, creditOk, timersOk, timerOk, audioOk, ringOk, areasOk, receivedOk, sendingOk}
 use Rattle.kept.proofs.Shape.{Shape, shape-kept}
 use Rattle.kept.proofs.Rings.{sending-kept}
 use Rattle.kept.proofs.Setups.{Entry}
@@ -50,7 +50,7 @@ use Rattle.history.proofs.Input.{areas-right, input-right, right-input}
 pub refused-stays : (h : Host) (c : Call) → (numberOf h c ≡ 0 → ⊥) → step h c ≡ h
 unfolding step numberOf frameAnswer midiSent serialSent given takenFrame C.deviceRead deviceWritten
 refused-stays h (microframe t l) m = ap (λ (x : Framed). x .host) (frame-refused t h l m)
-refused-stays h (midiSend bs) m = midi-refused h bs m
+refused-stays h (midiSend cable bs) m = midi-refused h cable bs m
 refused-stays h (serialSend bs) m = serial-refused h bs m
 refused-stays h (frameGive f sending) m = give-refused h f sending m
 refused-stays h (frameTake received) m = ap (λ (x : Taken). x .host) (take-refused h received m)
@@ -73,7 +73,7 @@ record Sound (h : Host) : Type 0 where
 -- the configuration and the reply lie in any areas of the right lengths
 sound-areas : (h : Host) → Sound h → (reply config : ℕ) → 65535 ≤ reply → 65535 ≤ config → areasOk (stateOf h) reply config ≡ true
 sound-areas h s reply config long wide =
-    areas-fit (stateOf h) (h .packer) (h .setups) reply config (s .bounds) (s .second) (s .config) long wide
+    areas-fit (stateOf h) (h .packers) (h .setups) reply config (s .bounds) (s .second) (s .config) long wide
 
 -- ---- calls but the microframe
 
@@ -93,11 +93,11 @@ either : (t : Bool) (h next : Host) → Rests h next → Rests h (pick t next h)
 either true h next r = r
 either false h next r = same h
 
-midi-rests : (h : Host) (bs : List ℕ) → Rests h (midiSent h bs .host)
+midi-rests : (h : Host) (cable : ℕ) (bs : List ℕ) → Rests h (midiSent h cable bs .host)
 unfolding midiSent midiQueued
-midi-rests h bs =
-    either (eqb (midiNumber h bs) 0) h (midiQueued h bs)
-    (record { setups = refl; midi = length-sets (h .midi) (h .lengths .midi) (packetsOf 0 (h .packer) bs); serial = refl; config = refl; second = refl; uf = refl })
+midi-rests h cable bs =
+    either (eqb (midiNumber h cable bs) 0) h (midiQueued h cable bs)
+    (record { setups = refl; midi = length-sets (h .midi) (h .lengths .midi) (packetsOf cable (packerAt (h .packers) cable) bs); serial = refl; config = refl; second = refl; uf = refl })
 
 serial-rests : (h : Host) (bs : List ℕ) → Rests h (serialSent h bs .host)
 unfolding serialSent serialQueued
@@ -187,7 +187,7 @@ module _ (h : Host) (l : Lent) (s : Sound h) (b : BytesLent l) (a : Accepted h l
         sound =
             record {
               few = ap (λ (x : Shape). leb (x .settings .spans) 16) shape ∙ s .few;
-              bounds = same-bounds (v .state) (v .settings) (v .packer) (v .own) ∙ next .record-bounds;
+              bounds = same-bounds (v .state) (v .settings) (v .packers) (v .own) ∙ next .record-bounds;
               received = next .received;
               setups-length = z .arrays .setups ∙ s .setups-length;
               setups-bytes = z .setups-bytes;
@@ -212,7 +212,7 @@ sound-frame h l t s b =
 sound-step : (h : Host) → Sound h → (c : Call) → BytesCall c → After (framesOf c) h (step h c)
 unfolding step BytesCall framesOf C.deviceRead
 sound-step h s (microframe t l) b = sound-frame h l t s b
-sound-step h s (midiSend bs) b = sound-kept 0 h _ (midi-kept 0 h bs) (midi-rests h bs) s
+sound-step h s (midiSend cable bs) b = sound-kept 0 h _ (midi-kept 0 h cable bs) (midi-rests h cable bs) s
 sound-step h s (serialSend bs) b = sound-kept 0 h _ (serial-kept 0 h bs) (serial-rests h bs) s
 sound-step h s (frameGive f sending) b = sound-kept (length sending) h _ (give-kept h f sending) (give-rests h f sending) s
 sound-step h s (frameTake received) b = sound-kept 0 h _ (take-kept 0 h received) (take-rests h received) s
@@ -247,7 +247,7 @@ module _ (k : ℕ) (h : Host) (s : sendingOk (stateOf h) k ≡ true) where
   ring-step : (c : Call) → RingCall k c → sendingOk (stateOf (step h c)) k ≡ true
   unfolding step C.deviceRead
   ring-step (microframe t l) r = ring-frame t l r
-  ring-step (midiSend bs) r = midi-kept k h bs .sending s
+  ring-step (midiSend cable bs) r = midi-kept k h cable bs .sending s
   ring-step (serialSend bs) r = serial-kept k h bs .sending s
   ring-step (frameGive f sending) r = ring-give f sending r
   ring-step (frameTake received) r = take-kept k h received .sending s
@@ -262,6 +262,16 @@ lengths-first : (a b : Bool) (x y : ℕ) → (a ≡ true → b ≡ true → x �
 lengths-first true true x y f = f refl refl
 lengths-first true false x y f = refl
 lengths-first false b x y f = refl
+
+-- so does a cable
+eight-first : (b : Bool) (x : ℕ) → unless 8 b x ≡ pick (eqb (unless 8 b 0) 0) x (unless 8 b 0)
+eight-first true x = refl
+eight-first false x = refl
+
+-- the cables are those up to 15
+cable-fifteen : (cable : ℕ) → isCable cable ≡ leb cable 15
+cable-fifteen cable =
+    by-test (λ t. isCable cable ≡ t) (leb cable 15) (λ e. lt-ltb cable 16 (omega (arith, leb-true cable 15 e))) (λ e. le-ltb cable 16 (omega (arith, leb-false cable 15 e)))
 
 -- an access asks nothing of the state
 input-alone : (a b : Bool) → unless 1 a (unless 4 b 0) ≡ pick (eqb (unless 1 a (unless 4 b 0)) 0) 0 (unless 1 a (unless 4 b 0))
@@ -287,7 +297,11 @@ module _ (k : ℕ) (h : Host) (s : Sound h) (ring : sendingOk (stateOf h) k ≡ 
   number-due : (c : Call) → RingCall k c → numberOf h c ≡ dueNumber h c
   unfolding numberOf dueNumber inputNumber stateNumber RingCall midiNumber serialNumber giveNumber takeNumber
   number-due (microframe t l) r = frame-due t l r
-  number-due (midiSend bs) r = simp (s .few, s .bounds, packets-size 0 (h .packer) bs)
+  number-due (midiSend cable bs) r =
+      let sender = packerAt (h .packers) cable in
+      let room = leb (h .lengths .midi + length (packetsOf cable sender bs)) 4096 in
+      let own : midiNumber h cable bs ≡ unless 8 (leb cable 15) (unless 7 room 0) = simp (s .few, s .bounds, packets-size cable sender bs, cable-fifteen cable) in
+      own ∙ eight-first (leb cable 15) (unless 7 room 0)
   number-due (serialSend bs) r = simp (s .few, s .bounds)
   number-due (frameGive f sending) r =
       lengths-first true (sendingLength (length sending) && eqb (length f) WORDS) _ _ (λ e g. simp (s .few, s .bounds, r (input-right (frameGive f sending) (simp g)), ring, add-one))
@@ -367,7 +381,7 @@ seven-fine false = refl
 state-fine : (h : Host) (c : Call) → h .port .uf + framesOf c ≤ MOST → fine c (stateNumber h c) ≡ true
 unfolding fine stateNumber framesOf
 state-fine h (microframe t l) n = simp (lt-ltb (h .port .uf) MOST (omega arith))
-state-fine h (midiSend bs) n = seven-fine (leb (h .lengths .midi + length (packetsOf 0 (h .packer) bs)) 4096)
+state-fine h (midiSend cable bs) n = seven-fine (leb (h .lengths .midi + length (packetsOf cable (packerAt (h .packers) cable) bs)) 4096)
 state-fine h (serialSend bs) n = seven-fine (leb (h .lengths .serial + length bs) 4096)
 state-fine h (frameGive f sending) n = seven-fine (leb (h .audio .sending .len + 1) (length sending / 12))
 state-fine h (frameTake received) n = refl
@@ -402,32 +416,33 @@ accepts c k cs ring b r n =
 
 -- one length of the ring is asked for with reason: with eight frames in a ring of eight, one of seven frames is refused with 5
 pub other-ring : numberOf (after (newHost noSettings) (replicate 8 (frameGive (replicate 12 0) (replicate 96 0)))) (frameGive (replicate 12 0) (replicate 84 0)) ≡ 5
-unfolding numberOf after step given giveNumber frameGiven sendingLength newHost inBounds setupsOk allMade noneAsks enumeratingOk requestOk queuesOk packerOk countsOk countersOk noneAbove counterAt creditOk timersOk timerOk audioOk ringOk
+unfolding numberOf after step given giveNumber frameGiven sendingLength newHost inBounds setupsOk allMade noneAsks enumeratingOk requestOk queuesOk packerOk eachPacker countsOk countersOk noneAbove counterAt creditOk timersOk timerOk audioOk ringOk
 other-ring = refl
 
 -- ---- such areas can be had: zeros, of any right lengths
 
-unfoldable pub zeros : ℕ → ℕ → ℕ → ℕ → ℕ → ℕ → ℕ → ℕ → Lent
-zeros dynamic sram page reply config receive received sending =
+unfoldable pub zeros : ℕ → ℕ → ℕ → ℕ → ℕ → ℕ → ℕ → ℕ → ℕ → Lent
+zeros dynamic sram page reply config receive cables received sending =
     record {
       memory = memory (replicate dynamic 0) (replicate sram 0) (replicate page 0);
       reply = replicate reply 0;
       config = replicate config 0;
       receive = replicate receive 0;
+      cables = replicate cables 0;
       received = replicate received 0;
       sending = replicate sending 0;
     }
 
-zeros-right : (d m p a b c e k : ℕ) → isPower d ≡ true → m ≡ 65536 → p ≡ 4096 → lengthsOk a b c e k ≡ true → RightAreas (zeros d m p a b c e k)
+zeros-right : (d m p a b c x e k : ℕ) → isPower d ≡ true → m ≡ 65536 → p ≡ 4096 → lengthsOk a b c x e k ≡ true → RightAreas (zeros d m p a b c x e k)
 unfolding zeros isSized
-zeros-right d m p a b c e k power static page areas =
-    areas-right (zeros d m p a b c e k) (simp (length-replicate {A = ℕ}, power, static, page)) (simp (length-replicate {A = ℕ}, areas))
+zeros-right d m p a b c x e k power static page areas =
+    areas-right (zeros d m p a b c x e k) (simp (length-replicate {A = ℕ}, power, static, page)) (simp (length-replicate {A = ℕ}, areas))
 
-pub zeros-bytes : (d m p a b c e k : ℕ) → BytesLent (zeros d m p a b c e k)
+pub zeros-bytes : (d m p a b c x e k : ℕ) → BytesLent (zeros d m p a b c x e k)
 unfolding zeros
-zeros-bytes d m p a b c e k = record { dynamic = zero-bytes d; sram = zero-bytes m; page = zero-bytes p; reply = zero-bytes a }
+zeros-bytes d m p a b c x e k = record { dynamic = zero-bytes d; sram = zero-bytes m; page = zero-bytes p; reply = zero-bytes a }
 
 -- the shortest
-pub shortest-right : RightAreas (zeros 4096 65536 4096 65535 65535 196608 576000 84)
+pub shortest-right : RightAreas (zeros 4096 65536 4096 65535 65535 196608 196608 576000 84)
 unfolding isPower lengthsOk sendingLength
-shortest-right = zeros-right 4096 65536 4096 65535 65535 196608 576000 84 refl refl refl refl
+shortest-right = zeros-right 4096 65536 4096 65535 65535 196608 196608 576000 84 refl refl refl refl

@@ -90,11 +90,11 @@ new-met = New·proof.met
 -- ---- `microframe`
 
 -- what it is lent
-abbrev pub microframeLent : (κs : Lfts 8) → Dens κs Microframe.ps → Lent
+abbrev pub microframeLent : (κs : Lfts 9) → Dens κs Microframe.ps → Lent
 microframeLent κs a =
-    lent (memory (a .1 .1 .0 .now) (a .1 .1 .1 .0 .now) (a .1 .1 .1 .1 .0 .now)) (a .1 .1 .1 .1 .1 .0 .now) (a .1 .1 .1 .1 .1 .1 .0 .now) (a .1 .1 .1 .1 .1 .1 .1 .0 .now) (a .1 .1 .1 .1 .1 .1 .1 .1 .0 .now) (a .1 .1 .1 .1 .1 .1 .1 .1 .1 .0 .now)
+    lent (memory (a .1 .1 .0 .now) (a .1 .1 .1 .0 .now) (a .1 .1 .1 .1 .0 .now)) (a .1 .1 .1 .1 .1 .0 .now) (a .1 .1 .1 .1 .1 .1 .0 .now) (a .1 .1 .1 .1 .1 .1 .1 .0 .now) (a .1 .1 .1 .1 .1 .1 .1 .1 .0 .now) (a .1 .1 .1 .1 .1 .1 .1 .1 .1 .0 .now) (a .1 .1 .1 .1 .1 .1 .1 .1 .1 .1 .0 .now)
 
-pub microframe-follows : (κs : Lfts 8) (a : Dens κs Microframe.ps) (r : resT Microframe.r κs .Denot) (s : AtExit (endedOf 8 Microframe.ps Microframe.r) κs)
+pub microframe-follows : (κs : Lfts 9) (a : Dens κs Microframe.ps) (r : resT Microframe.r κs .Denot) (s : AtExit (endedOf 9 Microframe.ps Microframe.r) κs)
     → Microframe·contract.Post κs a r s
     → Follows (a .0) (microframe (a .1 .0) (microframeLent κs a)) (r .refusal) (r .host)
 unfolding step numberOf frameAnswer
@@ -106,12 +106,12 @@ microframe-met = Microframe·proof.met
 
 -- by the types of its slices the windows and the reply area hold bytes, and so the code meets the contract that ensures that too
 module _ {M : Type 1} (𝓤 : URA M) (H : Heap 𝓤) where
-  pub microframe-bytes : (A : Atoms 𝓤) (W : Given 𝓤 H A) (κs : Lfts 8) (qs : Shares 8) (a : Args Microframe·spec.signature κs)
-      → Tells 𝓤 H A 8 κs qs (typesAt (Microframe·spec.signature .params) κs) a (BytesLent (microframeLent κs a))
+  pub microframe-bytes : (A : Atoms 𝓤) (W : Given 𝓤 H A) (κs : Lfts 9) (qs : Shares 9) (a : Args Microframe·spec.signature κs)
+      → Tells 𝓤 H A 9 κs qs (typesAt (Microframe·spec.signature .params) κs) a (BytesLent (microframeLent κs a))
   microframe-bytes A W κs qs a =
       let Ts = typesAt (Microframe·spec.signature .params) κs in
-      later-tells 𝓤 H A W 8 κs qs 2 Ts a _
-      (lent-bytes 𝓤 H A W 8 κs qs 0 1 2 3 tt tt tt tt (typesFrom 6 Ts) (denotsFrom 2 Ts a) (a .1 .1 .1 .1 .1 .1 .0 .now) (a .1 .1 .1 .1 .1 .1 .1 .0 .now) (a .1 .1 .1 .1 .1 .1 .1 .1 .0 .now) (a .1 .1 .1 .1 .1 .1 .1 .1 .1 .0 .now))
+      later-tells 𝓤 H A W 9 κs qs 2 Ts a _
+      (lent-bytes 𝓤 H A W 9 κs qs 0 1 2 3 tt tt tt tt (typesFrom 6 Ts) (denotsFrom 2 Ts a) (a .1 .1 .1 .1 .1 .1 .0 .now) (a .1 .1 .1 .1 .1 .1 .1 .0 .now) (a .1 .1 .1 .1 .1 .1 .1 .1 .0 .now) (a .1 .1 .1 .1 .1 .1 .1 .1 .1 .0 .now) (a .1 .1 .1 .1 .1 .1 .1 .1 .1 .1 .0 .now))
 
   pub microframe-met-bytes : (𝓜 : Model 𝓤 H) (𝓖 : GhostRules 𝓤 H) (𝓡 : Running 𝓤 H 𝓜)
       → Meets 𝓤 H (𝓖 .A) Microframe·spec.signature (𝓡 .run Microframe·symbol.routine) (also Microframe·spec.signature (Microframe·spec.spec 𝓤 H (𝓖 .A) (𝓜 .mem) (𝓡 .run)) (λ κs a. BytesLent (microframeLent κs a)))
@@ -121,21 +121,21 @@ module _ {M : Type 1} (𝓤 : URA M) (H : Heap 𝓤) where
 
 -- ---- `thin::microframe`, on the record behind a reference
 
-abbrev pub thinLent : (κs : Lfts 9) → Args Thin·spec.signature κs → Lent
+abbrev pub thinLent : (κs : Lfts 10) → Args Thin·spec.signature κs → Lent
 thinLent κs a =
-    lent (memory (a .1 .1 .0 .now) (a .1 .1 .1 .0 .now) (a .1 .1 .1 .1 .0 .now)) (a .1 .1 .1 .1 .1 .0 .now) (a .1 .1 .1 .1 .1 .1 .0 .now) (a .1 .1 .1 .1 .1 .1 .1 .0 .now) (a .1 .1 .1 .1 .1 .1 .1 .1 .0 .now) (a .1 .1 .1 .1 .1 .1 .1 .1 .1 .0 .now)
+    lent (memory (a .1 .1 .0 .now) (a .1 .1 .1 .0 .now) (a .1 .1 .1 .1 .0 .now)) (a .1 .1 .1 .1 .1 .0 .now) (a .1 .1 .1 .1 .1 .1 .0 .now) (a .1 .1 .1 .1 .1 .1 .1 .0 .now) (a .1 .1 .1 .1 .1 .1 .1 .1 .0 .now) (a .1 .1 .1 .1 .1 .1 .1 .1 .1 .0 .now) (a .1 .1 .1 .1 .1 .1 .1 .1 .1 .1 .0 .now)
 
 -- its clause, as `Post` has it of the others: a proof that is a walk by hand has no such reading
-abbrev pub ThinPost : (κs : Lfts 9) → Args Thin·spec.signature κs → Res Thin·spec.signature κs → AtExit Thin·spec.ended κs → Type 0
+abbrev pub ThinPost : (κs : Lfts 10) → Args Thin·spec.signature κs → Res Thin·spec.signature κs → AtExit Thin·spec.ended κs → Type 0
 ThinPost κs a r s =
     (answered r (s .0 .now) ≡ frameAnswer (a .1 .0) (a .0 .now) (thinLent κs a))
-    × (lent (memory (s .1 .1 .0 .now) (s .1 .1 .1 .0 .now) (s .1 .1 .1 .1 .0 .now)) (s .1 .1 .1 .1 .1 .0 .now) (s .1 .1 .1 .1 .1 .1 .0 .now) (s .1 .1 .1 .1 .1 .1 .1 .0 .now) (s .1 .1 .1 .1 .1 .1 .1 .1 .0 .now) (a .1 .1 .1 .1 .1 .1 .1 .1 .1 .0 .now) ≡ framed (a .1 .0) (a .0 .now) (thinLent κs a) .lent)
+    × (lent (memory (s .1 .1 .0 .now) (s .1 .1 .1 .0 .now) (s .1 .1 .1 .1 .0 .now)) (s .1 .1 .1 .1 .1 .0 .now) (s .1 .1 .1 .1 .1 .1 .0 .now) (s .1 .1 .1 .1 .1 .1 .1 .0 .now) (s .1 .1 .1 .1 .1 .1 .1 .1 .0 .now) (s .1 .1 .1 .1 .1 .1 .1 .1 .1 .0 .now) (a .1 .1 .1 .1 .1 .1 .1 .1 .1 .1 .0 .now) ≡ framed (a .1 .0) (a .0 .now) (thinLent κs a) .lent)
 
-pub thin-ensures : {M : Type 1} (𝓤 : URA M) (H : Heap 𝓤) (A : Atoms 𝓤) (mem : Memory → SProp 𝓤) (run : Routine → Fun 𝓤) (κs : Lfts 9) (a : Args Thin·spec.signature κs) (r : Res Thin·spec.signature κs) (s : AtExit Thin·spec.ended κs)
+pub thin-ensures : {M : Type 1} (𝓤 : URA M) (H : Heap 𝓤) (A : Atoms 𝓤) (mem : Memory → SProp 𝓤) (run : Routine → Fun 𝓤) (κs : Lfts 10) (a : Args Thin·spec.signature κs) (r : Res Thin·spec.signature κs) (s : AtExit Thin·spec.ended κs)
     → Thin·spec.clauses 𝓤 H A mem run κs a .ensures tt r s ≡ fact 𝓤 (ThinPost κs a r s)
 thin-ensures 𝓤 H A mem run κs a r s = refl
 
-pub thin-follows : (κs : Lfts 9) (a : Args Thin·spec.signature κs) (r : Res Thin·spec.signature κs) (s : AtExit Thin·spec.ended κs)
+pub thin-follows : (κs : Lfts 10) (a : Args Thin·spec.signature κs) (r : Res Thin·spec.signature κs) (s : AtExit Thin·spec.ended κs)
     → ThinPost κs a r s
     → Follows (a .0 .now) (microframe (a .1 .0) (thinLent κs a)) (r .refusal) (s .0 .now)
 unfolding step numberOf frameAnswer
@@ -147,12 +147,12 @@ thin-met = Thin·proof.met
 
 -- by the types of its slices the windows and the reply area hold bytes, and so the code meets the contract that ensures that too
 module _ {M : Type 1} (𝓤 : URA M) (H : Heap 𝓤) where
-  pub thin-bytes : (A : Atoms 𝓤) (W : Given 𝓤 H A) (κs : Lfts 9) (qs : Shares 9) (a : Args Thin·spec.signature κs)
-      → Tells 𝓤 H A 9 κs qs (typesAt (Thin·spec.signature .params) κs) a (BytesLent (thinLent κs a))
+  pub thin-bytes : (A : Atoms 𝓤) (W : Given 𝓤 H A) (κs : Lfts 10) (qs : Shares 10) (a : Args Thin·spec.signature κs)
+      → Tells 𝓤 H A 10 κs qs (typesAt (Thin·spec.signature .params) κs) a (BytesLent (thinLent κs a))
   thin-bytes A W κs qs a =
       let Ts = typesAt (Thin·spec.signature .params) κs in
-      later-tells 𝓤 H A W 9 κs qs 2 Ts a _
-      (lent-bytes 𝓤 H A W 9 κs qs 1 2 3 4 tt tt tt tt (typesFrom 6 Ts) (denotsFrom 2 Ts a) (a .1 .1 .1 .1 .1 .1 .0 .now) (a .1 .1 .1 .1 .1 .1 .1 .0 .now) (a .1 .1 .1 .1 .1 .1 .1 .1 .0 .now) (a .1 .1 .1 .1 .1 .1 .1 .1 .1 .0 .now))
+      later-tells 𝓤 H A W 10 κs qs 2 Ts a _
+      (lent-bytes 𝓤 H A W 10 κs qs 1 2 3 4 tt tt tt tt (typesFrom 6 Ts) (denotsFrom 2 Ts a) (a .1 .1 .1 .1 .1 .1 .0 .now) (a .1 .1 .1 .1 .1 .1 .1 .0 .now) (a .1 .1 .1 .1 .1 .1 .1 .1 .0 .now) (a .1 .1 .1 .1 .1 .1 .1 .1 .1 .0 .now) (a .1 .1 .1 .1 .1 .1 .1 .1 .1 .1 .0 .now))
 
   pub thin-met-bytes : (𝓜 : Model 𝓤 H) (𝓖 : GhostRules 𝓤 H) (𝓡 : Running 𝓤 H 𝓜)
       → Meets 𝓤 H (𝓖 .A) Thin·spec.signature (𝓡 .run Thin·symbol.routine) (also Thin·spec.signature (Thin·spec.spec 𝓤 H (𝓖 .A) (𝓜 .mem) (𝓡 .run)) (λ κs a. BytesLent (thinLent κs a)))
@@ -164,7 +164,7 @@ module _ {M : Type 1} (𝓤 : URA M) (H : Heap 𝓤) where
 
 pub midi-send-follows : (κs : Lfts 1) (a : Dens κs MidiSend.ps) (r : resT MidiSend.r κs .Denot) (s : AtExit (endedOf 1 MidiSend.ps MidiSend.r) κs)
     → MidiSend·contract.Post κs a r s
-    → Follows (a .0) (midiSend (a .1 .0 .now)) (r .refusal) (r .host)
+    → Follows (a .0) (midiSend (a .1 .0) (a .1 .1 .0 .now)) (r .refusal) (r .host)
 unfolding step numberOf midiSent
 midi-send-follows κs a r s p =
     record { answers = ap (λ (x : Sent). x .refusal) (p); leaves = ap (λ (x : Sent). x .host) (p) }

@@ -126,7 +126,7 @@ same-credit false p q = q
 pub balanced-step : (h : Host) (g : Sums) (c : Call) → Balanced h g → Balanced (step h c) (summed h g c)
 unfolding step summed midiSent serialSent given takenFrame deviceWritten midiQueued serialQueued frameGiven frameTaken withFlag C.deviceRead
 balanced-step h g (microframe t l) b = balanced-frame h g t l b
-balanced-step h g (midiSend bs) b = same-credit (eqb (midiNumber h bs) 0) (record { balance = b .balance; sevens = b .sevens }) b
+balanced-step h g (midiSend cable bs) b = same-credit (eqb (midiNumber h cable bs) 0) (record { balance = b .balance; sevens = b .sevens }) b
 balanced-step h g (serialSend bs) b = same-credit (eqb (serialNumber h bs) 0) (record { balance = b .balance; sevens = b .sevens }) b
 balanced-step h g (frameGive f sending) b = same-credit (eqb (giveNumber h f sending) 0) (record { balance = b .balance; sevens = b .sevens }) b
 balanced-step h g (frameTake received) b = same-credit (holdsFrame h received) (record { balance = b .balance; sevens = b .sevens }) b

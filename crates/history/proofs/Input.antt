@@ -39,13 +39,15 @@ areas-right l w e =
     let e₁ = and-second (leb 65535 (length (l .reply))) _ e in
     let e₂ = and-second (leb 65535 (length (l .config))) _ e₁ in
     let e₃ = and-second (leb 196608 (length (l .receive))) _ e₂ in
+    let e₄ = and-second (leb 196608 (length (l .cables))) _ e₃ in
     record {
       windows = is-sized (l .memory) w;
       reply = leb-true 65535 (length (l .reply)) (and-first (leb 65535 (length (l .reply))) _ e);
       config = leb-true 65535 (length (l .config)) (and-first (leb 65535 (length (l .config))) _ e₁);
       receive = leb-true 196608 (length (l .receive)) (and-first (leb 196608 (length (l .receive))) _ e₂);
-      received = eqb-true (length (l .received)) (FRAMES * WORDS) (and-first (eqb (length (l .received)) (FRAMES * WORDS)) _ e₃);
-      sending = ring-right (length (l .sending)) (and-second (eqb (length (l .received)) (FRAMES * WORDS)) _ e₃);
+      cables = leb-true 196608 (length (l .cables)) (and-first (leb 196608 (length (l .cables))) _ e₃);
+      received = eqb-true (length (l .received)) (FRAMES * WORDS) (and-first (eqb (length (l .received)) (FRAMES * WORDS)) _ e₄);
+      sending = ring-right (length (l .sending)) (and-second (eqb (length (l .received)) (FRAMES * WORDS)) _ e₄);
     }
 
 right-areas : (l : Lent) → RightAreas l → areaLengths l ≡ true
@@ -54,7 +56,8 @@ right-areas l r =
     and-both _ _ (le-leb 65535 (length (l .reply)) (r .reply))
     (and-both _ _ (le-leb 65535 (length (l .config)) (r .config))
     (and-both _ _ (le-leb 196608 (length (l .receive)) (r .receive))
-    (and-both _ _ (eq-eqb (length (l .received)) (FRAMES * WORDS) (r .received)) (right-ring (length (l .sending)) (r .sending)))))
+    (and-both _ _ (le-leb 196608 (length (l .cables)) (r .cables))
+    (and-both _ _ (eq-eqb (length (l .received)) (FRAMES * WORDS) (r .received)) (right-ring (length (l .sending)) (r .sending))))))
 
 access-right : (off size : ℕ) → fits off size ≡ true → RightAccess off size
 unfolding fits
@@ -85,7 +88,7 @@ unfolding inputNumber RightInput
 input-right (microframe t l) e =
     let one = met 1 (isSized (l .memory)) (unless 2 (areaLengths l) 0) (omega arith) e in
     areas-right l (one .0) (met 2 (areaLengths l) 0 (omega arith) (one .1) .0)
-input-right (midiSend bs) e = tt
+input-right (midiSend cable bs) e = leb-true cable 15 (met 8 (leb cable 15) 0 (omega arith) e .0)
 input-right (serialSend bs) e = tt
 input-right (frameGive f sending) e =
     let both = met 2 _ 0 (omega arith) e .0 in
@@ -97,7 +100,7 @@ input-right (deviceWrite page off size v) e = page-right (length page) off size 
 pub right-input : (c : Call) → RightInput c → inputNumber c ≡ 0
 unfolding inputNumber RightInput
 right-input (microframe t l) r = simp (sized-is (l .memory) (r .windows), right-areas l r)
-right-input (midiSend bs) r = refl
+right-input (midiSend cable bs) r = simp (le-leb cable 15 r)
 right-input (serialSend bs) r = refl
 right-input (frameGive f sending) r = simp (right-ring (length sending) (r .0), eq-eqb (length f) WORDS (r .1))
 right-input (frameTake received) r = simp (eq-eqb (length received) (FRAMES * WORDS) r)

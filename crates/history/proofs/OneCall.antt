@@ -67,7 +67,7 @@ accepted-ring h l e =
     let r = and-first (receivedOk (stateOf h)) _ b₂ in
     let l₁ = and-second (leb 65535 (length (l .reply))) _ (a .lengths) in
     let l₂ = and-second (leb 65535 (length (l .config))) _ l₁ in
-    let l₃ = and-second (leb 196608 (length (l .receive))) _ l₂ in
+    let l₃ = and-second (leb 196608 (length (l .cables))) _ (and-second (leb 196608 (length (l .receive))) _ l₂) in
     record {
       room = eqb-true (length (l .received)) 576000 (and-first (eqb (length (l .received)) 576000) _ l₃);
       starts = ltb-true (h .audio .received .start) 48000 (and-first (ltb (h .audio .received .start) 48000) _ r);

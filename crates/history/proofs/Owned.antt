@@ -156,9 +156,9 @@ module _ {M : Type 1} (𝓤 : URA M) (H : Heap 𝓤) (A : Atoms 𝓤) (W : Given
   abbrev windows : List RattleType
   windows = u8s n κs d dₒ ∷ u8s n κs s sₒ ∷ u8s n κs p pₒ ∷ u8s n κs r rₒ ∷ Ts
 
-  pub lent-bytes : (a : Denots windows) (config receive received sending : List ℕ)
-      → Tells 𝓤 H A n κs qs windows a (BytesLent (lent (memory (a .0 .now) (a .1 .0 .now) (a .1 .1 .0 .now)) (a .1 .1 .1 .0 .now) config receive received sending))
-  lent-bytes a config receive received sending =
+  pub lent-bytes : (a : Denots windows) (config receive cables received sending : List ℕ)
+      → Tells 𝓤 H A n κs qs windows a (BytesLent (lent (memory (a .0 .now) (a .1 .0 .now) (a .1 .1 .0 .now)) (a .1 .1 .1 .0 .now) config receive cables received sending))
+  lent-bytes a config receive cables received sending =
       let w = fInt w8 in
       then-tells 𝓤 H A W n κs qs windows a
       (AllWT w (a .0 .now) × (AllWT w (a .1 .0 .now) × (AllWT w (a .1 .1 .0 .now) × AllWT w (a .1 .1 .1 .0 .now)))) _

@@ -82,7 +82,7 @@ module _ (h : Host) (t : ℕ) (l : Lent) (e : frameNumber h l ≡ 0) where
   unfolding boundsOk inBounds
   few-asleep =
       let e₁ = and-second (askedOk (stateOf h) (h .setups)) _ (and-first (bounded h) _ (accepted-tests h l e .bounds)) in
-      let e₂ = and-first (countedOk (stateOf h)) _ (and-second (heldOk (stateOf h) (h .packer)) _ e₁) in
+      let e₂ = and-first (countedOk (stateOf h)) _ (and-second (heldOk (stateOf h) (h .packers)) _ e₁) in
       let e₃ = and-first (countersOk (h .stats)) _ (and-second (countsOk (stateOf h)) _ e₂) in
       omega (arith, leb-true (counterOf «midi_asleep» (h .stats)) _ (counter-below (h .stats) e₃ 6 (omega arith)), bound-le 32767 (counterOf microframes (h .stats)))
 
@@ -93,7 +93,7 @@ module _ (h : Host) (t : ℕ) (l : Lent) (e : frameNumber h l ≡ 0) where
   call-awake n = asleep-is ∙ asleep-kept t (worldOf h l) n
 
   -- and in those no read of MIDI is counted, no byte is answered and the receive area is as it was lent
-  pub call-unread : NoMidi t (worldOf h l) → midiCome (framed t h l) ≡ record { counted = counterOf «midi_dtds» (h .stats); bytes = 0; area = l .receive }
+  pub call-unread : NoMidi t (worldOf h l) → midiCome (framed t h l) ≡ record { counted = counterOf «midi_dtds» (h .stats); bytes = 0; area = l .receive; cables = l .cables }
   unfolding framed
   call-unread n =
       ap (λ (k : ℕ). midiCome (pick (eqb k 0) (left (M.microframe t) (worldOf h l)) (worldOf h l))) e ∙ midi-unread t (worldOf h l) n
@@ -121,7 +121,7 @@ refused h t l n =
 -- a call that is no accepted microframe
 abbrev pub NoFrame : Host → Call → Type 0
 NoFrame h (microframe t l) = ¬ (frameNumber h l ≡ 0)
-NoFrame h (midiSend bs) = Unit
+NoFrame h (midiSend cable bs) = Unit
 NoFrame h (serialSend bs) = Unit
 NoFrame h (frameGive f sending) = Unit
 NoFrame h (frameTake received) = Unit
@@ -131,7 +131,7 @@ NoFrame h (deviceWrite page off size v) = Unit
 pub marks-stay : (h : Host) (c : Call) → NoFrame h c → SameMarks h (step h c)
 unfolding step midiSent serialSent given takenFrame deviceWritten midiQueued serialQueued frameGiven frameTaken withFlag C.deviceRead
 marks-stay h (microframe t l) n = refused h t l n
-marks-stay h (midiSend bs) n = either (eqb (midiNumber h bs) 0) (record { settings = refl; gone = refl; suspended = refl; running = refl })
+marks-stay h (midiSend cable bs) n = either (eqb (midiNumber h cable bs) 0) (record { settings = refl; gone = refl; suspended = refl; running = refl })
 marks-stay h (serialSend bs) n = either (eqb (serialNumber h bs) 0) (record { settings = refl; gone = refl; suspended = refl; running = refl })
 marks-stay h (frameGive f sending) n = either (eqb (giveNumber h f sending) 0) (record { settings = refl; gone = refl; suspended = refl; running = refl })
 marks-stay h (frameTake received) n = either (holdsFrame h received) (record { settings = refl; gone = refl; suspended = refl; running = refl })
@@ -150,7 +150,7 @@ by-number {P = P} h l p q = by (eqb (frameNumber h l) 0) refl
 -- settings are those of `new`
 settings-step : (h : Host) (c : Call) → step h c .settings ≡ h .settings
 settings-step h (microframe t l) = by-number h l (call-settings h t l) (λ n. refused h t l n .settings)
-settings-step h (midiSend bs) = marks-stay h (midiSend bs) tt .settings
+settings-step h (midiSend cable bs) = marks-stay h (midiSend cable bs) tt .settings
 settings-step h (serialSend bs) = marks-stay h (serialSend bs) tt .settings
 settings-step h (frameGive f sending) = marks-stay h (frameGive f sending) tt .settings
 settings-step h (frameTake received) = marks-stay h (frameTake received) tt .settings
@@ -180,7 +180,7 @@ gone-step : (s : Settings) (h : Host) (c : Call) (o : Option ℕ) → h .setting
     → (step h c .port .gone ≡ true) ↔ Some (InGone s) (later o (timeOf h c))
 unfolding timeOf
 gone-step s h (microframe t l) o e m = gone-frame s h t l o e m (eqb (frameNumber h l) 0) refl
-gone-step s h (midiSend bs) o e m = is-test (marks-stay h (midiSend bs) tt .gone) m
+gone-step s h (midiSend cable bs) o e m = is-test (marks-stay h (midiSend cable bs) tt .gone) m
 gone-step s h (serialSend bs) o e m = is-test (marks-stay h (serialSend bs) tt .gone) m
 gone-step s h (frameGive f sending) o e m = is-test (marks-stay h (frameGive f sending) tt .gone) m
 gone-step s h (frameTake received) o e m = is-test (marks-stay h (frameTake received) tt .gone) m
@@ -212,7 +212,7 @@ run-step : (s : Settings) → s .«device_stack» ≡ true → (h : Host) (c : C
     → (step h c .port .«was_running» ≡ true) ↔ Some RunBit (later o (pageOf h c))
 unfolding pageOf
 run-step s stack h (microframe t l) o e m = run-frame s stack h t l o e m (eqb (frameNumber h l) 0) (goneAt t (worldOf h l)) (asleepAt t (worldOf h l)) refl refl refl
-run-step s stack h (midiSend bs) o e m = is-test (marks-stay h (midiSend bs) tt .running) m
+run-step s stack h (midiSend cable bs) o e m = is-test (marks-stay h (midiSend cable bs) tt .running) m
 run-step s stack h (serialSend bs) o e m = is-test (marks-stay h (serialSend bs) tt .running) m
 run-step s stack h (frameGive f sending) o e m = is-test (marks-stay h (frameGive f sending) tt .running) m
 run-step s stack h (frameTake received) o e m = is-test (marks-stay h (frameTake received) tt .running) m

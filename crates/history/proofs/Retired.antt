@@ -50,7 +50,7 @@ unfolding step callMarked midiSent serialSent given takenFrame deviceWritten mid
 seven-step h n (microframe t l) e =
     let b = call-block t h l in
     seven-more (callSends t h l) n (audioOutRetired (changesOf t h l)) h (step h (microframe t l)) (b .retired) (b .sent) (b .counter) e
-seven-step h n (midiSend bs) e = stays (eqb (midiNumber h bs) 0) n h _ refl refl e
+seven-step h n (midiSend cable bs) e = stays (eqb (midiNumber h cable bs) 0) n h _ refl refl e
 seven-step h n (serialSend bs) e = stays (eqb (serialNumber h bs) 0) n h _ refl refl e
 seven-step h n (frameGive f sending) e = stays (eqb (giveNumber h f sending) 0) n h _ refl refl e
 seven-step h n (frameTake received) e = stays (holdsFrame h received) n h _ refl refl e

@@ -102,7 +102,7 @@ streams h l e =
     let whole = and-first (bounded h) _ b in
     let areas = and-second (areasOk (stateOf h) (length (l .reply)) (length (l .config))) _ (and-second (bounded h) _ b) in
     let held = and-second (askedOk (stateOf h) (h .setups)) _ whole in
-    let counted = and-second (heldOk (stateOf h) (h .packer)) _ held in
+    let counted = and-second (heldOk (stateOf h) (h .packers)) _ held in
     record {
       audio = and-second (countedOk (stateOf h)) _ counted;
       inside = in-ring (h .audio .sending) (length (l .sending) / WORDS) (and-second (receivedOk (stateOf h)) _ areas) .0;
@@ -248,7 +248,7 @@ same-by of false g h e = refl
 
 -- a send or a device access changes nothing of the stream, a frame taken no frame that waits to be sent, a frame given none that waits to be taken
 pub record Apart (h : Host) : Type 0 where
-  pub midi : (bs : List ℕ) → step h (midiSend bs) .audio ≡ h .audio
+  pub midi : (cable : ℕ) (bs : List ℕ) → step h (midiSend cable bs) .audio ≡ h .audio
   pub serial : (bs : List ℕ) → step h (serialSend bs) .audio ≡ h .audio
   pub reads : (page : List ℕ) (off size : ℕ) → step h (deviceRead page off size) .audio ≡ h .audio
   pub writes : (page : List ℕ) (off size v : ℕ) → step h (deviceWrite page off size v) .audio ≡ h .audio
@@ -259,7 +259,7 @@ pub rings-apart : (h : Host) → Apart h
 unfolding step midiSent serialSent given takenFrame deviceWritten midiQueued serialQueued frameGiven frameTaken withFlag C.deviceRead
 rings-apart h =
     record {
-      midi = λ bs. same-by (λ (g : Host). g .audio) (eqb (midiNumber h bs) 0) (midiQueued h bs) h refl;
+      midi = λ cable bs. same-by (λ (g : Host). g .audio) (eqb (midiNumber h cable bs) 0) (midiQueued h cable bs) h refl;
       serial = λ bs. same-by (λ (g : Host). g .audio) (eqb (serialNumber h bs) 0) (serialQueued h bs) h refl;
       reads = λ page off size. refl;
       writes =
@@ -283,7 +283,7 @@ counter-step : (h : Host) (c : Call) → h .audio .counter < 2 ^ 16 → step h c
 unfolding step framed midiSent serialSent given takenFrame deviceWritten midiQueued serialQueued frameGiven frameTaken withFlag C.deviceRead
 counter-step h (microframe t l) less =
     pick-both (λ (w : World). w .state .audio .counter < 2 ^ 16) (eqb (frameNumber h l) 0) (counter-frame t (worldOf h l) less) less
-counter-step h (midiSend bs) less = pick-both (λ (g : Host). g .audio .counter < 2 ^ 16) (eqb (midiNumber h bs) 0) {a = midiQueued h bs} {b = h} less less
+counter-step h (midiSend cable bs) less = pick-both (λ (g : Host). g .audio .counter < 2 ^ 16) (eqb (midiNumber h cable bs) 0) {a = midiQueued h cable bs} {b = h} less less
 counter-step h (serialSend bs) less = pick-both (λ (g : Host). g .audio .counter < 2 ^ 16) (eqb (serialNumber h bs) 0) {a = serialQueued h bs} {b = h} less less
 counter-step h (frameGive f sending) less = pick-both (λ (g : Host). g .audio .counter < 2 ^ 16) (eqb (giveNumber h f sending) 0) {a = frameGiven h} {b = h} less less
 counter-step h (frameTake received) less = pick-both (λ (g : Host). g .audio .counter < 2 ^ 16) (holdsFrame h received) {a = frameTaken h} {b = h} less less

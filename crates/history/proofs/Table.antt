@@ -149,8 +149,8 @@ same-table false p q = q
 right-step : (h : Host) (y : Tally) (c : Call) → Right h y → Right (step h c) (tallied h y c)
 unfolding step tallied midiSent serialSent given takenFrame deviceWritten midiQueued serialQueued frameGiven frameTaken withFlag C.deviceRead summed
 right-step h y (microframe t l) r = record { even = balanced-step h (y .since) (microframe t l) (r .even); table = tabulated-frame h y t l r }
-right-step h y (midiSend bs) r =
-    record { even = balanced-step h (y .since) (midiSend bs) (r .even); table = same-table (eqb (midiNumber h bs) 0) (record { received = r .table .received; sent = r .table .sent }) (r .table) }
+right-step h y (midiSend cable bs) r =
+    record { even = balanced-step h (y .since) (midiSend cable bs) (r .even); table = same-table (eqb (midiNumber h cable bs) 0) (record { received = r .table .received; sent = r .table .sent }) (r .table) }
 right-step h y (serialSend bs) r =
     record { even = balanced-step h (y .since) (serialSend bs) (r .even); table = same-table (eqb (serialNumber h bs) 0) (record { received = r .table .received; sent = r .table .sent }) (r .table) }
 right-step h y (frameGive f sending) r =

@@ -11,7 +11,7 @@ use lib.ListN.{length}
 use Rattle.bits.specs.Pick.{pick}
 use Rattle.bus.specs.Sized.{Sized, isSized}
 use Rattle.usbdev.specs.Access.{fits}
-use Rattle.midi.specs.Packer.{packetsOf}
+use Rattle.midi.specs.Packer.{packerAt, packetsOf}
 use Rattle.config.specs.Config.{Bytes}
 use Rattle.record.specs.Sizes.{FRAMES, WORDS}
 use Rattle.bounds.specs.Bounds.{areasOk, receivedOk}
@@ -27,18 +27,18 @@ use Rattle.history.specs.Calls.{Call, microframe, midiSend, serialSend, 
 -- each clause is the number that the entry's contract cites
 unfoldable pub numberOf : Host → Call → ℕ
 numberOf h (microframe t l) = frameNumber h l
-numberOf h (midiSend bs) = midiNumber h bs
+numberOf h (midiSend cable bs) = midiNumber h cable bs
 numberOf h (serialSend bs) = serialNumber h bs
 numberOf h (frameGive f sending) = giveNumber h f sending
 numberOf h (frameTake received) = takeNumber h received
 numberOf h (deviceRead page off size) = accessNumber h (length page) off size
 numberOf h (deviceWrite page off size v) = accessNumber h (length page) off size
 
--- from the input alone (document 01, numbers 1, 2 and 4): 1 where a window has the wrong length, 2 where an area or a frame has, 4 where an access does
--- not fit, and otherwise 0
+-- from the input alone (document 01, numbers 1, 2 and 4, document 02, number 8): 1 where a window has the wrong length, 2 where an area or a frame has, 4
+-- where an access does not fit, 8 exactly where a cable is above 15, and otherwise 0
 unfoldable pub inputNumber : Call → ℕ
 inputNumber (microframe t l) = unless 1 (isSized (l .memory)) (unless 2 (areaLengths l) 0)
-inputNumber (midiSend bs) = 0
+inputNumber (midiSend cable bs) = unless 8 (leb cable 15) 0
 inputNumber (serialSend bs) = 0
 inputNumber (frameGive f sending) = unless 2 (sendingLength (length sending) && eqb (length f) WORDS) 0
 inputNumber (frameTake received) = unless 2 (eqb (length received) (FRAMES * WORDS)) 0
@@ -48,21 +48,21 @@ inputNumber (deviceWrite page off size v) = unless 1 (eqb (length page) 4096) (u
 -- from the state: 6 exactly after 2^40 microframes, 7 exactly where what is held and all that the call adds exceed the space, and otherwise 0
 unfoldable pub stateNumber : Host → Call → ℕ
 stateNumber h (microframe t l) = unless 6 (ltb (h .port .uf) (2 ^ 40)) 0
-stateNumber h (midiSend bs) = unless 7 (leb (h .lengths .midi + length (packetsOf 0 (h .packer) bs)) 4096) 0
+stateNumber h (midiSend cable bs) = unless 7 (leb (h .lengths .midi + length (packetsOf cable (packerAt (h .packers) cable) bs)) 4096) 0
 stateNumber h (serialSend bs) = unless 7 (leb (h .lengths .serial + length bs) 4096) 0
 stateNumber h (frameGive f sending) = unless 7 (leb (h .audio .sending .len + 1) (length sending / 12)) 0
 stateNumber h (frameTake received) = 0
 stateNumber h (deviceRead page off size) = 0
 stateNumber h (deviceWrite page off size v) = 0
 
--- lower numbers win; 3 and 5 are never due
+-- numbers from the input are tested before those from the state; 3 and 5 are never due
 unfoldable pub dueNumber : Host → Call → ℕ
 dueNumber h c = pick (eqb (inputNumber c) 0) (stateNumber h c) (inputNumber c)
 
 -- 0, or 7 of a send and of a frame given
 unfoldable pub fine : Call → ℕ → Bool
 fine (microframe t l) n = eqb n 0
-fine (midiSend bs) n = eqb n 0 || eqb n 7
+fine (midiSend cable bs) n = eqb n 0 || eqb n 7
 fine (serialSend bs) n = eqb n 0 || eqb n 7
 fine (frameGive f sending) n = eqb n 0 || eqb n 7
 fine (frameTake received) n = eqb n 0
@@ -80,14 +80,14 @@ pub record BytesLent (l : Lent) : Type 0 where
 
 unfoldable pub BytesCall : Call → Type 0
 BytesCall (microframe t l) = BytesLent l
-BytesCall (midiSend bs) = Unit {0}
+BytesCall (midiSend cable bs) = Unit {0}
 BytesCall (serialSend bs) = Unit {0}
 BytesCall (frameGive f sending) = Unit {0}
 BytesCall (frameTake received) = Unit {0}
 BytesCall (deviceRead page off size) = Unit {0}
 BytesCall (deviceWrite page off size v) = Unit {0}
 
--- a right input, as facts (document 01, numbers 1, 2 and 4): a sending ring, what a microframe is lent, an access, and any call
+-- a right input, as facts (document 01, numbers 1, 2 and 4, document 02, number 8): a sending ring, what a microframe is lent, an access, and any call
 pub record RightRing (n : ℕ) : Type 0 where
   pub least : 84 ≤ n
   pub most : n ≤ 576000
@@ -98,6 +98,7 @@ pub record RightAreas (l : Lent) : Type 0 where
   pub reply : 65535 ≤ length (l .reply)
   pub config : 65535 ≤ length (l .config)
   pub receive : 196608 ≤ length (l .receive)
+  pub cables : 196608 ≤ length (l .cables)
   pub received : length (l .received) ≡ 576000
   pub sending : RightRing (length (l .sending))
 
@@ -108,7 +109,7 @@ pub record RightAccess (off size : ℕ) : Type 0 where
 
 unfoldable pub RightInput : Call → Type 0
 RightInput (microframe t l) = RightAreas l
-RightInput (midiSend bs) = Unit {0}
+RightInput (midiSend cable bs) = cable ≤ 15
 RightInput (serialSend bs) = Unit {0}
 RightInput (frameGive f sending) = RightRing (length sending) × (length f ≡ 12)
 RightInput (frameTake received) = length received ≡ 576000
@@ -119,7 +120,7 @@ RightInput (deviceWrite page off size v) = (length page ≡ 4096) × RightAccess
 -- record has of it, which is number 5
 unfoldable pub RingCall : ℕ → Call → Type 0
 RingCall k (microframe t l) = RightAreas l → length (l .sending) ≡ k
-RingCall k (midiSend bs) = Unit {0}
+RingCall k (midiSend cable bs) = Unit {0}
 RingCall k (serialSend bs) = Unit {0}
 RingCall k (frameGive f sending) = RightInput (frameGive f sending) → length sending ≡ k
 RingCall k (frameTake received) = Unit {0}
@@ -136,7 +137,7 @@ AllCalls P (c ∷ cs) = P c × AllCalls P cs
 -- 1 of a microframe, 0 of any other call
 unfoldable pub framesOf : Call → ℕ
 framesOf (microframe t l) = 1
-framesOf (midiSend bs) = 0
+framesOf (midiSend cable bs) = 0
 framesOf (serialSend bs) = 0
 framesOf (frameGive f sending) = 0
 framesOf (frameTake received) = 0

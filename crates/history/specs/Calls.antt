@@ -10,7 +10,7 @@ use Rattle.record.specs.World.{Lent}
 -- a call with all that it brings: time, memory, registers, areas and bytes are the caller's, and may be anything
 pub data Call : Type 0 where
   microframe : ℕ → Lent → Call  -- time, and what is lent
-  midiSend : List ℕ → Call
+  midiSend : ℕ → List ℕ → Call  -- cable, and the bytes
   serialSend : List ℕ → Call
   frameGive : List ℕ → List ℕ → Call  -- a frame, and the sending ring
   frameTake : List ℕ → Call  -- the received ring
@@ -20,7 +20,7 @@ pub data Call : Type 0 where
 -- the record that a call leaves, refused or not: each clause is the definition that the entry's contract cites
 unfoldable pub step : Host → Call → Host
 step h (microframe t l) = hostIn (framed t h l)
-step h (midiSend bs) = midiSent h bs .host
+step h (midiSend cable bs) = midiSent h cable bs .host
 step h (serialSend bs) = serialSent h bs .host
 step h (frameGive f sending) = given h f sending .host
 step h (frameTake received) = takenFrame h received .host

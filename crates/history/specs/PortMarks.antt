@@ -25,7 +25,7 @@ lastBrought brings h o (c ∷ cs) = lastBrought brings (step h c) (later o (brin
 -- the time of an accepted microframe
 unfoldable pub timeOf : Host → Call → Option ℕ
 timeOf h (microframe t l) = pick (accepted h l) (some t) none
-timeOf h (midiSend bs) = none
+timeOf h (midiSend cable bs) = none
 timeOf h (serialSend bs) = none
 timeOf h (frameGive f sending) = none
 timeOf h (frameTake received) = none
@@ -36,7 +36,7 @@ timeOf h (deviceWrite page off size v) = none
 unfoldable pub pageOf : Host → Call → Option (List ℕ)
 pageOf h (microframe t l) =
     pick (accepted h l && (not (goneAt t (worldOf h l)) && not (asleepAt t (worldOf h l)))) (some (l .memory .page)) none
-pageOf h (midiSend bs) = none
+pageOf h (midiSend cable bs) = none
 pageOf h (serialSend bs) = none
 pageOf h (frameGive f sending) = none
 pageOf h (frameTake received) = none

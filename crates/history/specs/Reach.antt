@@ -46,7 +46,7 @@ changesOf t h l = pick (accepted h l) (M.microframe t (worldOf h l)) []
 -- whatever is asked of the marks of its runs; only microframes run descriptors
 unfoldable pub callMarked : (Endpoint → ℕ → ℕ → ℕ) → Host → Call → ℕ
 callMarked f h (microframe t l) = total (marked f) (changesOf t h l)
-callMarked f h (midiSend bs) = 0
+callMarked f h (midiSend cable bs) = 0
 callMarked f h (serialSend bs) = 0
 callMarked f h (frameGive x sending) = 0
 callMarked f h (frameTake received) = 0

@@ -59,7 +59,7 @@ answered t w g = pick (outputReached t w) (pick (earned g) (send g) g) g
 unfoldable pub summed : Host → Sums → Call → Sums
 summed h g (microframe t l) =
     pick (eqb (frameNumber h l) 0) (answered t (worldOf h l) (heard t (worldOf h l) (reset t (worldOf h l) g))) g
-summed h g (midiSend bs) = g
+summed h g (midiSend cable bs) = g
 summed h g (serialSend bs) = g
 summed h g (frameGive f sending) = g
 summed h g (frameTake received) = g
@@ -91,7 +91,7 @@ tallied h y (microframe t l) =
           (answeredEver t (worldOf h l) (heard t (worldOf h l) (reset t (worldOf h l) (y .since))) (heard t (worldOf h l) (y .ever)))
           (y .ever);
     }
-tallied h y (midiSend bs) = y
+tallied h y (midiSend cable bs) = y
 tallied h y (serialSend bs) = y
 tallied h y (frameGive f sending) = y
 tallied h y (frameTake received) = y

@@ -28,6 +28,7 @@ untouched =
       midis = λ n k. refl;
       serials = λ n k. refl;
       receives = λ bs k. refl;
+      cables = λ cs k. refl;
       frames = λ f k. refl;
       takes = λ n k. refl;
     }

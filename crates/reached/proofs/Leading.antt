@@ -130,7 +130,7 @@ module _ (c : Settings) (a : Areas) (long : Long a) (few : leb (c .spans) 16 ≡
     enters =
         let s = stateOf h in
         let e₁ = and-second (askedOk s (h .setups)) _ (o .bounds .record-bounds) in
-        let e₂ = and-second (heldOk s (h .packer)) _ e₁ in
+        let e₂ = and-second (heldOk s (h .packers)) _ e₁ in
         let e₃ = and-second (countedOk s) _ e₂ in
         let e₄ = and-second (leb 33 (h .audio .block)) _ e₃ in
         record {

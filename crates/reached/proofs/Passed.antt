@@ -144,7 +144,7 @@ module _ (a : Areas) (f : List ℕ) (long : Long a) (static-length : length f �
   right =
       let l₁ = and-second (leb 65535 (length (a .reply))) _ (long .lengths) in
       let l₂ = and-second (leb 65535 (length (a .config))) _ l₁ in
-      let l₃ = and-second (leb 196608 (length (a .receive))) _ l₂ in
+      let l₃ = and-second (leb 196608 (length (a .cables))) _ (and-second (leb 196608 (length (a .receive))) _ l₂) in
       and-second (eqb (length (a .received)) 576000) _ l₃
 
   most : 84 ≤ length ring
@@ -188,7 +188,7 @@ module _ (a : Areas) (f : List ℕ) (long : Long a) (static-length : length f �
   long₁ : Long areas₁
   long₁ =
       record {
-        lengths = ap (λ (n : ℕ). lengthsOk (length (a .reply)) (length (a .config)) (length (a .receive)) (length (a .received)) n) (ring-kept h x ring) ∙ long .lengths;
+        lengths = ap (λ (n : ℕ). lengthsOk (length (a .reply)) (length (a .config)) (length (a .receive)) (length (a .cables)) (length (a .received)) n) (ring-kept h x ring) ∙ long .lengths;
         bytes = long .bytes;
       }
 
@@ -287,7 +287,7 @@ module _ (a : Areas) (f : List ℕ) (long : Long a) (static-length : length f �
   long₂ : Long areas₂
   long₂ =
       record {
-        lengths = ap (λ (n : ℕ). lengthsOk (length (a .reply)) (length (a .config)) (length (a .receive)) n (length ring₁)) same-length ∙ long₁ .lengths;
+        lengths = ap (λ (n : ℕ). lengthsOk (length (a .reply)) (length (a .config)) (length (a .receive)) (length (a .cables)) n (length ring₁)) same-length ∙ long₁ .lengths;
         bytes = long .bytes;
       }
 
@@ -409,7 +409,7 @@ module _ (a : Areas) (f : List ℕ) (long : Long a) (static-length : length f �
   take-number =
       let l₁ = and-second (leb 65535 (length (a .reply))) _ (long .lengths) in
       let l₂ = and-second (leb 65535 (length (a .config))) _ l₁ in
-      let l₃ = and-second (leb 196608 (length (a .receive))) _ l₂ in
+      let l₃ = and-second (leb 196608 (length (a .cables))) _ (and-second (leb 196608 (length (a .receive))) _ l₂) in
       let whole : eqb (length ring₃) 576000 ≡ true =
       ap (λ (n : ℕ). eqb n 576000) (ap (λ (v : World). length (v .lent .received)) framed₃ ∙ ap (λ (z : Shape). z .received) (shape-kept 0 w₃) ∙ same-length)
       ∙ and-first (eqb (length (a .received)) 576000) _ l₃ in

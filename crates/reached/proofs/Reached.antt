@@ -52,7 +52,7 @@ use Rattle.reached.proofs.Lendings.{allWords, pageWords, fit-words, pag
 since-step : (h : Host) (y : Tally) (c : Call) → summed h (y .since) c ≡ tallied h y c .since
 unfolding summed tallied
 since-step h y (microframe t l) = refl
-since-step h y (midiSend bs) = refl
+since-step h y (midiSend cable bs) = refl
 since-step h y (serialSend bs) = refl
 since-step h y (frameGive x sending) = refl
 since-step h y (frameTake received) = refl
@@ -85,7 +85,7 @@ module _ (a : Areas) (f : List ℕ) (l : Lendable a f) where
   twelve =
       let l₁ = and-second (leb 65535 (length (a .reply))) _ (l .lengths) in
       let l₂ = and-second (leb 65535 (length (a .config))) _ l₁ in
-      let l₃ = and-second (leb 196608 (length (a .receive))) _ l₂ in
+      let l₃ = and-second (leb 196608 (length (a .cables))) _ (and-second (leb 196608 (length (a .receive))) _ l₂) in
       let l₄ = and-second (eqb (length (a .received)) 576000) _ l₃ in
       omega (arith, leb-true 84 (length (a .sending)) (and-first _ _ l₄))
 
@@ -637,9 +637,9 @@ unfolding lengthsOk sendingLength
 small-lendable =
     record {
       lengths =
-          ap₂ (λ (i j : ℕ). lengthsOk i j (length (smallAreas .receive)) (length (smallAreas .received)) (length (smallAreas .sending))) (length-replicate {A = ℕ} 65535 0) (length-replicate {A = ℕ} 65535 0)
-          ∙ ap₂ (λ (i j : ℕ). lengthsOk 65535 65535 i j (length (smallAreas .sending))) (length-replicate {A = ℕ} 196608 0) (length-replicate {A = ℕ} 576000 0)
-          ∙ ap (λ (i : ℕ). lengthsOk 65535 65535 196608 576000 i) (length-replicate {A = ℕ} 84 0);
+          ap₂ (λ (i j : ℕ). lengthsOk i j (length (smallAreas .receive)) (length (smallAreas .cables)) (length (smallAreas .received)) (length (smallAreas .sending))) (length-replicate {A = ℕ} 65535 0) (length-replicate {A = ℕ} 65535 0)
+          ∙ ap₂ (λ (i j : ℕ). lengthsOk 65535 65535 i j (length (smallAreas .received)) (length (smallAreas .sending))) (length-replicate {A = ℕ} 196608 0) (length-replicate {A = ℕ} 196608 0)
+          ∙ ap₂ (λ (i j : ℕ). lengthsOk 65535 65535 196608 196608 i j) (length-replicate {A = ℕ} 576000 0) (length-replicate {A = ℕ} 84 0);
       reply-bytes = below-zeros 65535;
       static-length = length-replicate {A = ℕ} 65536 0;
       static-bytes = below-zeros 65536;

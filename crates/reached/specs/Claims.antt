@@ -24,7 +24,7 @@ use Rattle.reached.specs.Lists.{Areas, lend, words, blockAt400, primedPa
 
 -- areas and static memory that every microframe accepts, and bytes in those where bytes are
 pub record Lendable (a : Areas) (f : List ℕ) : Type 0 where
-  pub lengths : lengthsOk (length (a .reply)) (length (a .config)) (length (a .receive)) (length (a .received)) (length (a .sending)) ≡ true
+  pub lengths : lengthsOk (length (a .reply)) (length (a .config)) (length (a .receive)) (length (a .cables)) (length (a .received)) (length (a .sending)) ≡ true
   pub reply-bytes : (k : ℕ) → getD (a .reply) k 0 < 256
   pub static-length : length f ≡ 65536
   pub static-bytes : (k : ℕ) → getD f k 0 < 256

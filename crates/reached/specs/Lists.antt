@@ -21,17 +21,18 @@ pub record Areas : Type 0 where
   pub reply : List ℕ
   pub config : List ℕ
   pub receive : List ℕ
+  pub cables : List ℕ
   pub received : List ℕ
   pub sending : List ℕ
 
 abbrev pub lend : Areas → Memory → Lent
 lend a m =
-    record { memory = m; reply = a .reply; config = a .config; receive = a .receive; received = a .received; sending = a .sending }
+    record { memory = m; reply = a .reply; config = a .config; receive = a .receive; cables = a .cables; received = a .received; sending = a .sending }
 
 -- the same with other rings: frames received, and frames to send
 abbrev pub withRings : Areas → List ℕ → List ℕ → Areas
 withRings a received sending =
-    record { reply = a .reply; config = a .config; receive = a .receive; received = received; sending = sending }
+    record { reply = a .reply; config = a .config; receive = a .receive; cables = a .cables; received = received; sending = sending }
 
 -- the smallest that are accepted, all zeros (document 01, "Numbers of refusal", 2), and a static memory of zeros
 abbrev pub smallAreas : Areas
@@ -40,6 +41,7 @@ smallAreas =
       reply = replicate 65535 0;
       config = replicate 65535 0;
       receive = replicate 196608 0;
+      cables = replicate 196608 0;
       received = replicate 576000 0;
       sending = replicate 84 0;
     }
