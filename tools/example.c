@@ -57,5 +57,10 @@ int main(void) {
     expect("the packet is 09 90 3C 40", memcmp(queue, "\x09\x90\x3C\x40", 4) == 0, 1);
     expect("part of a packet held: refusal 5, before 7", usb_midi_send(second, 0, note, 3, queue, 4095) >> 56, 5);
     expect("no room: refusal 7", usb_midi_send(second, 0, note, 3, queue, 4096) >> 56, 7);
+    uint64_t third = usb_midi_send(0, 15, note, 3, queue, second >> 40 & 0xFFFF);
+    expect("a note on the last cable: bytes queued", third >> 40, 8);
+    expect("its packet is F9 90 3C 40", memcmp(queue + 4, "\xF9\x90\x3C\x40", 4) == 0, 1);
+    expect("no cable 16: refusal 8, before 5 and 7", usb_midi_send(second, 16, note, 3, queue, 4095) >> 56, 8);
+    expect("nor for an empty send", usb_midi_send(second, 255, note, 0, queue, 4096) >> 56, 8);
     return wrong;
 }

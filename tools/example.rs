@@ -5,6 +5,7 @@ extern "C" {
     fn usb_device_read(page: *const u8, length: usize, offset: u32, size: u32) -> u64;
     fn usb_device_write(page: *mut u8, length: usize, offset: u32, size: u32, value: u32, line: bool) -> u64;
     fn usb_parse_config(bytes: *const u8, length: usize, interfaces: &mut [u8; 256], alternates: &mut [u8; 256]) -> u64;
+    fn usb_midi_send(packer: u64, cable: u8, bytes: *const u8, length: usize, queue: &mut [u8; 4096], held: u16) -> u64;
 }
 
 // The value, or the number of the refusal.
@@ -27,6 +28,12 @@ fn parse_config(bytes: &[u8]) -> (Vec<(u8, u8)>, u16, u16) {
     (pairs, answer as u16, (answer >> 16) as u16)
 }
 
+// The next packer and the bytes then queued, or the number of the refusal.
+fn midi_send(packer: u64, cable: u8, bytes: &[u8], queue: &mut [u8; 4096], held: u16) -> Result<(u64, u16), u8> {
+    let answer = unsafe { usb_midi_send(packer, cable, bytes.as_ptr(), bytes.len(), queue, held) };
+    if answer >> 56 == 0 { Ok((answer & 0xFF_FFFF_FFFF, (answer >> 40) as u16)) } else { Err((answer >> 56) as u8) }
+}
+
 fn main() {
     let mut page = vec![0; 4096];
     page[0x147] = 0x45;
@@ -37,5 +44,10 @@ fn main() {
     assert_eq!(read(&page[1..], 0x144, 4), Err(1));
     let descriptors = [9, 4, 1, 2, 1, 0xFF, 0, 0, 0, 7, 5, 0x83, 3, 0x70, 1, 1];
     assert_eq!(parse_config(&descriptors), (vec![(1, 2)], 368, 0));
+    let mut queue = [0; 4096];
+    assert_eq!(midi_send(0, 3, &[0xF8], &mut queue, 0), Ok((0, 4)));
+    assert_eq!(queue[..4], [0x3F, 0xF8, 0, 0]);
+    assert_eq!(midi_send(0, 16, &[0xF8], &mut queue, 4), Err(8));
+    assert_eq!(midi_send(0, 16, &[], &mut queue, 4095), Err(8));
     println!("the same calls from Rust: as in document 01");
 }

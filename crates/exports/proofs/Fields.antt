@@ -6,7 +6,7 @@ use mathlib.Core.Path.{_≡_, refl}
 use native.Mathlib.Omega.{arith}
 use borrow.Author.Tests.{leb-true, eq-eqb, ne-eqb}
 use lib.Dec.{eqb, leb}
-use Rattle.bits.specs.Pick.{pick-both}
+use Rattle.bits.specs.Pick.{pick, pick-both}
 use Rattle.bus.proofs.Sizes.{and-true}
 use Rattle.config.specs.Config.{parsed}
 use Rattle.config.specs.Table.{tableOf}
@@ -14,7 +14,7 @@ use Rattle.config.proofs.Cases.{by-test}
 use Rattle.config.proofs.Sizes.{sizes-small}
 use Rattle.midi.specs.declared.Packer.{Packer}
 use Rattle.midi.specs.declared.Sent.{Sent}
-use Rattle.midi.specs.Packer.{sentOf, fresh, roomFor, packetCount, AllBytes, PackerBound, PackerBytes}
+use Rattle.midi.specs.Packer.{isCable, sentOf, sentOn, fresh, roomFor, packetCount, AllBytes, PackerBound, PackerBytes}
 use Rattle.midi.proofs.Bounds.{fedAll-bytes, sent-bound}
 use Rattle.bounds.specs.Bounds.{packerOk}
 use Rattle.bounds.proofs.Laws.{packer-bound, packer-ok}
@@ -45,6 +45,10 @@ sent-held p bs held h =
     by-test (roomFor p bs held)
     (λ e. let few = leb-true (held + 4 * packetCount p bs) 4096 e in rw e (omega arith))
     (λ e. rw e h)
+
+pub sent-on-held : (cable : ℕ) (p : Packer) (bs : List ℕ) (held : ℕ) → held < 65536 → sentOn cable p bs held .held < 65536
+unfolding sentOn
+sent-on-held cable p bs held h = pick-both (λ (s : Sent). s .held < 65536) (isCable cable) (sent-held p bs held h) h
 
 flag-lt : (b : Bool) → flag b < 2
 flag-lt true = omega arith
@@ -89,22 +93,26 @@ unfolding sentOf
 sent-bytes p bs held h all = pick-both (λ (s : Sent). PackerBytes (s .packer)) (roomFor p bs held) (fedAll-bytes p bs h all) h
 
 -- an answer holds the next packer, so that it can be passed to the next send as it is
-pub sent-found : (n : ℕ) (bs : List ℕ) (held : ℕ) → AllBytes bs → held < 65536 → Found (midiSent (packerOf n) bs held)
+pub sent-found : (cable n : ℕ) (bs : List ℕ) (held : ℕ) → AllBytes bs → held < 65536 → Found (midiSent cable (packerOf n) bs held)
 unfolding midiSent bounded
-sent-found n bs held all h =
+sent-found cable n bs held all h =
     let p = packerOf n in
     let bytes : PackerBytes p = record { status = omega arith; first = omega arith; second = omega arith } in
-    by-test (bounded p held)
+    pick-both Found (isCable cable)
+    (by-test (bounded p held)
     (λ e. let next = sent-bound p bs held (packer-bound p (and-true (packerOk p) (leb held 4096 && eqb (held % 4) 0) e .0)) in
     rw e (found (sentOf p bs held) (sent-held p bs held h) (sent-bytes p bs held bytes all) (omega (arith, next .few))))
-    (λ e. rw e (found (record { refusal = 5; packer = p; held = held }) h bytes (omega arith)))
+    (λ e. rw e (found (record { refusal = 5; packer = p; held = held }) h bytes (omega arith))))
+    (found (record { refusal = 8; packer = p; held = held }) h bytes (omega arith))
 
 -- inside number 5's bound it stays there: a caller who starts with 0 and passes each answer on never meets 5 by the packer
-pub sent-again : (n : ℕ) (bs : List ℕ) (held : ℕ) → AllBytes bs → held < 65536 → packerOk (packerOf n) ≡ true
-    → packerOk (packerOf (ofSent (midiSent (packerOf n) bs held))) ≡ true
+pub sent-again : (cable n : ℕ) (bs : List ℕ) (held : ℕ) → AllBytes bs → held < 65536 → packerOk (packerOf n) ≡ true
+    → packerOk (packerOf (ofSent (midiSent cable (packerOf n) bs held))) ≡ true
 unfolding midiSent
-sent-again n bs held all h ok =
+sent-again cable n bs held all h ok =
     let p = packerOf n in
     let b = packer-bound p ok in
-    rw (sent-found n bs held all h .packer)
-    (packer-ok (midiSent p bs held .packer) (pick-both (λ (s : Sent). PackerBound (s .packer)) (bounded p held) (sent-bound p bs held b) b))
+    let inside : PackerBound (pick (bounded p held) (sentOf p bs held) (record { refusal = 5; packer = p; held = held }) .packer) =
+    pick-both (λ (s : Sent). PackerBound (s .packer)) (bounded p held) (sent-bound p bs held b) b in
+    rw (sent-found cable n bs held all h .packer)
+    (packer-ok (midiSent cable p bs held .packer) (pick-both (λ (s : Sent). PackerBound (s .packer)) (isCable cable) inside b))

@@ -142,7 +142,7 @@ fn bounded(p: Packer, held: u16) -> bool
     inside & ((held as usize <= midi::QUEUE) & (held % 4 == 0))
 }
 
-// The packets of bytes behind the held ones of a queue: refusal (5 or 7) * 2^56 + held * 2^40 + packer. A new packer is 0, and an answer is the next.
+// The packets of bytes behind the held ones of a queue: refusal (8, 5 or 7, tested in this order) * 2^56 + held * 2^40 + packer. A new packer is 0, and an answer is the next.
 #[no_mangle]
 pub extern "C" fn usb_midi_send(
     packer: u64,
@@ -151,9 +151,16 @@ pub extern "C" fn usb_midi_send(
     queue: &mut [u8; midi::QUEUE],
     held: u16,
 ) -> u64
-    ensures { λ r. ⌜ (r ≡ Answers.ofSent (Send.midiSent (Answers.packerOf packer) (now (bytes .entry)) held)) × (now (queue .exit) ≡ Send.midiQueue cable (Answers.packerOf packer) (now (bytes .entry)) held (now (queue .entry))) ⌝ }
+    ensures { λ r. ⌜ (r ≡ Answers.ofSent (Send.midiSent cable (Answers.packerOf packer) (now (bytes .entry)) held)) × (now (queue .exit) ≡ Send.midiQueue cable (Answers.packerOf packer) (now (bytes .entry)) held (now (queue .entry))) ⌝ }
 {
     let p = packer_of(packer);
+    if 15 < cable {
+        return of_sent(Sent {
+            refusal: 8,
+            packer: p,
+            held: held as usize,
+        });
+    }
     if !bounded(p, held) {
         return of_sent(Sent {
             refusal: 5,

@@ -3,6 +3,7 @@ use mathlib.Core.Path.{sym}
 use lib.ListN.{take}
 use lib.Seq.{length-take-le}
 use native.Mathlib.Omega.{arith}
+use Rattle.midi.specs.Packer.{sentOn}
 use Rattle.midi.proofs.Bounds.{sent-most}
 use borrow.Author.Needs.{needs}
 use Rattle.leaves.proofs.calls.send_first.Statement.{statement}
@@ -18,6 +19,7 @@ outcome-requires : tie.Need-outcome-requires
 outcome-requires c κs = search needs
 
 returns : tie.Need-returns
+unfolding sentOn
 returns c =
     let a = c .before .before .before .before .before .before .before .before .args in
     ((rw (c .before .before .before .send .ensures .answer) (sent-most (a .state .packer) (take (a .count) (a .bytes .now)) (a .state .queued) (omega arith)), search needs), search needs)
