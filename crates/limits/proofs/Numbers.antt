@@ -12,16 +12,16 @@ use Rattle.usbhost.specs.Host.{stateOf}
 use Rattle.usbhost.specs.Calls.{fewSpans, bounded, unless, sendingLength, midiNumber, serialNumber, giveNumber, takeNumber, accessNumber}
 use Rattle.usbhost.specs.Frame.{lengthsOk, boundsOk, frameNumber}
 use Rattle.record.specs.World.{Lent}
-use Rattle.limits.specs.Cases.{offset, size, valueIn, hostBy, Long, longOf, longIn, calls, numbersOf, Row, Meets, Table}
+use Rattle.limits.specs.Cases.{offset, size, cable, valueIn, hostBy, Long, longOf, longIn, calls, numbersOf, Row, Meets, Table}
 
 -- the numbers by lengths
-abbrev numbersBy : Host → Long → List ℕ → ℕ → ℕ → List ℕ
-numbersBy h z sent off n =
+abbrev numbersBy : Host → Long → ℕ → List ℕ → ℕ → ℕ → List ℕ
+numbersBy h z on sent off n =
     calls
     (unless 1 (eqb (z .sram) 65536 && (eqb (z .page) 4096 && isPower (z .dynamic)))
-    (unless 2 (lengthsOk (z .reply) (z .config) (z .receive) (z .received) (z .sending))
+    (unless 2 (lengthsOk (z .reply) (z .config) (z .receive) (z .cables) (z .received) (z .sending))
     (unless 3 (fewSpans h) (unless 5 (boundsOk h (z .reply) (z .config) (z .sending)) (unless 6 (ltb (h .port .uf) MOST) 0)))))
-    (midiNumber h sent)
+    (midiNumber h on sent)
     (unless 3 (fewSpans h) (unless 5 (bounded h) (unless 7 (leb (h .lengths .serial + z .bytes) 4096) 0)))
     (unless 2 (sendingLength (z .sending) && eqb (z .frame) WORDS)
     (unless 3 (fewSpans h)
@@ -29,22 +29,25 @@ numbersBy h z sent off n =
     (unless 2 (eqb (z .received) (FRAMES * WORDS)) (unless 3 (fewSpans h) (unless 5 (bounded h && receivedOk (stateOf h)) 0)))
     (accessNumber h (z .page) off n)
 
-by-lengths : (h : Host) (l : Lent) (sent bytes frame : List ℕ) (off n : ℕ)
-    → numbersOf h l sent bytes frame off n ≡ numbersBy h (longOf l frame bytes) sent off n
+by-lengths : (h : Host) (l : Lent) (on : ℕ) (sent bytes frame : List ℕ) (off n : ℕ)
+    → numbersOf h l on sent bytes frame off n ≡ numbersBy h (longOf l frame bytes) on sent off n
 unfolding isSized frameNumber serialNumber giveNumber takeNumber
-by-lengths h l sent bytes frame off n = refl
+by-lengths h l on sent bytes frame off n = refl
 
 -- what a row computes to, whatever the other record and whatever stands behind the setups
 abbrev pub computed : Host → List ℕ → Row → List ℕ
 computed o behind r =
-    numbersBy (hostBy (valueIn (r .sets)) (r .queue ++ behind) o) (longIn (valueIn (r .sets))) (r .sent) (valueIn (r .sets) offset)
-    (valueIn (r .sets) size)
+    numbersBy (hostBy (valueIn (r .sets)) (r .queue ++ behind) o) (longIn (valueIn (r .sets))) (valueIn (r .sets) cable) (r .sent)
+    (valueIn (r .sets) offset) (valueIn (r .sets) size)
 
 meets : (r : Row) → ((o : Host) (behind : List ℕ) → computed o behind r ≡ r .numbers) → Meets r
 unfolding Meets
 meets r right o behind l frame bytes long =
-    by-lengths (hostBy (valueIn (r .sets)) (r .queue ++ behind) o) l (r .sent) bytes frame (valueIn (r .sets) offset) (valueIn (r .sets) size)
-    ∙ (ap (λ (z : Long). numbersBy (hostBy (valueIn (r .sets)) (r .queue ++ behind) o) z (r .sent) (valueIn (r .sets) offset) (valueIn (r .sets) size)) long
+    by-lengths (hostBy (valueIn (r .sets)) (r .queue ++ behind) o) l (valueIn (r .sets) cable) (r .sent) bytes frame (valueIn (r .sets) offset)
+    (valueIn (r .sets) size)
+    ∙ (ap
+    (λ (z : Long). numbersBy (hostBy (valueIn (r .sets)) (r .queue ++ behind) o) z (valueIn (r .sets) cable) (r .sent) (valueIn (r .sets) offset) (valueIn (r .sets) size))
+    long
     ∙ right o behind)
 
 -- a table of rows, by one computation

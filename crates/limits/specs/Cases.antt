@@ -1,12 +1,13 @@
 -- A case of all calls on a host: the fields that its numbers of refusal read, each with its usual value, and the numbers that the calls answer.
 use Prim.Native.Nat.{ℕ}
 use mathlib.Core.Bool.{Bool}
-use mathlib.Core.List.{List, [], _∷_, _++_}
+use mathlib.Core.List.{List, [], _∷_, _++_, map}
 use mathlib.Core.Path.{_≡_}
 use lib.Dec.{eqb}
 use lib.ListN.{length}
 use Rattle.bits.specs.Pick.{pick}
 use Rattle.midi.specs.declared.Packer.{Packer}
+use Rattle.midi.specs.Packer.{packerAt}
 use Rattle.record.specs.declared.Phase.{Phase}
 use Rattle.record.specs.declared.Phase.the-variants.{Idle, Vbus, Reset, Enumerate, Stream}
 use Rattle.record.specs.declared.State.{State}
@@ -19,12 +20,13 @@ use Rattle.record.specs.World.{Lent}
 use Rattle.usbhost.specs.Promises.{withSpans}
 
 pub data Field : Type 0 where
-  -- the lengths of what a call is lent, given and sent, and where a device access lies
-  dynamic static page reply-area config-area receive-area received-ring sending-ring frame-words serial-bytes offset size : Field
+  -- the lengths of what a call is lent, given and sent, where a device access lies, and the cable of a MIDI send
+  dynamic static page reply-area config-area receive-area cables-area received-ring sending-ring frame-words serial-bytes offset size cable : Field
   -- the record: a phase by its place among the five, and 1 where a flag is set
   spans phase uf microframes phase-start waiting midi serial device config credit budget block channels received-start : Field
   received-held sending-start sending-held running first second reply request-start zero-set zero-count one-set one-count : Field
-  status held sysex : Field
+  -- one cable's packer; the other fifteen hold nothing
+  packer-cable status held sysex : Field
   -- its counters but that of microframes
   in-transfers out-transfers in-frames out-frames bad-blocks midi-dtds midi-asleep out-underruns midi-packets-out : Field
   vendor-in-bytes restarts enumerations : Field
@@ -37,54 +39,57 @@ usual page = (2, 4096)
 usual reply-area = (3, 65535)
 usual config-area = (4, 65535)
 usual receive-area = (5, 196608)
-usual received-ring = (6, 576000)
-usual sending-ring = (7, 84)
-usual frame-words = (8, 12)
-usual serial-bytes = (9, 1)
-usual offset = (10, 512)
-usual size = (11, 4)
-usual spans = (12, 0)
-usual phase = (13, 4)
-usual uf = (14, 3)
-usual microframes = (15, 3)
-usual phase-start = (16, 0)
-usual waiting = (17, 0)
-usual midi = (18, 0)
-usual serial = (19, 0)
-usual device = (20, 0)
-usual config = (21, 0)
-usual credit = (22, 0)
-usual budget = (23, 0)
-usual block = (24, 368)
-usual channels = (25, 12)
-usual received-start = (26, 0)
-usual received-held = (27, 0)
-usual sending-start = (28, 0)
-usual sending-held = (29, 0)
-usual running = (30, 0)
-usual first = (31, 0)
-usual second = (32, 0)
-usual reply = (33, 0)
-usual request-start = (34, 0)
-usual zero-set = (35, 0)
-usual zero-count = (36, 0)
-usual one-set = (37, 0)
-usual one-count = (38, 0)
-usual status = (39, 0)
-usual held = (40, 0)
-usual sysex = (41, 0)
-usual in-transfers = (42, 0)
-usual out-transfers = (43, 0)
-usual in-frames = (44, 0)
-usual out-frames = (45, 0)
-usual bad-blocks = (46, 0)
-usual midi-dtds = (47, 0)
-usual midi-asleep = (48, 0)
-usual out-underruns = (49, 0)
-usual midi-packets-out = (50, 0)
-usual vendor-in-bytes = (51, 0)
-usual restarts = (52, 0)
-usual enumerations = (53, 0)
+usual cables-area = (6, 196608)
+usual received-ring = (7, 576000)
+usual sending-ring = (8, 84)
+usual frame-words = (9, 12)
+usual serial-bytes = (10, 1)
+usual offset = (11, 512)
+usual size = (12, 4)
+usual cable = (13, 0)
+usual spans = (14, 0)
+usual phase = (15, 4)
+usual uf = (16, 3)
+usual microframes = (17, 3)
+usual phase-start = (18, 0)
+usual waiting = (19, 0)
+usual midi = (20, 0)
+usual serial = (21, 0)
+usual device = (22, 0)
+usual config = (23, 0)
+usual credit = (24, 0)
+usual budget = (25, 0)
+usual block = (26, 368)
+usual channels = (27, 12)
+usual received-start = (28, 0)
+usual received-held = (29, 0)
+usual sending-start = (30, 0)
+usual sending-held = (31, 0)
+usual running = (32, 0)
+usual first = (33, 0)
+usual second = (34, 0)
+usual reply = (35, 0)
+usual request-start = (36, 0)
+usual zero-set = (37, 0)
+usual zero-count = (38, 0)
+usual one-set = (39, 0)
+usual one-count = (40, 0)
+usual packer-cable = (41, 0)
+usual status = (42, 0)
+usual held = (43, 0)
+usual sysex = (44, 0)
+usual in-transfers = (45, 0)
+usual out-transfers = (46, 0)
+usual in-frames = (47, 0)
+usual out-frames = (48, 0)
+usual bad-blocks = (49, 0)
+usual midi-dtds = (50, 0)
+usual midi-asleep = (51, 0)
+usual out-underruns = (52, 0)
+usual midi-packets-out = (53, 0)
+usual vendor-in-bytes = (54, 0)
+usual restarts = (55, 0)
+usual enumerations = (56, 0)
 
 -- a field's value where some are not as usual
 unfoldable pub valueIn : List (Field × ℕ) → Field → ℕ
@@ -155,13 +160,24 @@ stateBy v o =
       answer = record { received = 0; dropped = 0; retired = 0 };
     }
 
-abbrev pub packerBy : (Field → ℕ) → Host → Packer
-packerBy v o =
-    record { status = v status; first = o .packer .first; second = o .packer .second; held = v held; sysex = flag (v sysex) }
+abbrev packerWith : ℕ → ℕ → ℕ → Packer → Packer
+packerWith s n x o = record { status = s; first = o .first; second = o .second; held = n; sysex = flag x }
+
+abbrev packerOn : (Field → ℕ) → Host → ℕ → Packer
+packerOn v o n =
+    pick (eqb n (v packer-cable)) (packerWith (v status) (v held) (v sysex) (packerAt (o .packers) n))
+    (packerWith 0 0 0 (packerAt (o .packers) n))
+
+-- the cables, by their numbers
+abbrev pub everyCable : List ℕ
+everyCable = 0 ∷ 1 ∷ 2 ∷ 3 ∷ 4 ∷ 5 ∷ 6 ∷ 7 ∷ 8 ∷ 9 ∷ 10 ∷ 11 ∷ 12 ∷ 13 ∷ 14 ∷ 15 ∷ []
+
+abbrev pub packersBy : (Field → ℕ) → Host → List Packer
+packersBy v o = map (packerOn v o) everyCable
 
 abbrev pub hostBy : (Field → ℕ) → List ℕ → Host → Host
 hostBy v setups o =
-    hostOf (stateBy v o) (withSpans (o .settings) (v spans)) (packerBy v o) (ownSetups (ownOf o) setups)
+    hostOf (stateBy v o) (withSpans (o .settings) (v spans)) (packersBy v o) (ownSetups (ownOf o) setups)
 
 -- ---- the numbers of all calls
 
@@ -173,6 +189,7 @@ pub record Long : Type 0 where
   pub reply : ℕ
   pub config : ℕ
   pub receive : ℕ
+  pub cables : ℕ
   pub received : ℕ
   pub sending : ℕ
   pub frame : ℕ
@@ -187,6 +204,7 @@ longOf l frame bytes =
       reply = length (l .reply);
       config = length (l .config);
       receive = length (l .receive);
+      cables = length (l .cables);
       received = length (l .received);
       sending = length (l .sending);
       frame = length frame;
@@ -202,6 +220,7 @@ longIn v =
       reply = v reply-area;
       config = v config-area;
       receive = v receive-area;
+      cables = v cables-area;
       received = v received-ring;
       sending = v sending-ring;
       frame = v frame-words;
@@ -212,9 +231,9 @@ longIn v =
 abbrev pub calls : ℕ → ℕ → ℕ → ℕ → ℕ → ℕ → List ℕ
 calls frame music cdc given taken access = frame ∷ music ∷ cdc ∷ given ∷ taken ∷ access ∷ []
 
-abbrev pub numbersOf : Host → Lent → List ℕ → List ℕ → List ℕ → ℕ → ℕ → List ℕ
-numbersOf h l sent bytes frame off n =
-    calls (frameNumber h l) (midiNumber h sent) (serialNumber h bytes) (giveNumber h frame (l .sending)) (takeNumber h (l .received))
+abbrev pub numbersOf : Host → Lent → ℕ → List ℕ → List ℕ → List ℕ → ℕ → ℕ → List ℕ
+numbersOf h l on sent bytes frame off n =
+    calls (frameNumber h l) (midiNumber h on sent) (serialNumber h bytes) (giveNumber h frame (l .sending)) (takeNumber h (l .received))
     (accessNumber h (length (l .memory .page)) off n)
 
 -- a row of the table: the fields that are not as usual, the first bytes of the setup queue, the MIDI bytes that are sent, and the numbers
@@ -229,7 +248,8 @@ unfoldable pub Meets : Row → Type 0
 Meets r =
     (o : Host) (behind : List ℕ) (l : Lent) (frame bytes : List ℕ)
     → longOf l frame bytes ≡ longIn (valueIn (r .sets))
-    → numbersOf (hostBy (valueIn (r .sets)) (r .queue ++ behind) o) l (r .sent) bytes frame (valueIn (r .sets) offset) (valueIn (r .sets) size)
+    → numbersOf (hostBy (valueIn (r .sets)) (r .queue ++ behind) o) l (valueIn (r .sets) cable) (r .sent) bytes frame (valueIn (r .sets) offset)
+    (valueIn (r .sets) size)
     ≡ r .numbers
 
 unfoldable pub Table : List Row → Type 0

@@ -1,4 +1,4 @@
--- Every limit of document 01's numbers of refusal, and one past it, in all calls: one table, about the numbers that the calls' contracts cite.
+-- Every limit of the numbers of refusal (documents 01 and 02), and one past it, in all calls: one table, about the numbers that the calls' contracts cite.
 use Prim.Native.Nat.{ℕ, zero, suc, _+_, _-_, _*_, _^_}
 use mathlib.Core.List.{List, [], _∷_, _++_, map, flatMap}
 use mathlib.Core.Path.{_≡_}
@@ -10,13 +10,17 @@ use Rattle.record.specs.Setups.{little}
 use Rattle.bounds.specs.Bounds.{made}
 use Rattle.usbhost.specs.Host.{created}
 use Rattle.usbhost.specs.Promises.{withSpans}
-use Rattle.limits.specs.Cases.{Field, Row, Table, calls, dynamic, static, page, reply-area, config-area, receive-area, received-ring, sending-ring, frame-words, serial-bytes, offset, size, spans, phase, uf, microframes, phase-start, waiting, midi, serial, device, config, credit, budget, block, channels, received-start, received-held, sending-start, sending-held, running, first, second, reply, request-start, zero-set, zero-count, one-set, one-count, status, held, sysex, in-transfers, out-transfers, in-frames, out-frames, bad-blocks, midi-dtds, midi-asleep, out-underruns, midi-packets-out, vendor-in-bytes, restarts, enumerations}
+use Rattle.limits.specs.Cases.{Field, Row, Table, calls, everyCable, dynamic, static, page, reply-area, config-area, receive-area, cables-area, received-ring, sending-ring, frame-words, serial-bytes, offset, size, cable, spans, phase, uf, microframes, phase-start, waiting, midi, serial, device, config, credit, budget, block, channels, received-start, received-held, sending-start, sending-held, running, first, second, reply, request-start, zero-set, zero-count, one-set, one-count, packer-cable, status, held, sysex, in-transfers, out-transfers, in-frames, out-frames, bad-blocks, midi-dtds, midi-asleep, out-underruns, midi-packets-out, vendor-in-bytes, restarts, enumerations}
 
 -- ---- rows: what is not as usual, and the numbers of microframe, MIDI send, serial send, frame given, frame taken, device access
 
--- F8 is sent, and no setup waits
+-- these MIDI bytes are sent, and no setup waits
+abbrev pub sending : List ℕ → List (Field × ℕ) → List ℕ → Row
+sending bs sets numbers = record { sets = sets; queue = []; sent = bs; numbers = numbers }
+
+-- F8 is sent
 abbrev pub with : List (Field × ℕ) → List ℕ → Row
-with sets numbers = record { sets = sets; queue = []; sent = 0xF8 ∷ []; numbers = numbers }
+with = sending (0xF8 ∷ [])
 
 abbrev pub at : Field → ℕ → List ℕ → Row
 at f x = with ((f, x) ∷ [])
@@ -28,9 +32,9 @@ both f x g y = with ((f, x) ∷ (g, y) ∷ [])
 abbrev pub after : ℕ → Field → ℕ → List ℕ → Row
 after n f x = with ((f, x) ∷ (uf, n) ∷ (microframes, n) ∷ [])
 
--- these MIDI bytes are sent
+-- these MIDI bytes are sent behind so many
 abbrev pub sends : List ℕ → ℕ → List ℕ → Row
-sends bs queued numbers = record { sets = (midi, queued) ∷ []; queue = []; sent = bs; numbers = numbers }
+sends bs queued = sending bs ((midi, queued) ∷ [])
 
 -- so many setups wait in enumeration, these the first
 abbrev pub waits : ℕ → List ℕ → List ℕ → Row
@@ -82,6 +86,8 @@ areas =
     ∷ at config-area 65535 none
     ∷ at receive-area 196607 (calls 2 0 0 0 0 0)
     ∷ at receive-area 196608 none
+    ∷ at cables-area 196607 (calls 2 0 0 0 0 0)
+    ∷ at cables-area 196608 none
     ∷ at received-ring 0 (calls 2 0 0 0 2 0)
     ∷ at received-ring 84 (calls 2 0 0 0 2 0)
     ∷ at received-ring 575999 (calls 2 0 0 0 2 0)
@@ -144,6 +150,15 @@ accesses =
     ∷ both offset 4096 size 1 (calls 0 0 0 0 0 4)
     ∷ both offset (2 ^ 32 - 1) size 1 (calls 0 0 0 0 0 4)
     ∷ []
+
+-- ---- 8: the cable of a MIDI send
+
+-- F8 and no byte, sent on a cable
+abbrev pub on : ℕ → List ℕ → List Row
+on n numbers = at cable n numbers ∷ sending [] ((cable, n) ∷ []) numbers ∷ []
+
+unfoldable pub cables : List Row
+cables = on 15 none ++ on 16 (calls 0 8 0 0 0 0) ++ on 255 (calls 0 8 0 0 0 0)
 
 -- ---- 5: lengths in use; 7 where a send finds no space
 
@@ -442,7 +457,7 @@ requests =
     ∷ begun (2 ^ 40 + 1) (all 5)
     ∷ []
 
--- ---- 5: bytes held in the packer
+-- ---- 5: bytes held in a packer
 
 abbrev pub holds : ℕ → ℕ → ℕ → List ℕ → Row
 holds n s x = with ((held, n) ∷ (status, s) ∷ (sysex, x) ∷ [])
@@ -461,6 +476,22 @@ packers =
     ∷ holds 2 0x90 1 none
     ∷ holds 3 0x90 1 (all 5)
     ∷ under 0 0 none ++ under 1 0 (all 5) ++ under 2 0 (all 5) ++ under 1 1 none ++ under 2 1 none
+
+-- of each cable's packer, where the send is on cable 0
+abbrev pub ofCable : ℕ → List Row
+ofCable n =
+    with ((packer-cable, n) ∷ (held, 2) ∷ (status, 0x90) ∷ []) none
+    ∷ with ((packer-cable, n) ∷ (held, 3) ∷ (status, 0x90) ∷ []) (all 5)
+    ∷ with ((packer-cable, n) ∷ (held, 2) ∷ (status, 0xC0) ∷ []) (all 5)
+    ∷ []
+
+-- and where it is on the packer's own cable, or on another
+unfoldable pub everyPacker : List Row
+everyPacker =
+    flatMap ofCable everyCable
+    ++ (with ((packer-cable, 15) ∷ (held, 3) ∷ (cable, 15) ∷ []) (all 5)
+    ∷ with ((packer-cable, 0) ∷ (held, 3) ∷ (cable, 15) ∷ []) (all 5)
+    ∷ [])
 
 -- ---- 7: sends at the limits of their queues
 
@@ -486,25 +517,48 @@ space =
     ∷ at serial-bytes 4097 (calls 0 0 7 0 0 0)
     ∷ []
 
--- ---- the lowest number wins: each pair of neighbours in the order of every call
+-- a packer has two bytes of three, and the third is sent on a cable behind so many
+abbrev pub ends : ℕ → ℕ → ℕ → List ℕ → Row
+ends p n queued = sending (0x40 ∷ []) ((packer-cable, p) ∷ (status, 0x90) ∷ (held, 2) ∷ (cable, n) ∷ (midi, queued) ∷ [])
+
+-- the packets are those of the send's own cable: on another the third byte makes none
+unfoldable pub room : List Row
+room =
+    ends 3 3 4092 none
+    ∷ ends 3 3 4096 (calls 0 7 0 0 0 0)
+    ∷ ends 3 0 4096 none
+    ∷ ends 0 0 4096 (calls 0 7 0 0 0 0)
+    ∷ ends 0 3 4096 none
+    ∷ ends 15 15 4096 (calls 0 7 0 0 0 0)
+    ∷ ends 15 14 4096 none
+    ∷ []
+
+-- ---- the number tested first wins: each pair of neighbours in the order of every call
 
 unfoldable pub order : List Row
 order =
     both static 65535 reply-area 65534 (calls 1 0 0 0 0 0)
+    ∷ both static 65535 cables-area 196607 (calls 1 0 0 0 0 0)
     ∷ both page 4095 spans 17 (calls 1 3 3 3 3 1)
     ∷ both config-area 65534 spans 17 (calls 2 3 3 3 3 3)
+    ∷ both cables-area 196607 spans 17 (calls 2 3 3 3 3 3)
     ∷ both received-ring 575999 spans 17 (calls 2 3 3 3 2 3)
     ∷ both sending-ring 83 spans 17 (calls 2 3 3 2 3 3)
     ∷ both frame-words 11 spans 17 (calls 3 3 3 2 3 3)
     ∷ both spans 17 size 3 (all 3)
     ∷ both spans 17 device 65 (all 3)
     ∷ both size 3 device 65 (calls 5 5 5 5 5 4)
+    ∷ both spans 17 cable 16 (all 3)
+    ∷ both cable 16 device 65 (calls 5 8 5 5 5 5)
+    ∷ both cable 16 held 3 (calls 5 8 5 5 5 5)
+    ∷ both cable 16 midi 4096 (calls 0 8 0 0 0 0)
+    ∷ sending [] ((cable, 16) ∷ (device, 65) ∷ (midi, 4096) ∷ []) (calls 5 8 5 5 5 5)
     ∷ after (2 ^ 40) device 65 (all 5)
     ∷ after (2 ^ 40) received-start 48000 (calls 5 0 0 0 5 0)
     ∷ both device 65 midi 4096 (all 5)
     ∷ both device 65 serial 4096 (all 5)
     ∷ both device 65 sending-held 7 (all 5)
-    ∷ with ((dynamic, 6144) ∷ (page, 4097) ∷ (receive-area, 0) ∷ (received-ring, 84) ∷ (sending-ring, 85) ∷ (spans, 17) ∷ (size, 3) ∷ (device, 65) ∷ (uf, 2 ^ 40) ∷ (microframes, 2 ^ 40) ∷ (midi, 4096) ∷ (serial, 4096) ∷ []) (calls 1 3 3 2 2 1)
+    ∷ with ((dynamic, 6144) ∷ (page, 4097) ∷ (receive-area, 0) ∷ (cables-area, 0) ∷ (received-ring, 84) ∷ (sending-ring, 85) ∷ (spans, 17) ∷ (size, 3) ∷ (cable, 16) ∷ (device, 65) ∷ (uf, 2 ^ 40) ∷ (microframes, 2 ^ 40) ∷ (midi, 4096) ∷ (serial, 4096) ∷ []) (calls 1 3 3 2 2 1)
     ∷ []
 
 -- ---- what the table says, and 3 of `new`
@@ -514,6 +568,7 @@ pub record Limits : Type 0 where
   pub number-2 : Table areas
   pub number-3 : Table spanCounts
   pub number-4 : Table accesses
+  pub number-8 : Table cables
   pub in-queues : Table queues
   pub in-rings : Table rings
   pub in-stream : Table stream
@@ -529,7 +584,9 @@ pub record Limits : Type 0 where
   pub in-full-queues : Table fullQueues
   pub in-requests : Table requests
   pub in-packers : Table packers
+  pub in-every-packer : Table everyPacker
   pub number-7 : Table space
+  pub in-room : Table room
   pub in-order : Table order
   pub new-sixteen : (c : Settings) → created (withSpans c 16) .refusal ≡ 0
   pub new-seventeen : (c : Settings) → created (withSpans c 17) .refusal ≡ 3

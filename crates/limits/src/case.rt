@@ -1,5 +1,7 @@
 // A case that all calls are tried on, as the values of its fields: lengths of what they are lent, given and sent, the place of an access, the record.
+use midi::Packer;
 use record::Phase;
+use record::Settings;
 use record::State;
 
 pub const DYNAMIC: usize = 0;
@@ -14,49 +16,66 @@ pub const CONFIG_AREA: usize = 4;
 
 pub const RECEIVE_AREA: usize = 5;
 
-pub const RECEIVED_RING: usize = 6;
+pub const CABLES_AREA: usize = 6;
 
-pub const SENDING_RING: usize = 7;
+pub const RECEIVED_RING: usize = 7;
 
-pub const FRAME: usize = 8;
+pub const SENDING_RING: usize = 8;
 
-pub const BYTES: usize = 9;
+pub const FRAME: usize = 9;
 
-pub const OFFSET: usize = 10;
+pub const BYTES: usize = 10;
 
-pub const SIZE: usize = 11;
+pub const OFFSET: usize = 11;
 
-pub const SPANS: usize = 12;
+pub const SIZE: usize = 12;
 
-pub const WAITING: usize = 13;
+pub const MIDI_BYTES: usize = 13;
 
-pub const MIDI: usize = 14;
+pub const MIDI_BYTE: usize = 14;
 
-pub const SERIAL: usize = 15;
+pub const CABLE: usize = 15;
 
-pub const DEVICE: usize = 16;
+pub const SPANS: usize = 16;
 
-pub const CONFIG: usize = 17;
+pub const WAITING: usize = 17;
 
-pub const COUNTS: usize = 18;
+pub const MIDI: usize = 18;
 
-pub const CREDIT: usize = 19;
+pub const SERIAL: usize = 19;
 
-pub const BUDGET: usize = 20;
+pub const DEVICE: usize = 20;
 
-pub const RECEIVED_START: usize = 21;
+pub const CONFIG: usize = 21;
 
-pub const RECEIVED_HELD: usize = 22;
+pub const COUNTS: usize = 22;
 
-pub const SENDING_START: usize = 23;
+pub const CREDIT: usize = 23;
 
-pub const SENDING_HELD: usize = 24;
+pub const BUDGET: usize = 24;
 
-// How many fields there are; as a field it is none.
-pub const NONE: usize = 25;
+pub const RECEIVED_START: usize = 25;
 
-// Three microframes after `new`, streaming, with nothing held.
-pub fn usual() -> [u64; 25] {
+pub const RECEIVED_HELD: usize = 26;
+
+pub const SENDING_START: usize = 27;
+
+pub const SENDING_HELD: usize = 28;
+
+pub const PACKER_CABLE: usize = 29;
+
+pub const STATUS: usize = 30;
+
+pub const HELD: usize = 31;
+
+// How many fields there are.
+pub const FIELDS: usize = 32;
+
+// A field that is none of them.
+pub const NONE: usize = FIELDS;
+
+// Three microframes after `new`, streaming, with nothing held; F8 is sent on cable 0.
+pub fn usual() -> [u64; FIELDS] {
     [
         4096,
         65_536,
@@ -64,12 +83,16 @@ pub fn usual() -> [u64; 25] {
         65_535,
         65_535,
         196_608,
+        196_608,
         576_000,
         84,
         12,
         1,
         0x200,
         4,
+        1,
+        0xF8,
+        0,
         0,
         0,
         0,
@@ -83,28 +106,33 @@ pub fn usual() -> [u64; 25] {
         0,
         0,
         0,
+        0,
+        0,
+        0,
     ]
 }
 
-// A row of the list: the two fields that are not as usual.
+// A row of the list: the fields that are not as usual, NONE behind the last, and their values.
 pub struct Row {
-    pub field: usize,
-    pub value: u64,
-    pub other: usize,
-    pub beside: u64,
+    pub fields: [usize; 4],
+    pub values: [u64; 4],
 }
 
-pub fn values(r: Row) -> [u64; 25] {
-    let mut v = usual();
-    let field = r.field;
-    let other = r.other;
-    if field < 25 {
-        v[field] = r.value;
+fn put(v: [u64; FIELDS], field: usize, value: u64) -> [u64; FIELDS] {
+    let mut next = v;
+    if field < FIELDS {
+        next[field] = value;
     }
-    if other < 25 {
-        v[other] = r.beside;
-    }
-    v
+    next
+}
+
+pub fn values(r: Row) -> [u64; FIELDS] {
+    let fields = r.fields;
+    let values = r.values;
+    let one = put(usual(), fields[0], values[0]);
+    let two = put(one, fields[1], values[1]);
+    let three = put(two, fields[2], values[2]);
+    put(three, fields[3], values[3])
 }
 
 // Setups wait in enumeration alone.
@@ -116,7 +144,7 @@ fn phased(waits: bool) -> State {
     record::with_phase(fresh, Phase::Stream)
 }
 
-pub fn state(v: [u64; 25]) -> State {
+pub fn state(v: [u64; FIELDS]) -> State {
     let mut next = phased(v[WAITING] != 0);
     next.port.uf = v[COUNTS];
     next.stats[record::MICROFRAMES] = v[COUNTS];
@@ -132,4 +160,31 @@ pub fn state(v: [u64; 25]) -> State {
     next.audio.sending.start = v[SENDING_START] as usize;
     next.audio.sending.len = v[SENDING_HELD] as usize;
     next
+}
+
+pub fn settings(v: [u64; FIELDS]) -> Settings {
+    let mut next = usbhost::no_settings();
+    next.spans = v[SPANS] as usize;
+    next
+}
+
+// The low byte.
+pub fn byte(x: u64) -> u8 {
+    (x % 256) as u8
+}
+
+// One cable's packer by its fields, the others fresh.
+pub fn packers(v: [u64; FIELDS]) -> [Packer; midi::CABLES] {
+    let mut all = [Packer::new(); midi::CABLES];
+    let cable = v[PACKER_CABLE] as usize;
+    if cable < midi::CABLES {
+        all[cable] = Packer {
+            status: byte(v[STATUS]),
+            first: 0,
+            second: 0,
+            held: byte(v[HELD]),
+            sysex: false,
+        };
+    }
+    all
 }

@@ -11,7 +11,6 @@ use crate::same::changed_words;
 use crate::same::marks;
 use crate::same::same_state;
 use crate::same::word_marks;
-use midi::Packer;
 
 fn same_arrays(
     setups: &[u8; record::SETUP_BYTES],
@@ -32,27 +31,26 @@ fn same_ring(ring: &[u32; 576_012]) -> bool {
 
 // On the record's own arrays.
 fn run(
-    v: [u64; 25],
+    v: [u64; case::FIELDS],
     dynamic: &mut [u8],
     sram: &mut [u8],
     page: &mut [u8],
     reply: &mut [u8],
     config: &mut [u8],
     receive: &mut [u8],
+    cables: &mut [u8],
     received: &mut [u32],
     sending: &[u32],
 ) -> Seen {
     let state = case::state(v);
-    let mut settings = usbhost::no_settings();
-    settings.spans = v[case::SPANS] as usize;
     let mut setups = addresses();
     let mut midi = [MARK; record::QUEUE];
     let mut serial = [MARK; record::QUEUE];
     let mut device = [MARK; 64];
     let done = usbhost::run_microframe(
         state,
-        settings,
-        Packer::new(),
+        case::settings(v),
+        case::packers(v),
         &mut setups,
         &mut midi,
         &mut serial,
@@ -63,6 +61,7 @@ fn run(
         reply,
         config,
         receive,
+        cables,
         received,
         sending,
         0,
@@ -73,13 +72,14 @@ fn run(
 
 // On the first of each area, as much as the case says.
 fn cut(
-    v: [u64; 25],
+    v: [u64; case::FIELDS],
     dynamic: &mut [u8],
     sram: &mut [u8],
     page: &mut [u8],
     reply: &mut [u8],
     config: &mut [u8],
     receive: &mut [u8],
+    cables: &mut [u8],
     received: &mut [u32],
     sending: &[u32],
 ) -> Seen {
@@ -89,6 +89,7 @@ fn cut(
     let r = least(v[case::REPLY_AREA], reply.len());
     let g = least(v[case::CONFIG_AREA], config.len());
     let e = least(v[case::RECEIVE_AREA], receive.len());
+    let c = least(v[case::CABLES_AREA], cables.len());
     let w = least(v[case::RECEIVED_RING], received.len());
     let x = least(v[case::SENDING_RING], sending.len());
     run(
@@ -99,18 +100,20 @@ fn cut(
         &mut reply[..r],
         &mut config[..g],
         &mut receive[..e],
+        &mut cables[..c],
         &mut received[..w],
         &sending[..x],
     )
 }
 
-pub fn microframe(v: [u64; 25]) -> Seen {
+pub fn microframe(v: [u64; case::FIELDS]) -> Seen {
     let mut dynamic = marks();
     let mut sram = marks();
     let mut page = marks();
     let mut reply = marks();
     let mut config = marks();
     let mut receive = marks();
+    let mut cables = marks();
     let mut received = word_marks();
     let sending = word_marks();
     let ran = cut(
@@ -121,11 +124,12 @@ pub fn microframe(v: [u64; 25]) -> Seen {
         &mut reply,
         &mut config,
         &mut receive,
+        &mut cables,
         &mut received,
         &sending,
     );
     let windows = same_area(&dynamic) & same_area(&sram) & same_area(&page);
-    let areas = same_area(&reply) & same_area(&config) & same_area(&receive);
+    let areas = same_area(&reply) & same_area(&config) & same_area(&receive) & same_area(&cables);
     judged(
         ran.number,
         ran.right & windows & areas & same_ring(&received),

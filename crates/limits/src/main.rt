@@ -1,4 +1,4 @@
-// Runs all calls on a host at limits of document 01's numbers of refusal and one past them: what each answers, and that a refusal changes nothing.
+// Runs all calls on a host at limits of the numbers of refusal (documents 01 and 02) and one past them: what each answers, and that a refusal changes nothing.
 mod calls;
 mod case;
 mod frame;

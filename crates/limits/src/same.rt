@@ -1,8 +1,9 @@
-// Whether two states are alike in every field, and how much of an area is not as it was filled.
+// Whether two states, and two hosts' packers, are alike in every field, and how much of an area is not as it was filled.
 ghost use mathlib.Core.Path.{_≡_};
 ghost use lib.ListN.{length};
 ghost use Rattle.record.specs.Sizes as Sizes;
 use gptimers::Timers;
+use midi::Packer;
 use record::Audio;
 use record::Lengths;
 use record::Phase;
@@ -121,6 +122,27 @@ pub fn same_state(a: State, b: State) -> bool {
         & same_stats(a, b)
         & same_lengths(a.lengths, b.lengths)
         & same_timers(a.timers, b.timers)
+}
+
+fn same_packer(a: Packer, b: Packer) -> bool {
+    (a.status == b.status)
+        & (a.first == b.first)
+        & (a.second == b.second)
+        & (a.held == b.held)
+        & (a.sysex == b.sysex)
+}
+
+// Those of every cable.
+pub fn same_packers(a: [Packer; midi::CABLES], b: [Packer; midi::CABLES]) -> bool {
+    let mut same = true;
+    let mut k = 0;
+    while k < midi::CABLES {
+        let one = a[k];
+        let other = b[k];
+        same = same & same_packer(one, other);
+        k += 1;
+    }
+    same
 }
 
 // 1 where it holds.

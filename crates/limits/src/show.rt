@@ -24,12 +24,25 @@ fn name_of_length(field: usize) -> bool {
         case::REPLY_AREA => print(b"reply area "),
         case::CONFIG_AREA => print(b"configuration area "),
         case::RECEIVE_AREA => print(b"receive area "),
+        case::CABLES_AREA => print(b"cables area "),
         case::RECEIVED_RING => print(b"received ring "),
         case::SENDING_RING => print(b"sending ring "),
         case::FRAME => print(b"frame "),
         case::BYTES => print(b"serial bytes sent "),
         case::OFFSET => print(b"access at "),
         _ => print(b"access of "),
+    }
+}
+
+fn name_of_music(field: usize) -> bool {
+    match field {
+        case::CABLE => print(b"cable "),
+        case::MIDI_BYTES => print(b"MIDI bytes sent "),
+        case::MIDI_BYTE => print(b"MIDI byte "),
+        case::PACKER_CABLE => print(b"packer of cable "),
+        case::STATUS => print(b"status "),
+        case::HELD => print(b"held "),
+        _ => name_of_length(field),
     }
 }
 
@@ -48,7 +61,7 @@ fn name(field: usize) -> bool {
         case::RECEIVED_HELD => print(b"received frames "),
         case::SENDING_START => print(b"sending ring's start "),
         case::SENDING_HELD => print(b"sending frames "),
-        _ => name_of_length(field),
+        _ => name_of_music(field),
     }
 }
 
@@ -56,11 +69,18 @@ fn set(field: usize, value: u64) -> bool {
     name(field) && print_number(value)
 }
 
-fn beside(r: Row) -> bool {
-    if r.other == case::NONE {
+fn beside(field: usize, value: u64) -> bool {
+    if field == case::NONE {
         return true;
     }
-    print(b", ") && set(r.other, r.beside)
+    print(b", ") && set(field, value)
+}
+
+fn sets(r: Row) -> bool {
+    let f = r.fields;
+    let x = r.values;
+    let first = set(f[0], x[0]) && beside(f[1], x[1]);
+    first && beside(f[2], x[2]) && beside(f[3], x[3])
 }
 
 // The number, with a mark where the call did not leave what it must.
@@ -72,25 +92,25 @@ fn answer(s: Seen) -> bool {
     number && print(b" WRONG")
 }
 
-fn sends(v: [u64; 25]) -> bool {
+fn sends(v: [u64; case::FIELDS]) -> bool {
     let bytes = [0xA5u8; 4097];
     answer(calls::midi_sent(v)) && answer(calls::serial_sent(v, &bytes))
 }
 
-fn frames(v: [u64; 25]) -> bool {
+fn frames(v: [u64; case::FIELDS]) -> bool {
     let frame = [1u32; 13];
     let mut ring = word_marks();
     answer(calls::given(v, &frame, &mut ring)) && answer(calls::taken(v, &ring))
 }
 
-fn accesses(v: [u64; 25]) -> bool {
+fn accesses(v: [u64; case::FIELDS]) -> bool {
     let mut page = [MARK; 4097];
     answer(calls::device_read(v, &page)) && answer(calls::device_written(v, &mut page))
 }
 
 pub fn line(r: Row) -> bool {
     let v = case::values(r);
-    let fields = set(r.field, r.value) && beside(r) && print(b":");
+    let fields = sets(r) && print(b":");
     let all = fields && answer(frame::microframe(v)) && sends(v) && frames(v) && accesses(v);
     all && print(b"\n")
 }

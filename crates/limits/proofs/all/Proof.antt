@@ -5,10 +5,10 @@ use Rattle.limits.proofs.all.Statement.{statement}
 use Rattle.limits.proofs.all.Tie as tie
 
 abbrev Inv-loop : tie.InvT-loop
-Inv-loop i₀ i = i ≤ 72
+Inv-loop i₀ i = i ≤ 121
 
 abbrev μ-loop : tie.MeasureT-loop
-μ-loop i₀ i = 72 - i
+μ-loop i₀ i = 121 - i
 
 slice-aggregate-print : tie.Need-slice-aggregate-print Inv-loop μ-loop
 slice-aggregate-print c = search needs

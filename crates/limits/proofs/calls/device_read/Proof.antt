@@ -15,6 +15,9 @@ least-requires c κs = search needs
 state-requires : tie.Need-state-requires
 state-requires c κs = search needs
 
+packers-requires : tie.Need-packers-requires
+packers-requires c κs = search needs
+
 addresses-requires : tie.Need-addresses-requires
 addresses-requires c κs = search needs
 
@@ -36,9 +39,6 @@ low-requires-2 c κs = search needs
 slice-aggregate-part : tie.Need-slice-aggregate-part
 slice-aggregate-part c = sym (length-take-le _ _ (omega arith))
 
-new-requires : tie.Need-new-requires
-new-requires c κs = search needs
-
 read-device-requires : tie.Need-read-device-requires
 read-device-requires c κs = search needs
 
@@ -55,6 +55,7 @@ device-read-spec =
     array-read-least
     least-requires
     state-requires
+    packers-requires
     addresses-requires
     array-read-spans
     array-read-low
@@ -62,7 +63,6 @@ device-read-spec =
     array-read-low-2
     low-requires-2
     slice-aggregate-part
-    new-requires
     read-device-requires
     judged-requires
     returns)

@@ -15,6 +15,9 @@ least-requires c κs = search needs
 state-requires : tie.Need-state-requires
 state-requires c κs = search needs
 
+packers-requires : tie.Need-packers-requires
+packers-requires c κs = search needs
+
 addresses-requires : tie.Need-addresses-requires
 addresses-requires c κs = search needs
 
@@ -38,9 +41,6 @@ slice-relend-prefix-part c = search needs
 
 slice-aggregate-part : tie.Need-slice-aggregate-part
 slice-aggregate-part c = sym (length-take-le _ _ (omega arith))
-
-new-requires : tie.Need-new-requires
-new-requires c κs = search needs
 
 write-device-requires : tie.Need-write-device-requires
 write-device-requires c κs = search needs
@@ -70,6 +70,7 @@ device-written-spec =
     array-read-least
     least-requires
     state-requires
+    packers-requires
     addresses-requires
     array-read-spans
     array-read-low
@@ -78,7 +79,6 @@ device-written-spec =
     low-requires-2
     slice-relend-prefix-part
     slice-aggregate-part
-    new-requires
     write-device-requires
     same-state-requires
     changed-requires

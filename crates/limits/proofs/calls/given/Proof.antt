@@ -21,6 +21,9 @@ least-requires-2 c κs = search needs
 state-requires : tie.Need-state-requires
 state-requires c κs = search needs
 
+packers-requires : tie.Need-packers-requires
+packers-requires c κs = search needs
+
 addresses-requires : tie.Need-addresses-requires
 addresses-requires c κs = search needs
 
@@ -35,9 +38,6 @@ slice-relend-prefix-sending c = search needs
 
 slice-aggregate-sending : tie.Need-slice-aggregate-sending
 slice-aggregate-sending c = sym (length-take-le _ _ (omega arith))
-
-new-requires : tie.Need-new-requires
-new-requires c κs = search needs
 
 give-frame-requires : tie.Need-give-frame-requires
 give-frame-requires c κs = search needs
@@ -66,12 +66,12 @@ given-spec =
     array-read-least-2
     least-requires-2
     state-requires
+    packers-requires
     addresses-requires
     array-read-spans
     slice-aggregate-part
     slice-relend-prefix-sending
     slice-aggregate-sending
-    new-requires
     give-frame-requires
     same-state-requires
     changed-words-requires

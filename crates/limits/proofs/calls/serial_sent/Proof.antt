@@ -15,6 +15,9 @@ least-requires c κs = search needs
 state-requires : tie.Need-state-requires
 state-requires c κs = search needs
 
+packers-requires : tie.Need-packers-requires
+packers-requires c κs = search needs
+
 addresses-requires : tie.Need-addresses-requires
 addresses-requires c κs = search needs
 
@@ -23,9 +26,6 @@ array-read-spans c = search needs
 
 slice-aggregate-part : tie.Need-slice-aggregate-part
 slice-aggregate-part c = sym (length-take-le _ _ (omega arith))
-
-new-requires : tie.Need-new-requires
-new-requires c κs = search needs
 
 send-serial-requires : tie.Need-send-serial-requires
 send-serial-requires c κs = search needs
@@ -49,10 +49,10 @@ serial-sent-spec =
     array-read-least
     least-requires
     state-requires
+    packers-requires
     addresses-requires
     array-read-spans
     slice-aggregate-part
-    new-requires
     send-serial-requires
     same-state-requires
     queued-requires

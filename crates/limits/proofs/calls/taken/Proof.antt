@@ -15,14 +15,14 @@ least-requires c κs = search needs
 state-requires : tie.Need-state-requires
 state-requires c κs = search needs
 
+packers-requires : tie.Need-packers-requires
+packers-requires c κs = search needs
+
 addresses-requires : tie.Need-addresses-requires
 addresses-requires c κs = search needs
 
 array-read-spans : tie.Need-array-read-spans
 array-read-spans c = search needs
-
-new-requires : tie.Need-new-requires
-new-requires c κs = search needs
 
 slice-aggregate-take-frame : tie.Need-slice-aggregate-take-frame
 slice-aggregate-take-frame c = sym (length-take-le _ _ (omega arith))
@@ -49,9 +49,9 @@ taken-spec =
     array-read-least
     least-requires
     state-requires
+    packers-requires
     addresses-requires
     array-read-spans
-    new-requires
     slice-aggregate-take-frame
     take-frame-requires
     same-state-requires

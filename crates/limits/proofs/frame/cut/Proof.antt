@@ -53,50 +53,62 @@ array-read-least-8 c = search needs
 least-requires-8 : tie.Need-least-requires-8
 least-requires-8 c κs = search needs
 
+array-read-least-9 : tie.Need-array-read-least-9
+array-read-least-9 c = search needs
+
+least-requires-9 : tie.Need-least-requires-9
+least-requires-9 c κs = search needs
+
 slice-relend-prefix-run : tie.Need-slice-relend-prefix-run
 slice-relend-prefix-run c = search needs
 
 slice-aggregate-run : tie.Need-slice-aggregate-run
-slice-aggregate-run c = sym (length-take-le _ _ (c .before .before .before .before .before .before .before .before .least .ensures))
+slice-aggregate-run c = sym (length-take-le _ _ (c .before .before .before .before .before .before .before .before .before .least .ensures))
 
 slice-relend-prefix-run-2 : tie.Need-slice-relend-prefix-run-2
 slice-relend-prefix-run-2 c = search needs
 
 slice-aggregate-run-2 : tie.Need-slice-aggregate-run-2
-slice-aggregate-run-2 c = sym (length-take-le _ _ (c .before .before .before .before .before .before .before .before .least2 .ensures))
+slice-aggregate-run-2 c = sym (length-take-le _ _ (c .before .before .before .before .before .before .before .before .before .least2 .ensures))
 
 slice-relend-prefix-run-3 : tie.Need-slice-relend-prefix-run-3
 slice-relend-prefix-run-3 c = search needs
 
 slice-aggregate-run-3 : tie.Need-slice-aggregate-run-3
-slice-aggregate-run-3 c = sym (length-take-le _ _ (c .before .before .before .before .before .before .before .before .least3 .ensures))
+slice-aggregate-run-3 c = sym (length-take-le _ _ (c .before .before .before .before .before .before .before .before .before .least3 .ensures))
 
 slice-relend-prefix-run-4 : tie.Need-slice-relend-prefix-run-4
 slice-relend-prefix-run-4 c = search needs
 
 slice-aggregate-run-4 : tie.Need-slice-aggregate-run-4
-slice-aggregate-run-4 c = sym (length-take-le _ _ (c .before .before .before .before .before .before .before .before .least4 .ensures))
+slice-aggregate-run-4 c = sym (length-take-le _ _ (c .before .before .before .before .before .before .before .before .before .least4 .ensures))
 
 slice-relend-prefix-run-5 : tie.Need-slice-relend-prefix-run-5
 slice-relend-prefix-run-5 c = search needs
 
 slice-aggregate-run-5 : tie.Need-slice-aggregate-run-5
-slice-aggregate-run-5 c = sym (length-take-le _ _ (c .before .before .before .before .before .before .before .before .least5 .ensures))
+slice-aggregate-run-5 c = sym (length-take-le _ _ (c .before .before .before .before .before .before .before .before .before .least5 .ensures))
 
 slice-relend-prefix-run-6 : tie.Need-slice-relend-prefix-run-6
 slice-relend-prefix-run-6 c = search needs
 
 slice-aggregate-run-6 : tie.Need-slice-aggregate-run-6
-slice-aggregate-run-6 c = sym (length-take-le _ _ (c .before .before .before .before .before .before .before .before .least6 .ensures))
+slice-aggregate-run-6 c = sym (length-take-le _ _ (c .before .before .before .before .before .before .before .before .before .least6 .ensures))
 
 slice-relend-prefix-run-7 : tie.Need-slice-relend-prefix-run-7
 slice-relend-prefix-run-7 c = search needs
 
 slice-aggregate-run-7 : tie.Need-slice-aggregate-run-7
-slice-aggregate-run-7 c = sym (length-take-le _ _ (c .before .before .before .before .before .before .before .before .least7 .ensures))
+slice-aggregate-run-7 c = sym (length-take-le _ _ (c .before .before .before .before .before .before .before .before .before .least7 .ensures))
+
+slice-relend-prefix-run-8 : tie.Need-slice-relend-prefix-run-8
+slice-relend-prefix-run-8 c = search needs
 
 slice-aggregate-run-8 : tie.Need-slice-aggregate-run-8
-slice-aggregate-run-8 c = sym (length-take-le _ _ (c .before .before .before .before .before .before .before .before .least8 .ensures))
+slice-aggregate-run-8 c = sym (length-take-le _ _ (c .before .before .before .before .before .before .before .before .before .least8 .ensures))
+
+slice-aggregate-run-9 : tie.Need-slice-aggregate-run-9
+slice-aggregate-run-9 c = sym (length-take-le _ _ (c .before .before .before .before .before .before .before .before .before .least9 .ensures))
 
 run-requires : tie.Need-run-requires
 run-requires c κs = search needs
@@ -122,6 +134,9 @@ same-length-6 c = search needs
 same-length-7 : tie.Need-same-length-7
 same-length-7 c = search needs
 
+same-length-8 : tie.Need-same-length-8
+same-length-8 c = search needs
+
 returns : tie.Need-returns
 returns c = search needs
 
@@ -145,6 +160,8 @@ cut-spec =
     least-requires-7
     array-read-least-8
     least-requires-8
+    array-read-least-9
+    least-requires-9
     slice-relend-prefix-run
     slice-aggregate-run
     slice-relend-prefix-run-2
@@ -159,7 +176,9 @@ cut-spec =
     slice-aggregate-run-6
     slice-relend-prefix-run-7
     slice-aggregate-run-7
+    slice-relend-prefix-run-8
     slice-aggregate-run-8
+    slice-aggregate-run-9
     run-requires
     same-length
     same-length-2
@@ -168,4 +187,5 @@ cut-spec =
     same-length-5
     same-length-6
     same-length-7
+    same-length-8
     returns)
