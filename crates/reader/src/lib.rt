@@ -97,6 +97,7 @@ fn take_line(
     reply: &mut [u8; record::REPLY],
     config: &mut [u8; record::REPLY],
     receive: &mut [u8; record::RECEIVE],
+    cables: &mut [u8; record::RECEIVE],
     received: &mut [u32; record::RING],
     sending: &mut [u32; record::RING],
     bytes: &mut [u8; 32768],
@@ -124,6 +125,7 @@ fn take_line(
             reply,
             config,
             receive,
+            cables,
             received,
             &*sending,
             out,
@@ -157,7 +159,7 @@ fn take_line(
         return looked(before, tabular, last);
     }
     if lines::is_access(run.live, run.stopped, line) {
-        let next = calls::access(run, line, &*setups, dynamic, sram, page, out, at);
+        let next = calls::access(run, line, &*setups, dynamic, sram, page, &*cables, out, at);
         return answered(before, tabular, next);
     }
     let next = lines::answer(
@@ -185,6 +187,7 @@ fn take_line(
         reply,
         config,
         receive,
+        cables,
         received,
         sending,
     );
@@ -358,6 +361,7 @@ fn run_areas(
     reply: &mut [u8; record::REPLY],
     config: &mut [u8; record::REPLY],
     receive: &mut [u8; record::RECEIVE],
+    cables: &mut [u8; record::RECEIVE],
     received: &mut [u32; record::RING],
     sending: &mut [u32; record::RING],
     bytes: &mut [u8; 32768],
@@ -395,6 +399,7 @@ fn run_areas(
             reply,
             config,
             receive,
+            cables,
             received,
             sending,
             bytes,
@@ -422,6 +427,7 @@ pub fn run(tabular: bool) {
     let mut reply = [0u8; record::REPLY];
     let mut config = [0u8; record::REPLY];
     let mut receive = [0u8; record::RECEIVE];
+    let mut cables = [0u8; record::RECEIVE];
     let mut received = [0u32; record::RING];
     let mut sending = [0u32; record::RING];
     let mut bytes = [0u8; 32768];
@@ -439,6 +445,7 @@ pub fn run(tabular: bool) {
         &mut reply,
         &mut config,
         &mut receive,
+        &mut cables,
         &mut received,
         &mut sending,
         &mut bytes,

@@ -5,6 +5,7 @@ ghost use lib.ListN.{length};
 use crate::log;
 use crate::log::Came;
 use crate::turns;
+use midi::CABLES;
 use midi::Packer;
 use record::Settings;
 use record::State;
@@ -34,7 +35,7 @@ pub struct Run {
     pub dropped: u64,
     pub settings: Settings,
     pub state: State,
-    pub packer: Packer,
+    pub packers: [Packer; CABLES],
     pub all: Came,
 }
 
@@ -69,7 +70,7 @@ pub fn fresh(
         dropped: 0,
         settings,
         state: usbhost::new_state(),
-        packer: Packer::new(),
+        packers: [Packer::new(); CABLES],
         all: log::nothing_came(),
     }
 }
@@ -144,19 +145,21 @@ fn set_through(run: Run, line: &[u8], out: &mut [u8; 65536], at: usize) -> Next
     bad(run, out, at)
 }
 
-// `x 1`: the descriptors that the last microframe retired, and the bytes that it dropped.
-fn show_answer(run: Run, line: &[u8], out: &mut [u8; 65536], at: usize) -> Next
+// `x 1` and `x 2`: what else the last microframe answered.
+fn show_answer(run: Run, line: &[u8], cables: &[u8], out: &mut [u8; 65536], at: usize) -> Next
     requires { ⌜ at ≤ 40000 ⌝ }
     ensures { λ r. ⌜ r .at ≤ 65536 ⌝ }
 {
     let what = alone(line);
+    let state = run.state;
+    let answer = state.answer;
     if what.good & (what.value == 1) {
-        let state = run.state;
-        let answer = state.answer;
-        let mut end = text::append(out, at, b"x 1");
-        end = text::field(out, end, answer.retired);
-        end = text::field(out, end, answer.dropped);
-        end = text::put(out, end, b'\n');
+        let end = log::show_counts(answer, out, at);
+        return Next { run, at: end };
+    }
+    if what.good & (what.value == 2) {
+        let packers = run.packers;
+        let end = log::show_cables(answer, run.settings.cdc, packers, cables, out, at);
         return Next { run, at: end };
     }
     bad(run, out, at)
@@ -177,10 +180,11 @@ fn device_read(
     let size = parse::read_word(line, 1);
     let off = parse::read_word(line, size.next);
     if size.good & (off.good & (off.next == line.len())) {
+        let packers = run.packers;
         let read = usbhost::read_device(
             run.state,
             run.settings.spans,
-            run.packer,
+            packers,
             setups,
             page,
             off.value,
@@ -212,10 +216,11 @@ fn device_write(
     let off = parse::read_word(line, size.next);
     let value = parse::read_word(line, off.next);
     if size.good & (off.good & (value.good & (value.next == line.len()))) {
+        let packers = run.packers;
         let written = usbhost::write_device(
             run.state,
             run.settings.spans,
-            run.packer,
+            packers,
             setups,
             page,
             off.value,
@@ -290,6 +295,7 @@ pub fn access(
     dynamic: &mut [u8; 1048576],
     sram: &mut [u8; bus::SRAM],
     page: &mut [u8; bus::PAGE],
+    cables: &[u8],
     out: &mut [u8; 65536],
     at: usize,
 ) -> Next
@@ -310,14 +316,15 @@ pub fn access(
         return set_through(run, line, out, at);
     }
     if letter == b'x' {
-        return show_answer(run, line, out, at);
+        return show_answer(run, line, cables, out, at);
     }
     reach_run(run, line, dynamic, sram, page, out, at)
 }
 
-// The first `count` bytes of a buffer for the MIDI queue.
+// The first `count` bytes of a buffer for the MIDI queue, on a cable.
 fn midi_queue(
     run: Run,
+    cable: u8,
     bytes: &[u8],
     count: usize,
     setups: &[u8; record::SETUP_BYTES],
@@ -328,17 +335,19 @@ fn midi_queue(
     requires { ⌜ (at ≤ 40000) × (count ≤ length (now bytes)) ⌝ }
     ensures { λ r. ⌜ r .at ≤ 65536 ⌝ }
 {
+    let before = run.packers;
     let sent = usbhost::send_midi(
         run.state,
         run.settings.spans,
-        run.packer,
+        before,
+        cable,
         &bytes[..count],
         setups,
         midi,
     );
-    let packer = sent.packer;
+    let packers = sent.packers;
     let mut next = run;
-    next.packer = packer;
+    next.packers = packers;
     stored(next, sent.state, sent.refusal, out, at)
 }
 
@@ -355,10 +364,11 @@ fn serial_queue(
     requires { ⌜ (at ≤ 40000) × (count ≤ length (now bytes)) ⌝ }
     ensures { λ r. ⌜ r .at ≤ 65536 ⌝ }
 {
+    let packers = run.packers;
     let sent = usbhost::send_serial(
         run.state,
         run.settings.spans,
-        run.packer,
+        packers,
         &bytes[..count],
         setups,
         serial,
@@ -366,7 +376,32 @@ fn serial_queue(
     stored(run, sent.state, sent.refusal, out, at)
 }
 
-// `m BYTES` and `s BYTES`: a MIDI or a serial send.
+// The cable of a line that sends, and the place of its bytes.
+struct Named {
+    good: bool,
+    cable: u8,
+    next: usize,
+}
+
+// `c` names its cable, and what is above 255 counts as 255, which is no cable either; a line without a cable has 0.
+fn read_cable(line: &[u8]) -> Named {
+    if parse::letter(line) != b'c' {
+        return Named {
+            good: true,
+            cable: 0,
+            next: 1,
+        };
+    }
+    let number = parse::read_number(line, 1);
+    let value = number.value;
+    Named {
+        good: number.good,
+        cable: if value < 255 { value as u8 } else { 255 },
+        next: number.next,
+    }
+}
+
+// `m BYTES`, `c CABLE BYTES` and `s BYTES`: a MIDI send on cable 0 or on another, or a serial send.
 fn send(
     run: Run,
     line: &[u8],
@@ -380,14 +415,15 @@ fn send(
     requires { ⌜ at ≤ 40000 ⌝ }
     ensures { λ r. ⌜ r .at ≤ 65536 ⌝ }
 {
-    let got = parse::read_bytes(line, 1, bytes);
-    if !got.good {
+    let named = read_cable(line);
+    let got = parse::read_bytes(line, named.next, bytes);
+    if !(named.good & got.good) {
         return bad(run, out, at);
     }
-    if parse::letter(line) == b'm' {
-        return midi_queue(run, &*bytes, got.count, setups, midi, out, at);
+    if parse::letter(line) == b's' {
+        return serial_queue(run, &*bytes, got.count, setups, serial, out, at);
     }
-    serial_queue(run, &*bytes, got.count, setups, serial, out, at)
+    midi_queue(run, named.cable, &*bytes, got.count, setups, midi, out, at)
 }
 
 // Twelve words at the end of a line, and whether they stand there.
@@ -429,11 +465,12 @@ fn frame_give(
     let frame = read_frame(line);
     if frame.good {
         let words = frame.words;
+        let packers = run.packers;
         let space = ring_words(run.space, sending.len());
         let given = usbhost::give_frame(
             run.state,
             run.settings.spans,
-            run.packer,
+            packers,
             &words,
             setups,
             &mut sending[..space],
@@ -467,7 +504,8 @@ fn frame_take(
     requires { ⌜ at ≤ 40000 ⌝ }
     ensures { λ r. ⌜ r .at ≤ 65536 ⌝ }
 {
-    let taken = usbhost::take_frame(run.state, run.settings.spans, run.packer, setups, received);
+    let packers = run.packers;
+    let taken = usbhost::take_frame(run.state, run.settings.spans, packers, setups, received);
     if taken.refusal != 0 {
         return stored(run, taken.state, taken.refusal, out, at);
     }
@@ -507,11 +545,11 @@ fn with_frame(before: Drained, taken: TakenFrame) -> Drained {
 fn drain_one(
     before: Drained,
     spans: usize,
-    packer: Packer,
+    packers: [Packer; CABLES],
     setups: &[u8; record::SETUP_BYTES],
     received: &[u32],
 ) -> Drained {
-    let taken = usbhost::take_frame(before.state, spans, packer, setups, received);
+    let taken = usbhost::take_frame(before.state, spans, packers, setups, received);
     if taken.empty | (taken.refusal != 0) {
         let mut next = before;
         next.refusal = taken.refusal;
@@ -524,7 +562,7 @@ fn drain_one(
 fn drain(
     state: State,
     spans: usize,
-    packer: Packer,
+    packers: [Packer; CABLES],
     setups: &[u8; record::SETUP_BYTES],
     received: &[u32],
     most: u64,
@@ -540,7 +578,7 @@ fn drain(
         refusal: 0,
     };
     while left > 0 && drained.refusal == 0 {
-        drained = drain_one(drained, spans, packer, setups, received);
+        drained = drain_one(drained, spans, packers, setups, received);
         left -= 1;
     }
     drained
@@ -579,10 +617,11 @@ fn frames_take(
 {
     let most = parse::read_number(line, 1);
     if most.good & (most.next == line.len()) {
+        let packers = run.packers;
         let drained = drain(
             run.state,
             run.settings.spans,
-            run.packer,
+            packers,
             setups,
             received,
             most.value,
@@ -613,7 +652,7 @@ fn take(
     bad(run, out, at)
 }
 
-// A line on the queues and the rings: m, s, g, t and T.
+// A line on the queues and the rings: m, c, s, g, t and T.
 pub fn queue(
     run: Run,
     line: &[u8],
@@ -630,7 +669,7 @@ pub fn queue(
     ensures { λ r. ⌜ r .at ≤ 65536 ⌝ }
 {
     let letter = parse::letter(line);
-    if (letter == b'm') | (letter == b's') {
+    if (letter == b'm') | ((letter == b'c') | (letter == b's')) {
         return send(run, line, setups, midi, serial, bytes, out, at);
     }
     if letter == b'g' {
@@ -642,7 +681,7 @@ pub fn queue(
 // Whether a line is one of those.
 pub fn is_queue(letter: u8) -> bool {
     match letter {
-        b'm' | b's' | b'g' | b't' | b'T' => true,
+        b'm' | b'c' | b's' | b'g' | b't' | b'T' => true,
         _ => false,
     }
 }

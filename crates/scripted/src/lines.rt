@@ -19,7 +19,7 @@ use script::windows;
 use std::num::wrapping_add_u64;
 use std::num::wrapping_sub_u64;
 
-// How much a run may have written of its long areas: bytes of dynamic memory and of the receive area, words of the two rings.
+// How much a run may have written of its long areas: bytes of dynamic memory, of the receive area and so of that of cables, words of the two rings.
 pub struct Used {
     pub dynamic: usize,
     pub receive: usize,
@@ -51,6 +51,7 @@ pub fn clear_used(
     used: Used,
     dynamic: &mut [u8; 1048576],
     receive: &mut [u8; record::RECEIVE],
+    cables: &mut [u8; record::RECEIVE],
     received: &mut [u32; record::RING],
     sending: &mut [u32; record::RING],
 )
@@ -58,6 +59,7 @@ pub fn clear_used(
 {
     windows::clear(dynamic, used.dynamic);
     windows::clear(receive, used.receive);
+    windows::clear(cables, used.receive);
     windows::clear_words(received, used.received);
     windows::clear_words(sending, used.sending);
 }
@@ -76,6 +78,7 @@ pub fn clear_all(
     reply: &mut [u8; record::REPLY],
     config: &mut [u8; record::REPLY],
     receive: &mut [u8; record::RECEIVE],
+    cables: &mut [u8; record::RECEIVE],
     received: &mut [u32; record::RING],
     sending: &mut [u32; record::RING],
 )
@@ -92,7 +95,7 @@ pub fn clear_all(
     *page = [0u8; bus::PAGE];
     *reply = [0u8; record::REPLY];
     *config = [0u8; record::REPLY];
-    clear_used(used, dynamic, receive, received, sending);
+    clear_used(used, dynamic, receive, cables, received, sending);
 }
 
 // The answer to a line that starts a run, or passes over it.
@@ -177,7 +180,8 @@ pub fn observe(
     ensures { λ r. ⌜ r ≤ 65536 ⌝ }
 {
     let state = run.state;
-    let packer = run.packer;
+    let packers = run.packers;
+    let packer = packers[0];
     let length = bits::least(run.length, dynamic.len());
     let space = calls::ring_words(run.space, sending.len());
     let mut end = text::put(out, at, b'o');
@@ -324,6 +328,7 @@ pub fn go_on(
     reply: &mut [u8; record::REPLY],
     config: &mut [u8; record::REPLY],
     receive: &mut [u8; record::RECEIVE],
+    cables: &mut [u8; record::RECEIVE],
     received: &mut [u32; record::RING],
     sending: &[u32],
     out: &mut [u8; 65536],
@@ -335,6 +340,7 @@ pub fn go_on(
     let memory = bits::least(run.length, dynamic.len());
     let space = calls::ring_words(run.space, sending.len());
     let settings = run.settings;
+    let packers = run.packers;
     let mut state = run.state;
     let mut turned = turned_none(run, asked.time);
     let mut left = asked.count;
@@ -343,7 +349,7 @@ pub fn go_on(
         let done = usbhost::run_microframe(
             state,
             settings,
-            run.packer,
+            packers,
             setups,
             midi,
             serial,
@@ -354,6 +360,7 @@ pub fn go_on(
             reply,
             config,
             receive,
+            cables,
             received,
             &sending[..space],
             turned.time,
@@ -375,7 +382,7 @@ pub fn go_on(
                 state,
                 run.mode,
                 settings.cdc,
-                run.packer,
+                packers[0],
                 &dynamic[..memory],
                 &*sram,
                 &*page,

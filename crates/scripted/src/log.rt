@@ -3,7 +3,9 @@ ghost use Prim.Native.Nat.{_+_, _*_, _≤_, _<_};
 ghost use lib.ListN.{length};
 use gptimers::Timer;
 use gptimers::Timers;
+use midi::CABLES;
 use midi::Packer;
+use record::Answer;
 use record::Audio;
 use record::Control;
 use record::Phase;
@@ -235,6 +237,16 @@ fn show_port(state: State, out: &mut [u8; 65536], at: usize) -> usize
     show_timer(timers.one, out, end)
 }
 
+// A packer's status, how many bytes it holds, and whether it is inside SysEx.
+fn show_packer(packer: Packer, out: &mut [u8; 65536], at: usize) -> usize
+    requires { ⌜ at + 51 ≤ 65536 ⌝ }
+    ensures { λ r. ⌜ r ≤ at + 51 ⌝ }
+{
+    let mut end = text::field(out, at, packer.status as u64);
+    end = text::field(out, end, packer.held as u64);
+    text::flag(out, end, packer.sysex)
+}
+
 // Fields 24 to 28.
 fn show_block(audio: Audio, packer: Packer, out: &mut [u8; 65536], at: usize) -> usize
     requires { ⌜ at + 85 ≤ 65536 ⌝ }
@@ -242,9 +254,7 @@ fn show_block(audio: Audio, packer: Packer, out: &mut [u8; 65536], at: usize) ->
 {
     let mut end = text::field(out, at, audio.block as u64);
     end = text::field(out, end, audio.channels as u64);
-    end = text::field(out, end, packer.status as u64);
-    end = text::field(out, end, packer.held as u64);
-    text::flag(out, end, packer.sysex)
+    show_packer(packer, out, end)
 }
 
 // Fields 31 to 43: the counters in their order.
@@ -367,4 +377,49 @@ pub fn show_rings(
     end = text::field(out, end, ring_hash(sending, audio.sending));
     end = text::field(out, end, reply_hash(state.control, reply));
     text::field(out, end, held_hash(packer))
+}
+
+// `x 1`: the descriptors that the last microframe retired, and the bytes that it dropped.
+pub fn show_counts(answer: Answer, out: &mut [u8; 65536], at: usize) -> usize
+    requires { ⌜ at + 38 ≤ 65536 ⌝ }
+    ensures { λ r. ⌜ r ≤ at + 38 ⌝ }
+{
+    let mut end = text::append(out, at, b"x 1");
+    end = text::field(out, end, answer.retired);
+    end = text::field(out, end, answer.dropped);
+    text::put(out, end, b'\n')
+}
+
+// The packers of all cables, in order.
+fn show_packers(packers: [Packer; CABLES], out: &mut [u8; 65536], at: usize) -> usize
+    requires { ⌜ at + 816 ≤ 65536 ⌝ }
+    ensures { λ r. ⌜ r ≤ at + 816 ⌝ }
+{
+    let mut end = at;
+    let mut i = 0;
+    while i < CABLES {
+        end = show_packer(packers[i], out, end);
+        i += 1;
+    }
+    end
+}
+
+// `x 2`: the cables of the MIDI bytes that the last microframe received, how many and their hash, and the packers of all; serial bytes have none.
+pub fn show_cables(
+    answer: Answer,
+    cdc: bool,
+    packers: [Packer; CABLES],
+    cables: &[u8],
+    out: &mut [u8; 65536],
+    at: usize,
+) -> usize
+    requires { ⌜ at + 854 ≤ 65536 ⌝ }
+    ensures { λ r. ⌜ r ≤ at + 854 ⌝ }
+{
+    let count = if cdc { 0 } else { answer.received };
+    let mut end = text::append(out, at, b"x 2");
+    end = text::field(out, end, count as u64);
+    end = text::field(out, end, first_hash(cables, count));
+    end = show_packers(packers, out, end);
+    text::put(out, end, b'\n')
 }

@@ -40,7 +40,7 @@ access-requires : tie.Need-access-requires
 access-requires c κs = search needs
 
 answered-requires : tie.Need-answered-requires
-answered-requires c κs = (c .before .before .before .before .before .before .before .before .before .before .before .before .before .before .before .pre .0, c .access .ensures)
+answered-requires c κs = (c .before .before .before .before .before .before .before .before .before .before .before .before .before .before .before .before .before .pre .0, c .access .ensures)
 
 returns-3 : tie.Need-returns-3
 returns-3 c = search needs
@@ -55,7 +55,7 @@ clear-all-requires : tie.Need-clear-all-requires
 clear-all-requires c κs = search needs
 
 settled-requires : tie.Need-settled-requires
-settled-requires c κs = ((c .before .before .before .before .before .before .before .before .before .before .before .before .before .before .before .before .before .before .before .before .before .before .before .before .before .before .before .before .before .before .before .before .before .before .pre .0, c .before .before .before .before .before .before .before .before .before .before .before .before .before .before .before .before .before .before .before .before .before .before .before .before .before .before .before .before .before .before .before .before .before .before .pre .0), c .before .before .before .before .before .before .before .before .before .before .before .before .before .before .before .before .before .answer .ensures)
+settled-requires c κs = ((c .before .before .before .before .before .before .before .before .before .before .before .before .before .before .before .before .before .before .before .before .before .before .before .before .before .before .before .before .before .before .before .before .before .before .before .pre .0, c .before .before .before .before .before .before .before .before .before .before .before .before .before .before .before .before .before .before .before .before .before .before .before .before .before .before .before .before .before .before .before .before .before .before .before .pre .0), c .before .before .before .before .before .before .before .before .before .before .before .before .before .before .before .before .before .before .answer .ensures)
 
 returns-4 : tie.Need-returns-4
 returns-4 c = search needs

@@ -6,7 +6,7 @@ use Rattle.scripted.proofs.calls.midi_queue.Statement.{statement}
 use Rattle.scripted.proofs.calls.midi_queue.Tie as tie
 
 slice-aggregate-send-midi : tie.Need-slice-aggregate-send-midi
-slice-aggregate-send-midi c = sym (length-take-le _ _ (c .before .before .pre .1))
+slice-aggregate-send-midi c = sym (length-take-le _ _ (c .before .before .before .pre .1))
 
 send-midi-requires : tie.Need-send-midi-requires
 send-midi-requires c κs = search needs

@@ -6,7 +6,7 @@ use Rattle.scripted.proofs.calls.serial_queue.Statement.{statement}
 use Rattle.scripted.proofs.calls.serial_queue.Tie as tie
 
 slice-aggregate-send-serial : tie.Need-slice-aggregate-send-serial
-slice-aggregate-send-serial c = sym (length-take-le _ _ (c .before .before .pre .1))
+slice-aggregate-send-serial c = sym (length-take-le _ _ (c .before .before .before .pre .1))
 
 send-serial-requires : tie.Need-send-serial-requires
 send-serial-requires c κs = search needs

@@ -6,6 +6,9 @@ use native.Mathlib.Omega.{arith}
 use Rattle.scripted.proofs.lines.observe.Statement.{statement}
 use Rattle.scripted.proofs.lines.observe.Tie as tie
 
+array-copy-out-packer : tie.Need-array-copy-out-packer
+array-copy-out-packer c = search needs
+
 least-requires : tie.Need-least-requires
 least-requires c κs = search needs
 
@@ -34,15 +37,16 @@ show-rings-requires : tie.Need-show-rings-requires
 show-rings-requires c κs = search needs
 
 put-requires-2 : tie.Need-put-requires-2
-put-requires-2 c κs = omega (arith, c .before .show-rings .ensures, c .before .before .before .before .show-queues .ensures, c .before .before .before .before .before .before .show-areas .ensures, c .before .before .before .before .before .before .before .before .before .show-record .ensures, c .before .before .before .before .before .before .before .before .before .before .before .put .ensures, c .before .before .before .before .before .before .before .before .before .before .before .before .before .before .before .before .before .before .before .before .before .before .before .before .before .before .before .before .pre)
+put-requires-2 c κs = omega (arith, c .before .show-rings .ensures, c .before .before .before .before .show-queues .ensures, c .before .before .before .before .before .before .show-areas .ensures, c .before .before .before .before .before .before .before .before .before .show-record .ensures, c .before .before .before .before .before .before .before .before .before .before .before .put .ensures, c .before .before .before .before .before .before .before .before .before .before .before .before .before .before .before .before .before .before .before .before .before .before .before .before .before .before .before .before .before .pre)
 
 returns : tie.Need-returns
-returns c = omega (arith, c .put2 .ensures, c .before .before .show-rings .ensures, c .before .before .before .before .before .show-queues .ensures, c .before .before .before .before .before .before .before .show-areas .ensures, c .before .before .before .before .before .before .before .before .before .before .show-record .ensures, c .before .before .before .before .before .before .before .before .before .before .before .before .put .ensures, c .before .before .before .before .before .before .before .before .before .before .before .before .before .before .before .before .before .before .before .before .before .before .before .before .before .before .before .before .before .pre)
+returns c = omega (arith, c .put2 .ensures, c .before .before .show-rings .ensures, c .before .before .before .before .before .show-queues .ensures, c .before .before .before .before .before .before .before .show-areas .ensures, c .before .before .before .before .before .before .before .before .before .before .show-record .ensures, c .before .before .before .before .before .before .before .before .before .before .before .before .put .ensures, c .before .before .before .before .before .before .before .before .before .before .before .before .before .before .before .before .before .before .before .before .before .before .before .before .before .before .before .before .before .before .pre)
 
 pub observe-spec : {M : Type 1} → statement M
 observe-spec =
     tie.close
     (tie.spec
+    array-copy-out-packer
     least-requires
     ring-words-requires
     put-requires
