@@ -4,7 +4,8 @@
 usage: added.py JUDGE SCRIPT LOG, where JUDGE is judge.py, the host by documents 01 and 02 in Python, which shares no code with the port; or
 added.py SEED RUNS, which writes random runs of busy endpoints for `tools/judged busy SEED RUNS`.
 `fixed.py` ends the gate's fixed list so: behind the runs with the Rust's log come the chosen ones here, with the judge's. What each `x` line
-answers was reckoned by hand from document 01 and stands beside it; a judge that answers otherwise ends this program.
+answers, and of S-2 each `c` line and each look at sent packets, was reckoned by hand from documents 01 and 02 and stands beside it; a judge that
+answers otherwise ends this program.
 """
 import random, re, subprocess, sys
 
@@ -13,20 +14,49 @@ LISTS, DATA = TABLE + 0x1000, TABLE + 0xA000
 IOC, ACTIVE, LAST = 0x8000, 0x80, 1
 
 
+def fnv(numbers):
+    """FNV-1a of bytes, in 64 bits."""
+    all = 0xCBF29CE484222325
+    for n in numbers:
+        all = (all ^ n) * 0x100000001B3 % 2**64
+    return all
+
+
 class Run:
     def __init__(self, name, stack=0, midi=0, serial=0, table=TABLE):
         """A run whose firmware has started the controller and its list of queue heads; its microframes log nothing."""
-        self.name, self.table, self.lines, self.answers = name, table, [], []
+        self.name, self.table, self.lines, self.answers = name, table, [], {}
         self.add("n 10000 7 %d %d %d 0 0 0 0" % (stack, midi, serial), "h 0", "d 4 158 %x" % table, "d 4 140 1")
 
     def add(self, *lines):
         self.lines += lines
         return self
 
+    def asks(self, line, answer):
+        """A line, with what it answers."""
+        self.answers[len(self.lines)] = answer
+        return self.add(line)
+
     def says(self, answer, *lines):
         """These lines and `x 1`, with what that line answers."""
-        self.answers.append(answer)
-        return self.add(*lines).add("x 1")
+        return self.add(*lines).asks("x 1", "x 1 " + answer)
+
+    def sends(self, answer, *lines):
+        """Lines that send, each with this answer."""
+        for line in lines:
+            self.asks(line, answer)
+        return self
+
+    def cables(self, came="", **packers):
+        """`x 2`: the cables that bytes came on, a digit each, and the packers that are not a new host's, as c5="status held sysex"."""
+        of = ["x 2 %x %x" % (len(came), fnv(int(digit, 16) for digit in came))] + [packers.pop("c%x" % cable, "0 0 0") for cable in range(16)]
+        assert not packers
+        return self.asks("x 2", " ".join(of))
+
+    def out(self, *packets):
+        """A microframe whose MIDI output stores these packets, and a look at them."""
+        self.list(1, 0, [(4 * len(packets), IOC, DATA)], LISTS).primed(2).add("u 0")
+        return self.asks("p %x %x" % (DATA, 4 * len(packets)), "p " + "".join(packets).replace(" ", "").lower())
 
     def head(self, endpoint, into):
         """The queue head's place of the next descriptor: 64 bytes each, OUT before IN."""
@@ -108,7 +138,38 @@ def runs():
         off,
         back,
         many,
-    ]
+    ] + cable_runs()
+
+
+def cable_runs():
+    """S-2: sixteen packers, one queue, and the cables of what comes in."""
+    apart = Run("SysEx on cable 1 survives a note on cable 0: three packets in the order of their sends", 1).cables().streaming()
+    apart.sends("ok", "c 1 f001").cables(c1="0 2 1").sends("ok", "c 0 903c40").cables(c0="90 0 0", c1="0 2 1").sends("ok", "c 1 02f7").cables(c0="90 0 0").add("o")
+    apart.out("09 90 3C 40", "14 F0 01 02", "15 F7 00 00").cables(c0="90 0 0").add("o")
+
+    own = Run("Running status and held bytes are each cable's own; m is cable 0", 1).streaming()
+    own.sends("ok", "m 903c", "c 2 903c", "c 3 c0", "c e 2f", "c f f0").cables(c0="90 2 0", c2="90 2 0", c3="c0 0 0", cf="0 1 1")
+    own.sends("ok", "c f f7", "c 3 05", "c 2 40", "c 0 41", "m 3d42", "c 2 3c00", "c 3 f6").cables(c0="90 0 0", c2="90 0 0").add("o")
+    own.out("F6 F0 F7 00", "3C C0 05 00", "29 90 3C 40", "09 90 3C 41", "09 90 3D 42", "29 90 3C 00", "35 F6 00 00").add("o")
+
+    above = Run("Above f there is no cable, in an empty send neither, nor where a number of eight bits would be one; all stays")
+    above.sends("ok", "c e 90", "c f -", "c 000000000000000f -").sends("refused 8", "c 10 -", "c 10 903c40", "c ff f8", "c 100 f8", "c 10e 3c40", "c 1000000000000000 -", "c ffffffffffffffff f8")
+    above.cables(ce="90 0 0").add("o")
+
+    shared = Run("The cables share the queue: 4,092 bytes of cable 4, a packet of cable 5, and 7 for each, which leaves its packer")
+    shared.sends("ok", "c 4 " + "f8" * 1023, "c 5 f8").sends("refused 7", "c 6 f8", "c 4 f8", "m f8").sends("ok", "c 6 f0", "c 6 -", "m -").sends("refused 7", "c 6 01f7")
+    shared.cables(c6="0 1 1").sends("refused 8", "c 10 f8", "c 10 -").add("o")
+
+    came = Run("Cables of what two descriptors bring, as often as the packet has bytes; a microframe that receives none; what is sent between leaves them", 0, 1).streaming()
+    came.add("w %x 09903c403ff80000fcc1050070010203" % DATA, "w %x 24f0010225f70000" % (DATA + 0x100), "w %x 57010203" % (DATA + 0x200))
+    came.list(1, 1, [(16, 0, DATA), (8, IOC, DATA + 0x100)], LISTS).primed(0x20000).add("h 1", "u 0").cables("0003ff2222").sends("ok", "c 9 90").cables("0003ff2222", c9="90 0 0")
+    came.add("u 0").cables(c9="90 0 0").list(1, 1, [(4, IOC, DATA + 0x200)], LISTS).primed(0x20000).add("u 0").cables("555", c9="90 0 0").add("o")
+
+    fresh = Run("A new run has no microframe yet").cables()
+
+    serial = Run("Serial bytes have no cable", 0, 0, 1).streaming().add("w %x 41424344" % DATA)
+    serial.list(2, 1, [(4, IOC, DATA)], LISTS).primed(0x40000).add("h 1", "u 0").cables().add("o")
+    return [apart, own, above, shared, came, fresh, serial]
 
 
 def busy(dice):
@@ -145,11 +206,24 @@ def log(judge, script):
     """The judge's log of a script that ends with these runs, which is to have their answers."""
     # -8: going does not end a suspend yet
     whole = subprocess.run([sys.executable, judge, "-8"], input=script.encode(), stdout=subprocess.PIPE, check=True).stdout.decode()
-    said = [line[4:] for line in whole.split("\n") if line.startswith("x 1 ")]
-    meant = [answer for run in runs() for answer in run.answers]
-    if said != meant:
-        sys.exit("the judge answers %s, where %s was reckoned" % (said, meant))
+    logs = re.split(r"(?m)^(?=n )", whole)
+    for run, part in zip(reversed(runs()), reversed(logs)):
+        held_to(run, part.split("\n"))
     return whole
+
+
+def held_to(run, log):
+    """Ends the program where a line of a run that has an answer has another in the run's log."""
+    at, mode = 0, 1
+    for k, line in enumerate(run.lines):
+        if run.answers.get(k, log[at]) != log[at]:
+            sys.exit("%s: the judge answers %r to %r, where %r was reckoned" % (run.name, log[at], line, run.answers[k]))
+        letter, *words = line.split(" ")
+        mode = int(words[0]) if letter == "h" else mode
+        if letter not in "hjwf" and (mode or letter not in "uU"):
+            at += int(words[0], 16) if letter == "U" else 1
+        if log[at - 1] == "outside":
+            return
 
 
 def behind(judge, before):

@@ -2,8 +2,9 @@
 """The table of a script's runs by the Rust: from the oracle's log of the script, with an observation at the end of each run.
 
 usage: table.py ORACLE SCRIPT [JUDGE] > TABLE
-A run that the oracle ends (`outside`) has no row of its own there: such scripts are refused, or, where judge.py is given, the run's row is the judge's,
-which goes on there and says of each microframe what it dropped. Lines that the Rust has not are left out before either reads a run.
+A run that the oracle ends (`outside`) has no row of its own there, nor has one that sends on a cable (`c`), which the Rust has not: such scripts are
+refused, or, where judge.py is given, the run's row is the judge's, which goes on there and says of each microframe what it dropped. Lines that show
+or set what the Rust has not (`x`, `j`) are left out before either reads a run.
 """
 import re, subprocess, sys
 
@@ -28,7 +29,7 @@ def single(line):
 def rows(oracle, script, judge):
     for run in re.split(r"(?m)^n", script)[1:]:
         lines = [line for line in ("n" + run).rstrip("\n").split("\n") if not re.match(r"[jx] ", line)] + ["o"]
-        log = log_of([oracle], "\n".join(lines) + "\n")
+        log = log_of([oracle], "\n".join(lines) + "\n") if not any(line.startswith("c ") for line in lines) else ["outside"]
         if "outside" in log and judge is None:
             sys.exit("a run leaves the oracle's domain")
         if "outside" in log:
