@@ -22,7 +22,7 @@ const AUDIO_IN: u32 = 0x8_0000;
 const AUDIO_OUT: u32 = 0x8;
 
 // The input budget of a microframe, and whether the next descriptor has more bytes than it allows.
-#[derive(Drop)]
+#[derive(Clone, Copy)]
 pub struct Paced {
     pub budget: u64,
     pub waits: bool,

@@ -75,7 +75,7 @@ fn decode_frames(block: &[u8], received: &mut [u32], before: Ring) -> Ring
 }
 
 // What blocks change: the received ring, the credit, and the counts of frames and of bad blocks.
-#[derive(Drop)]
+#[derive(Clone, Copy)]
 pub struct Decoded {
     pub ring: Ring,
     pub credit: u64,

@@ -15,7 +15,7 @@ pub const SRAM: usize = 65_536;
 pub const PAGE: usize = 4096;
 
 // Where an address leads: a byte of one of the windows, or nowhere.
-#[derive(Drop)]
+#[derive(Clone, Copy)]
 pub enum Place {
     Dynamic(usize),
     Static(usize),
@@ -216,14 +216,14 @@ pub fn sized(dynamic: &[u8], sram: &[u8], page: &[u8]) -> bool
 }
 
 // A read's answer: 0 and the value, or the number of its refusal.
-#[derive(Drop)]
+#[derive(Clone, Copy)]
 pub struct Peeked {
     pub refusal: u8,
     pub value: u32,
 }
 
 // A write's answer: 0 and how many bytes were dropped, or the number of its refusal.
-#[derive(Drop)]
+#[derive(Clone, Copy)]
 pub struct Poked {
     pub refusal: u8,
     pub dropped: u32,

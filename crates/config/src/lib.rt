@@ -5,7 +5,7 @@ ghost use Rattle.config.specs.Config.{at as Config·at, step, walked, descriptor
 ghost use Rattle.config.specs.Table.{position, taken_at, choosing, Held, Holds, Moves, table_of};
 
 // The pairs of interface and alternate by first appearance, zero past the last, and the packet size of each direction.
-#[derive(Drop)]
+#[derive(Clone, Copy)]
 pub struct ConfigInfo {
     pub interfaces: [u8; 256],
     pub alternates: [u8; 256],
@@ -15,7 +15,7 @@ pub struct ConfigInfo {
 }
 
 // What the walk keeps beside the pairs: the interface being read, how many pairs there are, and the sizes.
-#[derive(Drop)]
+#[derive(Clone, Copy)]
 struct Progress {
     interface: u8,
     alternate: u8,
@@ -26,7 +26,7 @@ struct Progress {
 }
 
 // The block length and the channels that the host sends.
-#[derive(Drop)]
+#[derive(Clone, Copy)]
 pub struct OutBlock {
     pub block: u32,
     pub channels: u32,

@@ -6,7 +6,7 @@ use libc::STDIN_FILENO;
 use script::text;
 
 // The line being read: how many of its bytes are held, the first digit of a pair where one waits, and what is wrong with it.
-#[derive(Drop)]
+#[derive(Clone, Copy)]
 struct Line {
     held: usize,
     high: u8,
@@ -166,7 +166,7 @@ fn answer(line: Line, set: &[u8], out: &mut [u8; 65536], at: usize) -> usize
 }
 
 // A list between two bytes of its input: the line, where the output's answers end, and whether a write failed.
-#[derive(Drop)]
+#[derive(Clone, Copy)]
 struct List {
     line: Line,
     at: usize,
@@ -218,7 +218,7 @@ fn take_bytes(before: List, set: &mut [u8], out: &mut [u8; 65536], piece: &[u8])
 }
 
 // A list after a read, whether there may be more, and whether the read failed.
-#[derive(Drop)]
+#[derive(Clone, Copy)]
 struct Listed {
     list: List,
     more: bool,

@@ -29,7 +29,7 @@ const STALLED: u32 = 0x1_0001;
 const DROP_AFTER: u64 = 16000;
 
 // The setup queue's answer: the two little-endian words of the first setup that waits.
-#[derive(Drop)]
+#[derive(Clone, Copy)]
 pub enum Next {
     Setup(u32, u32),
     Empty,
@@ -232,7 +232,7 @@ fn data_stage(
 }
 
 // The state behind a status stage, and whether it completed.
-#[derive(Drop)]
+#[derive(Clone, Copy)]
 struct Acknowledged {
     state: State,
     done: bool,

@@ -13,7 +13,7 @@ use std::num::wrapping_add_u32;
 use usbdev::{EPCOMPLETE, EPLISTADDR, EPSR, FRINDEX};
 
 // What stands before a descriptor is moved: the endpoint is not primed, its list ends, or the next descriptor is active, by queue head, pointer and token.
-#[derive(Drop)]
+#[derive(Clone, Copy)]
 pub enum Found {
     Unprimed,
     Ended,
@@ -118,7 +118,7 @@ fn complete(page: &mut [u8], tok: u32, bit: u32)
 }
 
 // A retired descriptor: its next pointer, and the bytes dropped.
-#[derive(Drop)]
+#[derive(Clone, Copy)]
 pub struct Retired {
     pub next: u32,
     pub dropped: u32,
@@ -223,7 +223,7 @@ pub fn settle(
 }
 
 // A run of one descriptor after its bytes have moved: whether a completion was flagged, the bytes dropped, and the line's flag.
-#[derive(Drop)]
+#[derive(Clone, Copy)]
 pub struct Finished {
     pub done: bool,
     pub dropped: u32,
@@ -256,7 +256,7 @@ pub fn finish(
 }
 
 // A run's answer: whether a completion was flagged, bytes moved, descriptors retired, bytes dropped, and the line's flag.
-#[derive(Drop)]
+#[derive(Clone, Copy)]
 pub struct Ran {
     pub done: bool,
     pub moved: u32,

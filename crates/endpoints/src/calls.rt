@@ -11,7 +11,7 @@ use script::{hash, parse, text, windows};
 
 // What a run holds beside its memory and its serial queue: a run is of a control request or of a serial host.
 // A run that is not live ignores lines up to the next `n`.
-#[derive(Drop)]
+#[derive(Clone, Copy)]
 pub struct State {
     pub run: u64,
     pub length: usize,
@@ -23,7 +23,7 @@ pub struct State {
 }
 
 // The state after a line, and where the output's answers end.
-#[derive(Drop)]
+#[derive(Clone, Copy)]
 pub struct Next {
     pub state: State,
     pub at: usize,

@@ -7,7 +7,7 @@ use crate::frames;
 use runs::Filled;
 
 // A request: whether its data stage is over, and its reply so far.
-#[derive(Drop)]
+#[derive(Clone, Copy)]
 pub struct Request {
     pub status: bool,
     pub filled: usize,
@@ -15,7 +15,7 @@ pub struct Request {
 }
 
 // What a microframe leaves: the request, whether it still runs, the line's flag, and whether bytes were dropped.
-#[derive(Drop)]
+#[derive(Clone, Copy)]
 pub struct Step {
     pub request: Request,
     pub running: bool,

@@ -8,7 +8,7 @@ use dtd::Found;
 use usbdev::FRINDEX;
 
 // What a microframe leaves: the line's flag, how many bytes came in and went out, and how many were dropped.
-#[derive(Drop)]
+#[derive(Clone, Copy)]
 pub struct Served {
     pub line: bool,
     pub received: usize,
@@ -43,7 +43,7 @@ fn take_in(dynamic: &[u8], sram: &[u8], page: &[u8], input: &mut [u8; 32768]) ->
 }
 
 // How many of the queued bytes go to endpoint 2's next output descriptor, and whether there is one.
-#[derive(Drop)]
+#[derive(Clone, Copy)]
 struct Asked {
     active: bool,
     count: usize,

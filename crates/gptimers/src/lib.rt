@@ -20,35 +20,35 @@ const RESET: u32 = 0x4000_0000;
 const REPEAT: u32 = 0x100_0000;
 
 // A timer's count, where one stands.
-#[derive(Drop)]
+#[derive(Clone, Copy)]
 pub struct Timer {
     pub set: bool,
     pub count: u64,
 }
 
 // Both timers of the controller.
-#[derive(Drop)]
+#[derive(Clone, Copy)]
 pub struct Timers {
     pub zero: Timer,
     pub one: Timer,
 }
 
 // A timer after a microframe, and the line's flag.
-#[derive(Drop)]
+#[derive(Clone, Copy)]
 pub struct Timed {
     pub timer: Timer,
     pub line: bool,
 }
 
 // Both timers after a microframe, and the line's flag.
-#[derive(Drop)]
+#[derive(Clone, Copy)]
 pub struct TimedBoth {
     pub timers: Timers,
     pub line: bool,
 }
 
 // The answer of the checked call: 0 or the number of its refusal, the timers and the line's flag.
-#[derive(Drop)]
+#[derive(Clone, Copy)]
 pub struct Ticked {
     pub refusal: u8,
     pub timers: Timers,

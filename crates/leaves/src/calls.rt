@@ -9,7 +9,7 @@ use midi::Packer;
 use script::{hash, parse, text, windows};
 
 // What a run holds beside its memory and its MIDI queue; `length` is how much of dynamic memory's array it has.
-#[derive(Drop)]
+#[derive(Clone, Copy)]
 pub struct State {
     pub run: u64,
     pub length: usize,
@@ -20,7 +20,7 @@ pub struct State {
 }
 
 // The state after a line, and where the output's answers end.
-#[derive(Drop)]
+#[derive(Clone, Copy)]
 pub struct Next {
     pub state: State,
     pub at: usize,

@@ -5,7 +5,7 @@ use crate::case;
 use crate::same::{MARK, changed, changed_words, same_packers, same_state};
 
 // What a call answered: its number, and whether it left what it must.
-#[derive(Drop)]
+#[derive(Clone, Copy)]
 pub struct Seen {
     pub number: u8,
     pub right: bool,

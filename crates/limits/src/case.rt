@@ -81,7 +81,7 @@ pub fn usual() -> [u64; FIELDS] {
 }
 
 // A row of the list: the fields that are not as usual, NONE behind the last, and their values.
-#[derive(Drop)]
+#[derive(Clone, Copy)]
 pub struct Row {
     pub fields: [usize; 4],
     pub values: [u64; 4],

@@ -11,7 +11,7 @@ pub const QUEUE: usize = 4096;
 pub const CABLES: usize = 16;
 
 // The packer between bytes: the running status, the bytes held of a message, and whether it is inside SysEx.
-#[derive(Drop)]
+#[derive(Clone, Copy)]
 pub struct Packer {
     pub status: u8,
     pub first: u8,
@@ -21,13 +21,13 @@ pub struct Packer {
 }
 
 // At most one packet: its code and three bytes.
-#[derive(Drop)]
+#[derive(Clone, Copy)]
 pub enum Event {
     Quiet,
     Packet(u8, u8, u8, u8),
 }
 
-#[derive(Drop)]
+#[derive(Clone, Copy)]
 pub struct Fed {
     pub next: Packer,
     pub event: Event,
@@ -275,7 +275,7 @@ fn put_packet(queue: &mut [u8], at: usize, cable: u8, code: u8, x: u8, y: u8, z:
 }
 
 // The packer after a run of bytes, and the place past their packets.
-#[derive(Drop)]
+#[derive(Clone, Copy)]
 struct Placed {
     packer: Packer,
     held: usize,
@@ -303,7 +303,7 @@ fn put_packets(p: Packer, cable: u8, bytes: &[u8], queue: &mut [u8], held: usize
 }
 
 // A send's answer: 0 or the number of its refusal, the next packer, and the bytes then held in the queue.
-#[derive(Drop)]
+#[derive(Clone, Copy)]
 pub struct Sent {
     pub refusal: u8,
     pub packer: Packer,

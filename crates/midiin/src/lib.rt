@@ -154,7 +154,7 @@ fn decode(
 }
 
 // The state after one read, and whether the reads end there.
-#[derive(Drop)]
+#[derive(Clone, Copy)]
 pub struct Read {
     pub state: State,
     pub stop: bool,

@@ -36,7 +36,7 @@ fn put_line(out: &mut [u8], at: usize, code: u8, x: u8, y: u8, z: u8)
 }
 
 // What a piece of the input left: the packer after it, its packets, and the length of their lines.
-#[derive(Drop)]
+#[derive(Clone, Copy)]
 struct Piece {
     packer: Packer,
     packets: usize,
@@ -71,7 +71,7 @@ fn list_piece(p: Packer, bytes: &[u8], out: &mut [u8]) -> Piece
 }
 
 // Where the listing stands: the packer, the packets so far, whether to go on, and whether a read or a write failed.
-#[derive(Drop)]
+#[derive(Clone, Copy)]
 struct Listing {
     packer: Packer,
     packets: u64,

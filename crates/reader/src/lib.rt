@@ -16,7 +16,7 @@ fn progress(number: u64) {
 }
 
 // Where a script stands: the run, where the output's text ends, and the sums of the runs that ended.
-#[derive(Drop)]
+#[derive(Clone, Copy)]
 struct Work {
     run: Run,
     at: usize,

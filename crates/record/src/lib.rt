@@ -31,7 +31,7 @@ pub const RING_FRAMES: usize = 48_000;
 pub const RING: usize = RING_FRAMES * Audio::CHANNELS;
 
 // What the host waits for (usbhost.rs 177-190).
-#[derive(Drop)]
+#[derive(Clone, Copy)]
 pub enum Phase {
     Idle,
     Vbus,
@@ -41,21 +41,21 @@ pub enum Phase {
 }
 
 // A running request waits for its data stage's descriptor, or for its status stage's (usbhost.rs 192-198).
-#[derive(Drop)]
+#[derive(Clone, Copy)]
 pub enum Stage {
     Data,
     Status,
 }
 
 // A span of time: it holds its start and not its end, so (0, 0) holds none.
-#[derive(Drop)]
+#[derive(Clone, Copy)]
 pub struct Span {
     pub from: u64,
     pub to: u64,
 }
 
 // What is chosen at `new` and never changes: start and end of gone span i stand at 2 i and 2 i + 1.
-#[derive(Drop)]
+#[derive(Clone, Copy)]
 pub struct Settings {
     pub device_stack: bool,
     pub midi_in: bool,
@@ -68,7 +68,7 @@ pub struct Settings {
 }
 
 // The port: microframes since `new`, the phase's start, suspended, gone, RS seen set (`was_running`), and the interrupt line's flag.
-#[derive(Drop)]
+#[derive(Clone, Copy)]
 pub struct Port {
     pub uf: u64,
     pub t: u64,
@@ -79,14 +79,14 @@ pub struct Port {
 }
 
 // A ring of frames: the place of its oldest one, and how many it holds.
-#[derive(Drop)]
+#[derive(Clone, Copy)]
 pub struct Ring {
     pub start: usize,
     pub len: usize,
 }
 
 // The audio stream: `credit`, `out_counter`, `in_budget`, `out_block`, `out_channels`, and its two rings.
-#[derive(Drop)]
+#[derive(Clone, Copy)]
 pub struct Audio {
     pub credit: u64,
     pub counter: u16,
@@ -115,7 +115,7 @@ impl Audio {
 }
 
 // The request that runs, if one does: its setup as the two little-endian words that are posted, its reply's length, its start.
-#[derive(Drop)]
+#[derive(Clone, Copy)]
 pub struct Control {
     pub on: bool,
     pub stage: Stage,
@@ -156,7 +156,7 @@ pub const ENUMERATIONS: usize = 12;
 pub const COUNTERS: usize = 13;
 
 // How much is in use: setups waiting, bytes of the MIDI and the serial queue, of the device descriptor and of the configuration.
-#[derive(Drop)]
+#[derive(Clone, Copy)]
 pub struct Lengths {
     pub setups: usize,
     pub midi: usize,
@@ -166,7 +166,7 @@ pub struct Lengths {
 }
 
 // What a microframe answers: bytes in the receive area, bytes that no window took, and descriptors retired.
-#[derive(Drop)]
+#[derive(Clone, Copy)]
 pub struct Answer {
     pub received: usize,
     pub dropped: u64,
@@ -174,7 +174,7 @@ pub struct Answer {
 }
 
 // All of these.
-#[derive(Drop)]
+#[derive(Clone, Copy)]
 pub struct State {
     pub phase: Phase,
     pub port: Port,

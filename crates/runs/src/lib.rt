@@ -12,7 +12,7 @@ use dtd::{Found, Ran};
 use usbdev::EPSR;
 
 // Where a loop over descriptors stands: the next pointer, the place for the next byte, what was counted, and whether the list ended.
-#[derive(Drop)]
+#[derive(Clone, Copy)]
 pub struct Turn {
     pub next: u32,
     pub at: usize,
@@ -24,7 +24,7 @@ pub struct Turn {
 }
 
 // A run into an area: its answer, and the index behind the last byte kept.
-#[derive(Drop)]
+#[derive(Clone, Copy)]
 pub struct Filled {
     pub ran: Ran,
     pub at: usize,

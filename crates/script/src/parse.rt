@@ -2,7 +2,7 @@
 ghost use Rattle.std.specs.Prelude.{◌+◌, ◌*◌, ◌/◌, ◌≤◌, length};
 
 // A number behind a space: whether one stands there, and the place behind it.
-#[derive(Drop)]
+#[derive(Clone, Copy)]
 pub struct Number {
     pub good: bool,
     pub value: u64,
@@ -10,7 +10,7 @@ pub struct Number {
 }
 
 // The same of 32 bits.
-#[derive(Drop)]
+#[derive(Clone, Copy)]
 pub struct Word {
     pub good: bool,
     pub value: u32,
@@ -18,7 +18,7 @@ pub struct Word {
 }
 
 // A byte string at the end of a line: whether one stands there, and how many bytes it has.
-#[derive(Drop)]
+#[derive(Clone, Copy)]
 pub struct Bytes {
     pub good: bool,
     pub count: usize,
@@ -166,7 +166,7 @@ pub fn read_bytes(text: &[u8], at: usize, into: &mut [u8]) -> Bytes
 }
 
 // A byte string at the end of a line, checked where it stands: where its digits begin, and how many bytes it has.
-#[derive(Drop)]
+#[derive(Clone, Copy)]
 pub struct Text {
     pub good: bool,
     pub start: usize,

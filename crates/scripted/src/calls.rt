@@ -13,7 +13,7 @@ use usbhost::TakenFrame;
 // What a run holds beside its areas: `length` bytes of dynamic memory, `space` frames of the sending ring, the microframes that are still asked
 // for, how many calls were refused and bytes dropped, and what came in all. A run that is not live passes over its lines; behind a bad line all
 // lines are passed over. A run that goes `through`, by a line of its own or because its program `always` does, stays live where a byte was dropped.
-#[derive(Drop)]
+#[derive(Clone, Copy)]
 pub struct Run {
     pub number: u64,
     pub live: bool,
@@ -35,7 +35,7 @@ pub struct Run {
 }
 
 // The run after a line, and where the output's answers end.
-#[derive(Drop)]
+#[derive(Clone, Copy)]
 pub struct Next {
     pub run: Run,
     pub at: usize,
@@ -373,7 +373,7 @@ fn serial_queue(
 }
 
 // The cable of a line that sends, and the place of its bytes.
-#[derive(Drop)]
+#[derive(Clone, Copy)]
 struct Named {
     good: bool,
     cable: u8,
@@ -424,7 +424,7 @@ fn send(
 }
 
 // Twelve words at the end of a line, and whether they stand there.
-#[derive(Drop)]
+#[derive(Clone, Copy)]
 struct Frame {
     good: bool,
     words: [u32; 12],
@@ -520,7 +520,7 @@ fn frame_take(
 }
 
 // Frames taken: how many, the hash of their words, and the number of a call that was refused, or 0.
-#[derive(Drop)]
+#[derive(Clone, Copy)]
 struct Drained {
     state: State,
     count: u64,

@@ -12,7 +12,7 @@ use script::{parse, text, windows};
 use std::num::{wrapping_add_u64, wrapping_sub_u64};
 
 // How much a run may have written of its long areas: bytes of dynamic memory, of the receive area and so of that of cables, words of the two rings.
-#[derive(Drop)]
+#[derive(Clone, Copy)]
 pub struct Used {
     pub dynamic: usize,
     pub receive: usize,

@@ -10,7 +10,7 @@ use script::{hash, text};
 const STATS: usize = 13;
 
 // Bytes that came in, of MIDI and of serial: how many, and their hash.
-#[derive(Drop)]
+#[derive(Clone, Copy)]
 pub struct Came {
     pub midi: u64,
     pub midi_hash: u64,

@@ -5,7 +5,7 @@ use record::{Settings, Span};
 use script::parse;
 
 // What such a line says, and whether it is as it must be; `space` counts frames of the sending ring.
-#[derive(Drop)]
+#[derive(Clone, Copy)]
 pub struct Start {
     pub good: bool,
     pub length: usize,
@@ -14,7 +14,7 @@ pub struct Start {
 }
 
 // A number that is 0 or 1, and the place behind it.
-#[derive(Drop)]
+#[derive(Clone, Copy)]
 struct Flag {
     good: bool,
     on: bool,
@@ -22,7 +22,7 @@ struct Flag {
 }
 
 // A span, and the place behind it.
-#[derive(Drop)]
+#[derive(Clone, Copy)]
 struct Spanned {
     good: bool,
     span: Span,
@@ -30,7 +30,7 @@ struct Spanned {
 }
 
 // The gone spans as the settings hold them, and the place behind them.
-#[derive(Drop)]
+#[derive(Clone, Copy)]
 struct Gone {
     good: bool,
     count: usize,
@@ -39,7 +39,7 @@ struct Gone {
 }
 
 // The two lengths, and the place behind them.
-#[derive(Drop)]
+#[derive(Clone, Copy)]
 struct Sizes {
     good: bool,
     length: usize,

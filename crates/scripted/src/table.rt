@@ -6,7 +6,7 @@ use script::text;
 use std::num::wrapping_add_u64;
 
 // What a run counted: the host's counters, its credit, calls that were refused and bytes that were dropped.
-#[derive(Drop)]
+#[derive(Clone, Copy)]
 pub struct Row {
     pub stats: [u64; record::COUNTERS],
     pub credit: u64,
@@ -101,7 +101,7 @@ pub fn heading(out: &mut [u8; 65536], at: usize) -> usize
 }
 
 // A run's row and the sums with it.
-#[derive(Drop)]
+#[derive(Clone, Copy)]
 pub struct Summed {
     pub sums: Row,
     pub at: usize,

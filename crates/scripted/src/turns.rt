@@ -8,7 +8,7 @@ use record::{Answer, State};
 use script::{parse, text};
 
 // How many microframes a line asks for, from what time on and how far apart.
-#[derive(Drop)]
+#[derive(Clone, Copy)]
 pub struct Asked {
     pub good: bool,
     pub count: u64,
@@ -38,7 +38,7 @@ pub fn read_asked(line: &[u8]) -> Asked {
 }
 
 // Where microframes stand: from what time on they are asked for, what came and was dropped, and whether the run goes on.
-#[derive(Drop)]
+#[derive(Clone, Copy)]
 pub struct Turned {
     pub all: Came,
     pub time: u64,

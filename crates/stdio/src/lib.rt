@@ -5,7 +5,7 @@ use libc::{STDERR_FILENO, STDIN_FILENO, STDOUT_FILENO};
 
 // Where reading stands: the line from `from` to `end`, what is not taken yet from `next` to `held`, whether there may be more, and whether a
 // read failed.
-#[derive(Drop)]
+#[derive(Clone, Copy)]
 pub struct Place {
     pub from: usize,
     pub end: usize,
@@ -60,7 +60,7 @@ fn shift(text: &mut [u8; 65536], used: usize, end: usize) -> usize
 }
 
 // Where a text ends after a read, and whether that failed.
-#[derive(Drop)]
+#[derive(Clone, Copy)]
 struct Got {
     end: usize,
     failed: bool,
@@ -156,7 +156,7 @@ pub fn write_first(out: &[u8], count: usize) -> bool
 }
 
 // Where the next answer goes, and whether a write failed.
-#[derive(Drop)]
+#[derive(Clone, Copy)]
 pub struct Answers {
     pub at: usize,
     pub failed: bool,

@@ -23,7 +23,7 @@ const SECOND_OUT: u32 = 0x4;
 const PACKET: usize = 512;
 
 // What an output endpoint took of a queue: nothing, or so many bytes by a run.
-#[derive(Drop)]
+#[derive(Clone, Copy)]
 enum Took {
     Nothing,
     Bytes(Ran, usize),

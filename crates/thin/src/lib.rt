@@ -9,7 +9,7 @@ use usbhost::Host;
 
 // A microframe's answer: 0 or the number of its refusal, how many MIDI or serial bytes stand in the receive area, the bytes that no window took,
 // and the descriptors retired.
-#[derive(Drop)]
+#[derive(Clone, Copy)]
 pub struct Answered {
     pub refusal: u8,
     pub received: usize,

@@ -39,14 +39,14 @@ pub const EPCOMPLETE: usize = 0x1BC;
 pub const EPCR0: usize = 0x1C0;
 
 // A read's answer: 0 and the value, or the number of its refusal.
-#[derive(Drop)]
+#[derive(Clone, Copy)]
 pub struct Value {
     pub refusal: u8,
     pub value: u32,
 }
 
 // A write's answer: 0 or the number of its refusal, and the line's flag.
-#[derive(Drop)]
+#[derive(Clone, Copy)]
 pub struct Written {
     pub refusal: u8,
     pub line: bool,

@@ -23,7 +23,7 @@ use record::{
 use usbdev::Value;
 
 // The host record (usbhost.rs 205-288). Its fields are read by calls and written by no one outside.
-#[derive(Drop)]
+#[derive(Clone, Copy)]
 pub struct Host {
     phase: Phase,
     port: Port,
@@ -41,21 +41,21 @@ pub struct Host {
 }
 
 // The answer of `new`: 0 or 3, and the host.
-#[derive(Drop)]
+#[derive(Clone, Copy)]
 pub struct Created {
     pub refusal: u8,
     pub host: Host,
 }
 
 // A call's answer: 0 or the number of its refusal, and the next record.
-#[derive(Drop)]
+#[derive(Clone, Copy)]
 pub struct Sent {
     pub refusal: u8,
     pub host: Host,
 }
 
 // A frame taken: 0 or the number of its refusal, whether the ring was empty, the frame, and the next record.
-#[derive(Drop)]
+#[derive(Clone, Copy)]
 pub struct Taken {
     pub refusal: u8,
     pub empty: bool,
@@ -64,7 +64,7 @@ pub struct Taken {
 }
 
 // A device read: 0 or the number of its refusal, the value, and the record.
-#[derive(Drop)]
+#[derive(Clone, Copy)]
 pub struct Read {
     pub refusal: u8,
     pub value: u32,
@@ -73,7 +73,7 @@ pub struct Read {
 
 // A microframe: 0 or the number of its refusal, how many MIDI or serial bytes stand in the receive area, the bytes that no window took, the
 // descriptors retired, and the next record.
-#[derive(Drop)]
+#[derive(Clone, Copy)]
 pub struct Framed {
     pub refusal: u8,
     pub received: usize,
@@ -96,7 +96,7 @@ fn is_stream(p: Phase) -> bool
 }
 
 // A send of MIDI bytes: 0 or the number of its refusal, and what follows it.
-#[derive(Drop)]
+#[derive(Clone, Copy)]
 pub struct MidiSent {
     pub refusal: u8,
     pub state: State,
@@ -104,14 +104,14 @@ pub struct MidiSent {
 }
 
 // A call that changes the state alone.
-#[derive(Drop)]
+#[derive(Clone, Copy)]
 pub struct Stored {
     pub refusal: u8,
     pub state: State,
 }
 
 // A frame taken.
-#[derive(Drop)]
+#[derive(Clone, Copy)]
 pub struct TakenFrame {
     pub refusal: u8,
     pub empty: bool,
