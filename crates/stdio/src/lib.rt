@@ -1,7 +1,9 @@
 // Standard input by lines, and standard output from a buffer: what failed is told from what ended.
+#![tactic(auto)]
+
 ghost use Rattle.std.specs.Prelude.{◌≡◌, ◌-◌, ◌≤◌, length};
 
-use libc::{STDERR_FILENO, STDIN_FILENO, STDOUT_FILENO};
+use std::io::{Read, Write};
 
 // Where reading stands: the line from `from` to `end`, what is not taken yet from `next` to `held`, whether there may be more, and whether a
 // read failed.
@@ -67,15 +69,21 @@ struct Got {
 }
 
 // Reads once, behind what a text holds.
-fn read_behind(text: &mut [u8], held: usize) -> Got
+fn read_behind(rt: HostRuntime, text: &mut [u8], held: usize) -> Got
     requires held_bound { held ≤ 65536 }
     requires text_len { length text.old ≡ 65536 }
     ensures { (held ≤ result.end) × (result.end ≤ 65536) }
 {
-    let got = libc::read(STDIN_FILENO, &mut text[held..]);
-    Got {
-        end: held + io::count(got, &text[held..]),
-        failed: got < 0,
+    let mut input = rt.stdin();
+    match input.read(&mut text[held..]) {
+        Ok(count) => Got {
+            end: held + count,
+            failed: false,
+        },
+        Err(_) => Got {
+            end: held,
+            failed: true,
+        },
     }
 }
 
@@ -96,7 +104,7 @@ fn unread(held: usize) -> Place
 
 // Reads once, behind a line that goes on. A line that fills the buffer goes on too far, and is the caller's to refuse; the last line is one that
 // no line end follows.
-fn refill(text: &mut [u8; 65536], used: usize, held: usize) -> Place
+fn refill(rt: HostRuntime, text: &mut [u8; 65536], used: usize, held: usize) -> Place
     requires { (used ≤ held) × (held ≤ 65536) }
     ensures { ((result.from ≤ result.end) × (result.end ≤ 65536)) × ((result.next ≤ result.held) × (result.held ≤ 65536)) }
 {
@@ -111,7 +119,7 @@ fn refill(text: &mut [u8; 65536], used: usize, held: usize) -> Place
             failed: false,
         };
     }
-    let got = read_behind(text, left);
+    let got = read_behind(rt, text, left);
     let end = got.end;
     if left < end {
         return no_line(0, end);
@@ -130,7 +138,7 @@ fn refill(text: &mut [u8; 65536], used: usize, held: usize) -> Place
 }
 
 // The next line that is whole, or an empty one where the text is read on.
-pub fn next_line(text: &mut [u8; 65536], next: usize, held: usize) -> Place
+pub fn next_line(rt: HostRuntime, text: &mut [u8; 65536], next: usize, held: usize) -> Place
     requires { (next ≤ held) × (held ≤ 65536) }
     ensures { ((result.from ≤ result.end) × (result.end ≤ 65536)) × ((result.next ≤ result.held) × (result.held ≤ 65536)) }
 {
@@ -145,14 +153,15 @@ pub fn next_line(text: &mut [u8; 65536], next: usize, held: usize) -> Place
             failed: false,
         };
     }
-    refill(text, next, held)
+    refill(rt, text, next, held)
 }
 
 // Writes the first bytes of a buffer, and says whether all of them were written.
-pub fn write_first(out: &[u8], count: usize) -> bool
+pub fn write_first(rt: HostRuntime, out: &[u8], count: usize) -> bool
     requires { count ≤ length out.now }
 {
-    io::write_all(STDOUT_FILENO, &out[..count])
+    let mut output = rt.stdout();
+    output.write_all(&out[..count]).is_ok()
 }
 
 // Where the next answer goes, and whether a write failed.
@@ -163,7 +172,7 @@ pub struct Answers {
 }
 
 // A place for an answer: behind the last one, or the start once what a full buffer holds is written.
-pub fn room(out: &[u8; 65536], at: usize) -> Answers
+pub fn room(rt: HostRuntime, out: &[u8; 65536], at: usize) -> Answers
     requires { at ≤ 65536 }
     ensures { result.at ≤ 40000 }
 {
@@ -172,12 +181,19 @@ pub fn room(out: &[u8; 65536], at: usize) -> Answers
     }
     Answers {
         at: 0,
-        failed: !write_first(out, at),
+        failed: !write_first(rt, out, at),
     }
+}
+
+// Says on standard error what went wrong; whether that can be written is not asked.
+fn complain(rt: HostRuntime, message: &[u8]) {
+    let mut errors = rt.stderr();
+    let _ = errors.write_all(message);
 }
 
 // The end of a program: the rest of its buffer is written, and what could not be read or written is said on standard error.
 pub fn finish(
+    rt: HostRuntime,
     unread: bool,
     unwritten: bool,
     out: &[u8; 65536],
@@ -188,13 +204,13 @@ pub fn finish(
     requires { count ≤ 65536 }
 {
     if unread {
-        io::write_all(STDERR_FILENO, of_input);
+        complain(rt, of_input);
     }
     if unwritten {
-        io::write_all(STDERR_FILENO, of_output);
+        complain(rt, of_output);
         return;
     }
-    if !write_first(out, count) {
-        io::write_all(STDERR_FILENO, of_output);
+    if !write_first(rt, out, count) {
+        complain(rt, of_output);
     }
 }
