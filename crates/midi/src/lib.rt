@@ -1,4 +1,6 @@
 // MIDI bytes to USB-MIDI event packets: the packer of a cable, a send into the queue, and the receive table.
+#![tactic(auto)]
+
 ghost use Rattle.std.specs.Prelude.{◌≡◌, [], ◌∷◌, length, ◌+◌, ◌*◌, ◌≤◌, ◌<◌};
 ghost use Rattle.std.proofs.lemmas.List.Edits.{sets};
 ghost use Rattle.midi.specs.Packer as P;
