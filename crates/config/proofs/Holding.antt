@@ -11,7 +11,7 @@ use lib.Dec.{ltb}
 use borrow.Author.Tests.{eq-eqb, ne_eqb, le-leb, lt-leb}
 use Rattle.bits.proofs.Tests.{and_false}
 use Rattle.bits.specs.Pick.{pick}
-use Rattle.config.specs.Config.{Walk, member, interfaces, alternates, slot, chosen, step, at, is_interface, interface_of, is_endpoint, counts, is_input, packet_size}
+use Rattle.config.specs.Config.{Walk, member, interfaces, slot, chosen, step, at, is_interface, interface_of, is_endpoint, counts, is_input, packet_size}
 use Rattle.config.specs.Table.{position, reading_of, Holds, Held, choosing, taken_at, table_of}
 use Rattle.config.specs.declared.Progress.{Progress}
 use Rattle.config.proofs.Few.{valid_few}

@@ -1,4 +1,6 @@
 // The interface choice of a configuration descriptor.
+#![tactic(auto)]
+
 ghost use Rattle.std.specs.Prelude.{◌≡◌, ◌&&◌, ◌+◌, ◌≤◌, ◌<◌, length, take, replicate, ltb};
 ghost use Rattle.bits.specs.Pick.{pick};
 ghost use Rattle.config.specs.Config.{at as Config·at, step, walked, descriptors, start, parsed};
