@@ -1,5 +1,5 @@
 -- Words of a window, across its wrap and across windows, for every length at once; and the source's short path.
-use Rattle.std.proofs.Common.{◌≡◌, ℕ, ◌+◌, ◌-◌, ◌%◌, ◌^◌, ◌<◌, ◌≤◌, Bool, true, false, leb, length, get_or, sym, refl, ap, ◌∙◌, mod-eq_of_lt, arith, leb-true}
+use Rattle.std.proofs.Common.{◌≡◌, ℕ, ◌+◌, ◌%◌, ◌^◌, ◌<◌, ◌≤◌, Bool, true, false, leb, length, get_or, sym, refl, ap, ◌∙◌, mod-eq_of_lt, arith, leb-true}
 use Rattle.bits.specs.Pick.{pick}
 use Rattle.bus.specs.declared.Place.{Place}
 use Rattle.bus.specs.declared.Place.TheVariants.{Dynamic, Static, Page, Nowhere}

@@ -1,5 +1,5 @@
 -- A word that lies in one page is a word of one window.
-use Rattle.std.proofs.Common.{◌≡◌, ℕ, ◌+◌, ◌-◌, ◌*◌, ◌/◌, ◌%◌, ◌^◌, ◌<◌, ◌≤◌, refl, ap, ◌∙◌, mod-eq_of_lt, arith}
+use Rattle.std.proofs.Common.{◌≡◌, ℕ, ◌+◌, ◌*◌, ◌/◌, ◌%◌, ◌^◌, ◌<◌, ◌≤◌, refl, ap, ◌∙◌, mod-eq_of_lt, arith}
 use Rattle.bus.specs.declared.Place.{Place}
 use Rattle.bus.specs.declared.Place.TheVariants.{Dynamic, Static, Page, Nowhere}
 use Rattle.bus.specs.Memory.{Memory, memory, at, read, write, lost, word, after, poke8, peek32, poke32, dropped32}

@@ -1,6 +1,5 @@
 -- The three windows of memory, and what reading and writing at an address mean (document 01, "Memory windows"; bus.rs 216-222, 400-480).
 use Rattle.std.specs.Prelude.{ℕ, ◌+◌, ◌-◌, ◌*◌, ◌/◌, ◌%◌, ◌^◌, List, length, nat_lt, slice_index, slice_set}
-use Rattle.std.specs.Borrow.{Bor}
 use Rattle.bits.specs.Pick.{pick}
 use Rattle.bus.specs.declared.Place.{Place}
 use Rattle.bus.specs.declared.Place.TheVariants.{Dynamic, Static, Page, Nowhere}
@@ -15,8 +14,8 @@ abbrev pub memory : List ℕ → List ℕ → List ℕ → Memory
 memory d f p = record { dynamic = d; sram = f; page = p }
 
 -- what references to the three windows show
-abbrev pub shown : Bor (List ℕ) → Bor (List ℕ) → Bor (List ℕ) → Memory
-shown d f p = memory d.now f.now p.now
+abbrev pub shown : List ℕ → List ℕ → List ℕ → Memory
+shown d f p = memory d f p
 
 -- where address a leads if dynamic memory has n bytes: the windows from the lowest address up
 unfoldable pub place : ℕ → ℕ → Place

@@ -1,4 +1,6 @@
 // The three windows of memory: reads and writes of bytes and of big-endian words; bytes stored in an area.
+#![tactic(auto)]
+
 ghost use Rattle.std.specs.Prelude.{◌≡◌, ℕ, ◌+◌, ◌≤◌, length};
 ghost use Rattle.std.proofs.lemmas.List.Edits.{sets};
 ghost use Rattle.bus.specs.Memory as M;
@@ -50,8 +52,8 @@ pub fn locate(n: usize, a: u32) -> Place
 
 // The byte at address a.
 pub fn peek8(dynamic: &[u8], sram: &[u8], page: &[u8], a: u32) -> u8
-    requires { Sized (shown dynamic sram page) }
-    ensures { result ≡ M.peek8 (shown dynamic.entry sram.entry page.entry) a }
+    requires { Sized (shown dynamic.now sram.now page.now) }
+    ensures { result ≡ M.peek8 (shown dynamic.now sram.now page.now) a }
 {
     match locate(dynamic.len(), a) {
         Place::Dynamic(i) => dynamic[i],
@@ -63,8 +65,8 @@ pub fn peek8(dynamic: &[u8], sram: &[u8], page: &[u8], a: u32) -> u8
 
 // Stores v at address a, and answers how many bytes were dropped.
 pub fn poke8(dynamic: &mut [u8], sram: &mut [u8], page: &mut [u8], a: u32, v: u8) -> u32
-    requires { Sized (shown dynamic sram page) }
-    ensures left { Left (shown dynamic.exit sram.exit page.exit) (M.poke8 (shown dynamic.entry sram.entry page.entry) a v) }
+    requires { Sized (shown dynamic.old sram.old page.old) }
+    ensures left { Left (shown dynamic.new sram.new page.new) (M.poke8 (shown dynamic.old sram.old page.old) a v) }
     ensures value { result ≡ M.dropped8 a }
 {
     match locate(dynamic.len(), a) {
@@ -112,8 +114,8 @@ pub fn put_at(s: &mut [u8], i: usize, v: u32)
 
 // The word at address a, byte by byte.
 fn peek32_bytes(dynamic: &[u8], sram: &[u8], page: &[u8], a: u32) -> u32
-    requires { Sized (shown dynamic sram page) }
-    ensures { result ≡ M.peek32 (shown dynamic.entry sram.entry page.entry) a }
+    requires { Sized (shown dynamic.now sram.now page.now) }
+    ensures { result ≡ M.peek32 (shown dynamic.now sram.now page.now) a }
 {
     let b0 = peek8(dynamic, sram, page, a);
     let b1 = peek8(dynamic, sram, page, wrapping_add_u32(a, 1));
@@ -124,8 +126,8 @@ fn peek32_bytes(dynamic: &[u8], sram: &[u8], page: &[u8], a: u32) -> u32
 
 // Stores v at address a, byte by byte, and answers how many bytes were dropped.
 fn poke32_bytes(dynamic: &mut [u8], sram: &mut [u8], page: &mut [u8], a: u32, v: u32) -> u32
-    requires { Sized (shown dynamic sram page) }
-    ensures left { Left (shown dynamic.exit sram.exit page.exit) (M.poke32 (shown dynamic.entry sram.entry page.entry) a v) }
+    requires { Sized (shown dynamic.old sram.old page.old) }
+    ensures left { Left (shown dynamic.new sram.new page.new) (M.poke32 (shown dynamic.old sram.old page.old) a v) }
     ensures value { result ≡ M.dropped32 a }
 {
     let n0 = poke8(dynamic, sram, page, a, (v / 0x100_0000) as u8);
@@ -149,8 +151,8 @@ fn poke32_bytes(dynamic: &mut [u8], sram: &mut [u8], page: &mut [u8], a: u32, v:
 
 // The word at address a: at once where it lies in one page of 4,096 bytes, since no window ends inside one.
 pub fn peek32(dynamic: &[u8], sram: &[u8], page: &[u8], a: u32) -> u32
-    requires { Sized (shown dynamic sram page) }
-    ensures { result ≡ M.peek32 (shown dynamic.entry sram.entry page.entry) a }
+    requires { Sized (shown dynamic.now sram.now page.now) }
+    ensures { result ≡ M.peek32 (shown dynamic.now sram.now page.now) a }
 {
     if 4092 < a % 4096 {
         return peek32_bytes(dynamic, sram, page, a);
@@ -165,8 +167,8 @@ pub fn peek32(dynamic: &[u8], sram: &[u8], page: &[u8], a: u32) -> u32
 
 // Stores v at address a, and answers how many bytes were dropped.
 pub fn poke32(dynamic: &mut [u8], sram: &mut [u8], page: &mut [u8], a: u32, v: u32) -> u32
-    requires { Sized (shown dynamic sram page) }
-    ensures left { Left (shown dynamic.exit sram.exit page.exit) (M.poke32 (shown dynamic.entry sram.entry page.entry) a v) }
+    requires { Sized (shown dynamic.old sram.old page.old) }
+    ensures left { Left (shown dynamic.new sram.new page.new) (M.poke32 (shown dynamic.old sram.old page.old) a v) }
     ensures value { result ≡ M.dropped32 a }
 {
     if 4092 < a % 4096 {
@@ -204,7 +206,7 @@ pub fn power(n: usize) -> bool
 
 // Whether the windows are as long as they must be: number 1 is given where not.
 pub fn sized(dynamic: &[u8], sram: &[u8], page: &[u8]) -> bool
-    ensures { result ≡ is_sized (shown dynamic.entry sram.entry page.entry) }
+    ensures { result ≡ is_sized (shown dynamic.now sram.now page.now) }
 {
     if sram.len() != SRAM {
         return false;
@@ -231,7 +233,7 @@ pub struct Poked {
 
 // The byte at address a of windows of any lengths.
 pub fn checked_peek8(dynamic: &[u8], sram: &[u8], page: &[u8], a: u32) -> Peeked
-    ensures { result ≡ peeked (shown dynamic.entry sram.entry page.entry) (M.peek8 (shown dynamic.entry sram.entry page.entry) a) }
+    ensures { result ≡ peeked (shown dynamic.now sram.now page.now) (M.peek8 (shown dynamic.now sram.now page.now) a) }
 {
     if sized(dynamic, sram, page) {
         let value = peek8(dynamic, sram, page, a) as u32;
@@ -245,7 +247,7 @@ pub fn checked_peek8(dynamic: &[u8], sram: &[u8], page: &[u8], a: u32) -> Peeked
 
 // The word at address a of windows of any lengths.
 pub fn checked_peek32(dynamic: &[u8], sram: &[u8], page: &[u8], a: u32) -> Peeked
-    ensures { result ≡ peeked (shown dynamic.entry sram.entry page.entry) (M.peek32 (shown dynamic.entry sram.entry page.entry) a) }
+    ensures { result ≡ peeked (shown dynamic.now sram.now page.now) (M.peek32 (shown dynamic.now sram.now page.now) a) }
 {
     if sized(dynamic, sram, page) {
         let value = peek32(dynamic, sram, page, a);
@@ -259,7 +261,7 @@ pub fn checked_peek32(dynamic: &[u8], sram: &[u8], page: &[u8], a: u32) -> Peeke
 
 // Stores the byte v at address a of windows of any lengths.
 pub fn checked_poke8(dynamic: &mut [u8], sram: &mut [u8], page: &mut [u8], a: u32, v: u8) -> Poked
-    ensures { (result ≡ poked (shown dynamic.entry sram.entry page.entry) (M.dropped8 a)) × (shown dynamic.exit sram.exit page.exit ≡ kept (shown dynamic.entry sram.entry page.entry) (M.poke8 (shown dynamic.entry sram.entry page.entry) a v)) }
+    ensures { (result ≡ poked (shown dynamic.old sram.old page.old) (M.dropped8 a)) × (shown dynamic.new sram.new page.new ≡ kept (shown dynamic.old sram.old page.old) (M.poke8 (shown dynamic.old sram.old page.old) a v)) }
 {
     if sized(&*dynamic, &*sram, &*page) {
         let dropped = poke8(dynamic, sram, page, a, v);
@@ -276,7 +278,7 @@ pub fn checked_poke8(dynamic: &mut [u8], sram: &mut [u8], page: &mut [u8], a: u3
 
 // Stores the word v at address a of windows of any lengths.
 pub fn checked_poke32(dynamic: &mut [u8], sram: &mut [u8], page: &mut [u8], a: u32, v: u32) -> Poked
-    ensures { (result ≡ poked (shown dynamic.entry sram.entry page.entry) (M.dropped32 a)) × (shown dynamic.exit sram.exit page.exit ≡ kept (shown dynamic.entry sram.entry page.entry) (M.poke32 (shown dynamic.entry sram.entry page.entry) a v)) }
+    ensures { (result ≡ poked (shown dynamic.old sram.old page.old) (M.dropped32 a)) × (shown dynamic.new sram.new page.new ≡ kept (shown dynamic.old sram.old page.old) (M.poke32 (shown dynamic.old sram.old page.old) a v)) }
 {
     if sized(&*dynamic, &*sram, &*page) {
         let dropped = poke32(dynamic, sram, page, a, v);
@@ -297,5 +299,5 @@ pub fn put_bytes(area: &mut [u8], at: usize, source: &[u8])
     ensures { area.new ≡ sets area.old at source.now }
 {
     let end = at + source.len();
-    bytes::copy(source, &mut area[at..end]);
+    area[at..end].copy_from_slice(source);
 }
