@@ -1,5 +1,5 @@
 -- A buffer cleared element by element.
-use Rattle.std.proofs.Common.{◌≡◌, ℕ, suc, ◌+◌, ◌<◌, ◌≤◌, List, [], ◌∷◌, ◌++◌, length, get_or, drop, set, replicate, sym, refl, ap, ◌∙◌, add-one, arith, length-append, length-drop, drop-cons}
+use Rattle.std.proofs.Common.{◌≡◌, ℕ, suc, ◌+◌, ◌<◌, ◌≤◌, List, length, get_or, drop, set, replicate, sym, refl, ap, ◌∙◌, add-one, arith, length-append, length-drop, drop-cons}
 use lib.ListN.{length-replicate, replicate-append-replicate}
 use lib.Seq.{set_at, append_snoc}
 use Rattle.script.specs.Cleared.{cleared}

@@ -1,3 +1,2 @@
 pub mod Bytewise
 pub mod Clearing
-pub mod Sums
