@@ -1,4 +1,6 @@
 // The register page of the USB controller: what the device reads and writes, the interrupt line, and `raise`.
+#![tactic(auto)]
+
 ghost use Rattle.std.specs.Prelude.{◌≡◌, ◌+◌, ◌-◌, ◌≤◌, Bool, length};
 ghost use Rattle.bits.specs.Pick.{pick};
 ghost use Rattle.usbdev.specs.Registers as R;

@@ -1,0 +1,19 @@
+-- `usbdev::write_sized` meets its contract. Assumes nothing.
+use Rattle.std.proofs.Common.{ne_eqb}
+use Rattle.usbdev.specs.Access.{write_sized}
+use Rattle.usbdev.proofs.write_sized.Goals as goal
+
+pub returns-in-4 : goal.returns-in-4
+unfolding write_sized
+returns-in-4 c = rw c.in-4.is c.write_word.ensures
+
+pub returns-in-2 : goal.returns-in-2
+unfolding write_sized
+returns-in-2 c = rw (c.in-2.is, c.put_half.ensures)
+
+pub returns-in_default : goal.returns-in_default
+unfolding write_sized
+returns-in_default c =
+    let s = c.args.size in
+    let none = c.in_default.in_default-own.rest in
+    simp (ne_eqb s 4 none.0.1, ne_eqb s 2 none.1)
