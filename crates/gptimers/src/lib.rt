@@ -1,4 +1,6 @@
 // The general-purpose timers of the USB controller.
+#![tactic(auto)]
+
 ghost use Rattle.std.specs.Prelude.{◌≡◌, Bool, true, ◌+◌, ◌-◌, ◌<◌, ◌≤◌, ◌^◌, length};
 ghost use Rattle.usbdev.specs.Registers.{registers, done};
 ghost use Rattle.gptimers.specs.Timer as T;
