@@ -1,4 +1,6 @@
 // The data of one transfer descriptor (dTD): its page pointers, the address of each byte, and the moves in and out, page by page.
+#![tactic(auto)]
+
 ghost use Rattle.std.specs.Prelude.{◌≡◌, ℕ, ◌+◌, ◌*◌, ◌/◌, ◌%◌, ◌<◌, ◌≤◌, Bool, length};
 ghost use Rattle.bus.specs.Memory.{shown};
 ghost use Rattle.bus.specs.Memory as M;
@@ -14,8 +16,8 @@ use std::num::wrapping_add_u32;
 
 // The nine page pointers of the dTD at td.
 pub fn pointers(dynamic: &[u8], sram: &[u8], page: &[u8], td: u32) -> [u32; 9]
-    requires { Sized (shown dynamic sram page) }
-    ensures { result ≡ T.pointers (shown dynamic.entry sram.entry page.entry) td }
+    requires { Sized (shown dynamic.now sram.now page.now) }
+    ensures { result ≡ T.pointers (shown dynamic.now sram.now page.now) td }
 {
     let p0 = peek32(dynamic, sram, page, wrapping_add_u32(td, 8));
     let p1 = peek32(dynamic, sram, page, wrapping_add_u32(td, 12));
@@ -31,9 +33,9 @@ pub fn pointers(dynamic: &[u8], sram: &[u8], page: &[u8], td: u32) -> [u32; 9]
 
 // The page pointers that the first total bytes of the dTD at td use; an entry that is not read is 0.
 pub fn pointers_for(dynamic: &[u8], sram: &[u8], page: &[u8], td: u32, total: usize) -> [u32; 9]
-    requires sized { Sized (shown dynamic sram page) }
+    requires sized { Sized (shown dynamic.now sram.now page.now) }
     requires total_bound { total ≤ 32767 }
-    ensures { result ≡ T.pointers_for (shown dynamic.entry sram.entry page.entry) td total }
+    ensures { result ≡ T.pointers_for (shown dynamic.now sram.now page.now) td total }
 {
     let p0 = peek32(dynamic, sram, page, wrapping_add_u32(td, 8));
     let end = (p0 % 4096) as usize + total;
@@ -74,7 +76,7 @@ fn copy(target: &mut [u8], source: &[u8])
     requires { length target.old ≡ length source.now }
     ensures { target.new ≡ source.now }
 {
-    bytes::copy(source, target);
+    target.copy_from_slice(source);
 }
 
 // Makes every byte of target 0.
@@ -90,9 +92,9 @@ fn clear(target: &mut [u8])
 
 // Fills target with the bytes of memory from address a on, which lie in one page: no window ends inside one, so one test serves them all.
 fn page_in(dynamic: &[u8], sram: &[u8], page: &[u8], a: u32, target: &mut [u8])
-    requires sized { Sized (shown dynamic sram page) }
+    requires sized { Sized (shown dynamic.now sram.now page.now) }
     requires target_bound { a % 4096 + length target.old ≤ 4096 }
-    ensures { target.new ≡ P.run_in (shown dynamic.entry sram.entry page.entry) a (length target.old) }
+    ensures { target.new ≡ P.run_in (shown dynamic.now sram.now page.now) a (length target.old) }
 {
     let n = target.len();
     match locate(dynamic.len(), a) {
@@ -105,9 +107,9 @@ fn page_in(dynamic: &[u8], sram: &[u8], page: &[u8], a: u32, target: &mut [u8])
 
 // Writes source to memory from address a on, in one page, and answers how many bytes were dropped.
 fn page_out(dynamic: &mut [u8], sram: &mut [u8], page: &mut [u8], a: u32, source: &[u8]) -> u32
-    requires sized { Sized (shown dynamic sram page) }
+    requires sized { Sized (shown dynamic.old sram.old page.old) }
     requires source_bound { a % 4096 + length source.now ≤ 4096 }
-    ensures left { Left (shown dynamic.exit sram.exit page.exit) (P.run_out (shown dynamic.entry sram.entry page.entry) a source.now (length source.now)) }
+    ensures left { Left (shown dynamic.new sram.new page.new) (P.run_out (shown dynamic.old sram.old page.old) a source.now (length source.now)) }
     ensures value { result ≡ length source.now * M.dropped8 a }
 {
     let n = source.len();
@@ -145,9 +147,9 @@ pub fn copy_part(
     start: usize,
     out: &mut [u8],
 )
-    requires sized { Sized (shown dynamic sram page) }
+    requires sized { Sized (shown dynamic.now sram.now page.now) }
     requires out_bound { start + length out.old ≤ 32767 }
-    ensures { out.new ≡ T.bytes_from (shown dynamic.entry sram.entry page.entry) pointers.now start (length out.old) }
+    ensures { out.new ≡ T.bytes_from (shown dynamic.now sram.now page.now) pointers.now start (length out.old) }
 {
     let total = out.len();
     let mut i = 0;
@@ -169,10 +171,10 @@ pub fn copy_in(
     out: &mut [u8],
     at: usize,
 )
-    requires sized { Sized (shown dynamic sram page) }
+    requires sized { Sized (shown dynamic.now sram.now page.now) }
     requires n_bound { n ≤ 32767 }
     requires n_in_bounds { at + n ≤ length out.old }
-    ensures { out.new ≡ T.received (shown dynamic.entry sram.entry page.entry) pointers.now n out.old at }
+    ensures { out.new ≡ T.received (shown dynamic.now sram.now page.now) pointers.now n out.old at }
 {
     copy_part(dynamic, sram, page, pointers, 0, &mut out[at..at + n]);
 }
@@ -186,10 +188,10 @@ pub fn copy_out(
     source: &[u8],
     n: usize,
 ) -> u32
-    requires sized { Sized (shown dynamic sram page) }
+    requires sized { Sized (shown dynamic.old sram.old page.old) }
     requires n_bound { n ≤ 32767 }
     requires n_in_bounds { n ≤ length source.now }
-    ensures { (l : Bool) → Does (T.sending pointers.now source.now n) (bus (shown dynamic.entry sram.entry page.entry) l) (bus (shown dynamic.exit sram.exit page.exit) l) result }
+    ensures { (l : Bool) → Does (T.sending pointers.now source.now n) (bus (shown dynamic.old sram.old page.old) l) (bus (shown dynamic.new sram.new page.new) l) result }
 {
     let mut lost: u32 = 0;
     let mut i = 0;
@@ -205,7 +207,7 @@ pub fn copy_out(
 
 // The number that refuses a move of n bytes from index at on of an area of size bytes, 0 where it is accepted.
 pub fn refusal(dynamic: &[u8], sram: &[u8], page: &[u8], at: usize, n: usize, size: usize) -> u8
-    ensures { result ≡ C.refusal (shown dynamic.entry sram.entry page.entry) at n size }
+    ensures { result ≡ C.refusal (shown dynamic.now sram.now page.now) at n size }
 {
     if !sized(dynamic, sram, page) {
         return 1;
@@ -232,7 +234,7 @@ pub fn checked_copy_in(
     out: &mut [u8],
     at: usize,
 ) -> u8
-    ensures { (result ≡ C.refusal (shown dynamic.entry sram.entry page.entry) at n (length out.old)) × (out.new ≡ C.checked_received (shown dynamic.entry sram.entry page.entry) pointers.now n out.old at) }
+    ensures { (result ≡ C.refusal (shown dynamic.now sram.now page.now) at n (length out.old)) × (out.new ≡ C.checked_received (shown dynamic.now sram.now page.now) pointers.now n out.old at) }
 {
     let number = refusal(dynamic, sram, page, at, n, out.len());
     if number != 0 {
@@ -251,7 +253,7 @@ pub fn checked_copy_part(
     start: usize,
     out: &mut [u8],
 ) -> u8
-    ensures { (result ≡ C.refusal (shown dynamic.entry sram.entry page.entry) start (length out.old) 32767) × (out.new ≡ C.checked_from (shown dynamic.entry sram.entry page.entry) pointers.now start out.old) }
+    ensures { (result ≡ C.refusal (shown dynamic.now sram.now page.now) start (length out.old) 32767) × (out.new ≡ C.checked_from (shown dynamic.now sram.now page.now) pointers.now start out.old) }
 {
     let number = refusal(dynamic, sram, page, start, out.len(), 32767);
     if number != 0 {
@@ -270,7 +272,7 @@ pub fn checked_copy_out(
     source: &[u8],
     n: usize,
 ) -> Poked
-    ensures { (result ≡ C.sent (shown dynamic.entry sram.entry page.entry) pointers.now source.now n) × ((l : Bool) → bus (shown dynamic.exit sram.exit page.exit) l ≡ exec store (C.checked_sending pointers.now source.now n) (bus (shown dynamic.entry sram.entry page.entry) l)) }
+    ensures { (result ≡ C.sent (shown dynamic.old sram.old page.old) pointers.now source.now n) × ((l : Bool) → bus (shown dynamic.new sram.new page.new) l ≡ exec store (C.checked_sending pointers.now source.now n) (bus (shown dynamic.old sram.old page.old) l)) }
 {
     let number = refusal(&*dynamic, &*sram, &*page, 0, n, source.len());
     if number != 0 {
