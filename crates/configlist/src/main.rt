@@ -1,9 +1,11 @@
 // Lists what the descriptor sets of standard input ask for: a line of hexadecimal pairs each, answered as `config` answers it.
+#![tactic(auto)]
+
 ghost use Rattle.std.specs.Prelude.{◌+◌, ◌*◌, ◌≤◌, ◌<◌, length};
 
 use config::ConfigInfo;
-use libc::STDIN_FILENO;
 use script::text;
+use std::io::Read;
 
 // The line being read: how many of its bytes are held, the first digit of a pair where one waits, and what is wrong with it.
 #[derive(Clone, Copy)]
@@ -174,12 +176,12 @@ struct List {
 }
 
 // The end of a line: its answer, and an empty line.
-fn end_line(before: List, set: &[u8], out: &mut [u8; 65536]) -> List
+fn end_line(rt: HostRuntime, before: List, set: &[u8], out: &mut [u8; 65536]) -> List
     requires { (before.line.held ≤ length set.now) × (before.at ≤ 40000) }
     ensures { ((result.line.held ≤ 0) × (result.line.high < 16)) × (result.at ≤ 40000) }
 {
     let end = answer(before.line, set, out, before.at);
-    let answers = stdio::room(&*out, end);
+    let answers = stdio::room(rt, &*out, end);
     List {
         line: empty_line(),
         at: answers.at,
@@ -188,12 +190,12 @@ fn end_line(before: List, set: &[u8], out: &mut [u8; 65536]) -> List
 }
 
 // One byte of the input: a line's end, or a digit.
-fn take_byte(before: List, set: &mut [u8], out: &mut [u8; 65536], b: u8) -> List
+fn take_byte(rt: HostRuntime, before: List, set: &mut [u8], out: &mut [u8; 65536], b: u8) -> List
     requires { ((before.line.held ≤ length set.old) × (before.line.high < 16)) × (before.at ≤ 40000) }
     ensures { ((result.line.held ≤ length set.new) × (result.line.high < 16)) × (result.at ≤ 40000) }
 {
     if b == b'\n' {
-        return end_line(before, &*set, out);
+        return end_line(rt, before, &*set, out);
     }
     let line = feed(before.line, set, b);
     List {
@@ -204,14 +206,20 @@ fn take_byte(before: List, set: &mut [u8], out: &mut [u8; 65536], b: u8) -> List
 }
 
 // The bytes of a piece, one after another, up to a write that fails.
-fn take_bytes(before: List, set: &mut [u8], out: &mut [u8; 65536], piece: &[u8]) -> List
+fn take_bytes(
+    rt: HostRuntime,
+    before: List,
+    set: &mut [u8],
+    out: &mut [u8; 65536],
+    piece: &[u8],
+) -> List
     requires { ((before.line.held ≤ length set.old) × (before.line.high < 16)) × (before.at ≤ 40000) }
     ensures { ((result.line.held ≤ length set.new) × (result.line.high < 16)) × (result.at ≤ 40000) }
 {
     let mut next = before;
     let mut i = 0;
     while i < piece.len() && !next.failed {
-        next = take_byte(next, set, out, piece[i]);
+        next = take_byte(rt, next, set, out, piece[i]);
         i += 1;
     }
     next
@@ -226,30 +234,36 @@ struct Listed {
 }
 
 // Reads once, and takes what came.
-fn take_piece(before: List, set: &mut [u8], out: &mut [u8; 65536]) -> Listed
+fn take_piece(rt: HostRuntime, before: List, set: &mut [u8], out: &mut [u8; 65536]) -> Listed
     requires { ((before.line.held ≤ length set.old) × (before.line.high < 16)) × (before.at ≤ 40000) }
     ensures { ((result.list.line.held ≤ length set.new) × (result.list.line.high < 16)) × (result.list.at ≤ 40000) }
 {
-    let mut buffer = io::large_buffer();
-    let got = libc::read(STDIN_FILENO, &mut buffer);
-    if got <= 0 {
-        return Listed {
+    let mut buffer = [0u8; 65536];
+    let mut input = rt.stdin();
+    match input.read(&mut buffer) {
+        Err(_) => Listed {
             list: before,
             more: false,
-            unread: got < 0,
-        };
-    }
-    let n = io::count(got, &buffer);
-    let next = take_bytes(before, set, out, &buffer[..n]);
-    Listed {
-        list: next,
-        more: !next.failed,
-        unread: false,
+            unread: true,
+        },
+        Ok(0) => Listed {
+            list: before,
+            more: false,
+            unread: false,
+        },
+        Ok(n) => {
+            let next = take_bytes(rt, before, set, out, &buffer[..n]);
+            Listed {
+                list: next,
+                more: !next.failed,
+                unread: false,
+            }
+        }
     }
 }
 
 // At the end of the input a last line that no line end follows is answered too; an unfinished one behind which a read failed is not.
-fn last_line(listed: Listed, set: &[u8], out: &mut [u8; 65536]) -> List
+fn last_line(rt: HostRuntime, listed: Listed, set: &[u8], out: &mut [u8; 65536]) -> List
     requires { (listed.list.line.held ≤ length set.now) × (listed.list.at ≤ 40000) }
     ensures { result.at ≤ 40000 }
 {
@@ -259,13 +273,13 @@ fn last_line(listed: Listed, set: &[u8], out: &mut [u8; 65536]) -> List
         return list;
     }
     if (line.held != 0) | (line.half | (line.fault != 0)) {
-        return end_line(list, set, out);
+        return end_line(rt, list, set, out);
     }
     list
 }
 
 // Every piece.
-fn take_all(set: &mut [u8], out: &mut [u8; 65536]) {
+fn take_all(rt: HostRuntime, set: &mut [u8], out: &mut [u8; 65536]) {
     let mut listed = Listed {
         list: List {
             line: empty_line(),
@@ -277,11 +291,12 @@ fn take_all(set: &mut [u8], out: &mut [u8; 65536]) {
     };
     let mut turns = u64::MAX;
     while turns > 0 && listed.more {
-        listed = take_piece(listed.list, set, out);
+        listed = take_piece(rt, listed.list, set, out);
         turns -= 1;
     }
-    let list = last_line(listed, &*set, out);
+    let list = last_line(rt, listed, &*set, out);
     stdio::finish(
+        rt,
         listed.unread,
         list.failed,
         out,
@@ -291,8 +306,8 @@ fn take_all(set: &mut [u8], out: &mut [u8; 65536]) {
     );
 }
 
-fn main() {
-    let mut set = io::large_buffer();
+fn main(rt: HostRuntime) {
+    let mut set = [0u8; 65536];
     let mut out = [0u8; 65536];
-    take_all(&mut set, &mut out);
+    take_all(rt, &mut set, &mut out);
 }
