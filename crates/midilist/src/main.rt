@@ -1,10 +1,12 @@
 // Lists the USB-MIDI packets that the bytes of standard input make.
+#![tactic(auto)]
+
 ghost use Rattle.std.specs.Prelude.{◌≡◌, ◌+◌, ◌*◌, ◌<◌, ◌≤◌, length};
 ghost use Rattle.std.proofs.lemmas.List.Edits.{sets};
 ghost use Rattle.midilist.specs.Listing.{digit_of, byte_text, line, Lists};
 
-use libc::{STDERR_FILENO, STDIN_FILENO, STDOUT_FILENO};
 use midi::{Event, Packer};
+use std::io::{Read, Write};
 
 // A hexadecimal digit, in upper case.
 fn digit(n: u8) -> u8
@@ -80,40 +82,54 @@ struct Listing {
     unwritten: bool,
 }
 
+// Writes all of a text, and says whether it could be written.
+fn print(rt: HostRuntime, text: &[u8]) -> bool {
+    let mut output = rt.stdout();
+    output.write_all(text).is_ok()
+}
+
 // Reads a piece and writes its lines at once. The end of the input, an error in reading and one in writing end the listing.
-fn list_some(s: Listing, text: &mut [u8]) -> Listing
+fn list_some(rt: HostRuntime, s: Listing, text: &mut [u8]) -> Listing
     requires { 12 * 4096 ≤ length text.old }
 {
-    let mut input = io::buffer();
-    let got = libc::read(STDIN_FILENO, &mut input);
+    let mut buffer = [0u8; 4096];
+    let mut input = rt.stdin();
     let packer = s.packer;
-    if got <= 0 {
-        return Listing {
+    match input.read(&mut buffer) {
+        Err(_) => Listing {
             packer,
             packets: s.packets,
             more: false,
-            unread: got < 0,
+            unread: true,
             unwritten: false,
-        };
-    }
-    let n = io::count(got, &input);
-    let piece = list_piece(packer, &input[..n], text);
-    let end = piece.end;
-    let more = io::write_all(STDOUT_FILENO, &text[..end]);
-    let next = piece.packer;
-    Listing {
-        packer: next,
-        packets: std::num::wrapping_add_u64(s.packets, piece.packets as u64),
-        more,
-        unread: false,
-        unwritten: !more,
+        },
+        Ok(0) => Listing {
+            packer,
+            packets: s.packets,
+            more: false,
+            unread: false,
+            unwritten: false,
+        },
+        Ok(n) => {
+            let piece = list_piece(packer, &buffer[..n], text);
+            let end = piece.end;
+            let more = print(rt, &text[..end]);
+            let next = piece.packer;
+            Listing {
+                packer: next,
+                packets: std::num::wrapping_add_u64(s.packets, piece.packets as u64),
+                more,
+                unread: false,
+                unwritten: !more,
+            }
+        }
     }
 }
 
 // The heading, and then every piece.
-fn list_all() -> Listing {
-    let mut text = io::large_buffer();
-    let more = io::write_all(STDOUT_FILENO, b"usb-midi\n");
+fn list_all(rt: HostRuntime) -> Listing {
+    let mut text = [0u8; 65536];
+    let more = print(rt, b"usb-midi\n");
     let mut s = Listing {
         packer: Packer::new(),
         packets: 0,
@@ -123,42 +139,31 @@ fn list_all() -> Listing {
     };
     let mut turns = u64::MAX;
     while turns > 0 && s.more {
-        s = list_some(s, &mut text);
+        s = list_some(rt, s, &mut text);
         turns -= 1;
     }
     s
 }
 
 // The last line, of the packets and of the bytes held in the packer; whether it could be written.
-fn count(packets: u64, held: u8) -> bool {
-    if io::print_decimal(STDOUT_FILENO, packets) {
-        if io::write_all(STDOUT_FILENO, b" packets, ") {
-            if io::print_decimal(STDOUT_FILENO, held as u64) {
-                return io::write_all(STDOUT_FILENO, b" held\n");
-            }
-        }
-    }
-    false
+fn count(rt: HostRuntime, packets: u64, held: u8) -> bool {
+    println!(rt; "{packets} packets, {held} held").is_ok()
 }
 
-fn main() {
-    let s = list_all();
+fn main(rt: HostRuntime) {
+    let s = list_all(rt);
     if s.unread {
-        io::write_all(
-            STDERR_FILENO,
-            b"midilist: standard input could not be read; the list is not whole\n",
-        );
+        let _ = eprintln!(rt; "midilist: standard input could not be read; the list is not whole");
         return;
     }
     let packer = s.packer;
     let mut written = !s.unwritten;
     if written {
-        written = count(s.packets, packer.held);
+        written = count(rt, s.packets, packer.held);
     }
     if !written {
-        io::write_all(
-            STDERR_FILENO,
-            b"midilist: standard output could not be written; the list is not whole\n",
+        let _ = eprintln!(rt;
+            "midilist: standard output could not be written; the list is not whole"
         );
     }
 }
