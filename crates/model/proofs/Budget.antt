@@ -5,7 +5,7 @@ use mathlib.Core.Bool.{true}
 use Rattle.bits.proofs.Tests.{false_true}
 use Rattle.record.specs.World.{World}
 use Rattle.record.specs.Parts as Part
-use Rattle.record.specs.Change.{Change, bus, ran, lost, count, budget, timers, apply, port, audio, request, stream}
+use Rattle.record.specs.Change.{Change, bus, ran, lost, count, timers, apply, port, audio, request, stream}
 use Rattle.record.proofs.Beside.{port_beside, request_beside, stream_beside}
 use Rattle.model.proofs.Fields.{Fields}
 use Rattle.model.proofs.Reading.{Reading, reading_of, quiet}

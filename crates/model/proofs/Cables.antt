@@ -38,7 +38,7 @@ use Rattle.model.proofs.Holding.{Holds, holds_then, holds_if, holds_nothing, hol
 use Rattle.model.proofs.Leaving.{Is, ran_is, keeps_walked}
 use Rattle.model.proofs.Marking.{come, come_plain}
 use Rattle.model.proofs.OneBlock.{talking, gets_to, gets_closed}
-use Rattle.model.proofs.Plain.{still_idles, still_powers, still_resets, still_enumerates, still_streams, still_writes, still_vendor}
+use Rattle.model.proofs.Plain.{block_and_enumerations, still_idles, still_powers, still_resets, still_enumerates, still_streams, still_writes, still_vendor}
 use Rattle.model.proofs.Unread.{come_opens, come_sleeps, come_suspends, come_leaves, come_gone, come_suspended}
 use Rattle.model.proofs.Walk.{Ran, on_if, walk_naks, walk_serves}
 
@@ -166,14 +166,14 @@ adds_midi false every v =
 
 come_stack : (stack : Bool) → Keeps come (stack_steps stack)
 come_stack stack =
-    keeps_if come _ _ nothing (keeps_then come _ _ (still_writes come come_plain) (still_vendor come come_plain)) (keeps_nothing come)
+    keeps_if come _ _ nothing (keeps_then come _ _ (still_writes block_and_enumerations come come_plain) (still_vendor block_and_enumerations come come_plain)) (keeps_nothing come)
 
 adds_bridge : (c : Settings) (t : ℕ) (u : World) → Adds 8 (packets_from c t u) (midi_come u) (midi_come (left (bridge_steps c t) u))
 unfolding others
 adds_bridge c t u =
     let v = left streams u in
     let asleep = within c.sleep t in
-    adds_by (sym (pick_and c.midi_in (not asleep) _ [])) (sym (still_streams come come_plain u))
+    adds_by (sym (pick_and c.midi_in (not asleep) _ [])) (sym (still_streams block_and_enumerations come come_plain u))
     (fields_then come streams (others c t) u
     ∙ fields_then come _ _ v
     ∙ come_stack c.device_stack _
@@ -204,9 +204,9 @@ module _ (c : Settings) (t : ℕ) (audio : c.cdc ≡ false) where
 
   adds_at : (rs : Bool) (p : Phase) (v : World)
       → Adds 8 (pick (talking p && (rs && (streaming (left (enumerates c) v).state.phase && not c.cdc))) (packets_from c t (left (enumerates c) v)) []) (midi_come v) (midi_come (left (at_phase c t rs p) v))
-  adds_at rs Idle v = adds_by refl refl (still_idles come come_plain v) (adds_none 8 (midi_come v))
-  adds_at rs Vbus v = adds_by refl refl (still_powers come come_plain rs v) (adds_none 8 (midi_come v))
-  adds_at rs Reset v = adds_by refl refl (still_resets come come_plain v) (adds_none 8 (midi_come v))
+  adds_at rs Idle v = adds_by refl refl (still_idles block_and_enumerations come come_plain v) (adds_none 8 (midi_come v))
+  adds_at rs Vbus v = adds_by refl refl (still_powers block_and_enumerations come come_plain rs v) (adds_none 8 (midi_come v))
+  adds_at rs Reset v = adds_by refl refl (still_resets block_and_enumerations come come_plain v) (adds_none 8 (midi_come v))
   adds_at rs Enumerate v = adds_talks rs v
   adds_at rs Stream v = adds_talks rs v
 
@@ -327,9 +327,9 @@ module _ (j : List ℕ) where
         on_if CablesAre _ _ nothing (holds_then CablesAre _ _ (by_come (enumerates c) (still_enumerates come come_plain c)) serial_transfers) (holds_nothing CablesAre)
 
     serial_at : (rs : Bool) (p : Phase) → Holds CablesAre (at_phase c t rs p)
-    serial_at rs Idle = by_come idles (still_idles come come_plain)
-    serial_at rs Vbus = by_come (powers rs) (still_powers come come_plain rs)
-    serial_at rs Reset = by_come resets (still_resets come come_plain)
+    serial_at rs Idle = by_come idles (still_idles block_and_enumerations come come_plain)
+    serial_at rs Vbus = by_come (powers rs) (still_powers block_and_enumerations come come_plain rs)
+    serial_at rs Reset = by_come resets (still_resets block_and_enumerations come come_plain)
     serial_at rs Enumerate = serial_talks rs
     serial_at rs Stream = serial_talks rs
 

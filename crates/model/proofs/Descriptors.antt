@@ -20,7 +20,7 @@ use Rattle.record.specs.declared.Phase.TheVariants.{Idle, Vbus, Reset, Enumerate
 use Rattle.record.specs.declared.Settings.{Settings}
 use Rattle.record.specs.World.{World, bus_of}
 use Rattle.record.specs.Parts as Part
-use Rattle.record.specs.Change.{Change, bus, ran, lost, count, phase, timers, control, apply, Step, left, ◌then◌, nothing, if, one, here, ran_stores, runs, port, audio, request, stream}
+use Rattle.record.specs.Change.{Change, bus, ran, lost, count, timers, apply, Step, left, ◌then◌, nothing, if, one, here, ran_stores, runs, port, audio, request, stream}
 use Rattle.record.proofs.Beside.{port_beside, audio_beside, request_beside}
 use Rattle.model.specs.Phases.{now, leaves, sleeps, suspends, starts_frame, idles, powers, resets}
 use Rattle.model.specs.Control.{enumerating, posts, posted, configured, data_stage, status_stage, unstalls, stalled, stages, controls}

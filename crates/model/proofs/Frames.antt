@@ -8,7 +8,7 @@ use Rattle.record.specs.Record.{Counter, place, in_frames, out_frames}
 use Rattle.record.proofs.Counters.{rose, raised_by, rose_other}
 use Rattle.record.specs.World.{World}
 use Rattle.record.specs.Parts as Part
-use Rattle.record.specs.Change.{Change, bus, ran, lost, count, gone, was_running, credit, timers, received, apply, port, audio, request, stream}
+use Rattle.record.specs.Change.{Change, bus, ran, lost, count, timers, apply, port, audio, request, stream}
 use Rattle.record.proofs.Beside.{request_beside, stream_beside}
 use Rattle.model.specs.Earned.{Counts, counts_of}
 use Rattle.bits.proofs.Tests.{false_true}

@@ -1,6 +1,6 @@
 -- Demand 3's history in one microframe: what it does to the credit and to the two counters of frames, by the tests that say which steps it reaches:
 -- the resets, then seven for each good block read, then one block sent where seven are earned.
-use Prim.Native.Nat.{ℕ, zero, suc, ◌+◌, ◌-◌}
+use Prim.Native.Nat.{ℕ, zero, suc, ◌+◌}
 use mathlib.Core.Path.{◌≡◌, refl, ap, sym, ◌∙◌}
 use mathlib.Core.Bool.{Bool, true, false, not, ◌&&◌, ◌||◌}
 use mathlib.Core.List.{List, [], ◌∷◌}
@@ -13,7 +13,7 @@ use Rattle.dtd.proofs.Runs.{idle_run}
 use Rattle.record.specs.declared.Settings.{Settings}
 use Rattle.record.specs.Record.{raised, wrapped, in_frames}
 use Rattle.record.specs.World.{World, bus_of}
-use Rattle.record.specs.Change.{count, credit, gone, was_running, budget, apply, Step, left, ◌then◌, nothing, one, here}
+use Rattle.record.specs.Change.{count, credit, was_running, budget, apply, Step, left, ◌then◌, nothing, one, here}
 use Rattle.model.specs.Phases.{counts, ticks, cable, unplugging, returns, forgets, drops_request, enters, sleeps, suspends, leaves, departs}
 use Rattle.model.specs.Streams.{nonempty, brought, next_total}
 use Rattle.model.specs.Audio.{audio_in, BLOCK, BLOCK_FRAMES, named, over_budget, adds_budget, clears_budget, blocks, blocks_of, good, keeps_frames, keeps_good, keeps_block, keeps_blocks, keeps_run, inputs, stream_in, stream_out, streams}

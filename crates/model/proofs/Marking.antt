@@ -11,7 +11,7 @@ use Rattle.record.specs.Record.{Counter, place, counter_of, midi_dtds, midi_asle
 use Rattle.record.proofs.Counters.{rose, raised_by, rose_other}
 use Rattle.record.specs.World.{World}
 use Rattle.record.specs.Parts as Part
-use Rattle.record.specs.Change.{Change, bus, ran, lost, count, gone, suspended, counter, timers, apply, port, audio, request, stream}
+use Rattle.record.specs.Change.{Change, bus, ran, lost, count, timers, apply, port, audio, request, stream}
 use Rattle.record.proofs.Beside.{request_beside}
 use Rattle.model.specs.PortMarks.{MidiCome, midi_come}
 use Rattle.model.proofs.Fields.{Fields}

@@ -92,7 +92,7 @@ module _ (capacity : ℕ) where
   pub ring_length : (ring : List ℕ) (s n : ℕ) → length (oldest_first capacity ring s n) ≡ n
   unfolding oldest_first
   ring_length ring s zero = refl
-  ring_length ring s (suc n) = ap suc (ring_length ring _ n)
+  ring_length ring s (suc n) = ap suc (ring_length ring ((s + 1) % capacity) n)
 
   pub ring_oldest : (ring : List ℕ) (s n : ℕ) → oldest_first capacity ring s (suc n) ≡ frame_in ring s ∷ oldest_first capacity ring ((s + 1) % capacity) n
   unfolding oldest_first

@@ -17,7 +17,7 @@ use Rattle.dtd.proofs.Runs.{IsActive, active_stores, active_moved, active_retire
 use Rattle.record.specs.declared.Phase.{Phase}
 use Rattle.record.specs.declared.Phase.TheVariants.{Idle, Vbus, Reset, Enumerate, Stream}
 use Rattle.record.specs.declared.Settings.{Settings}
-use Rattle.record.specs.Record.{counted, enumerations, out_transfers, out_frames, out_underruns, raised}
+use Rattle.record.specs.Record.{enumerations, out_transfers, out_frames, out_underruns, raised}
 use Rattle.record.specs.World.{World, bus_of}
 use Rattle.record.specs.Change.{Change, bus, ran, lost, count, phase, gone, credit, counter, taken, apply, Step, left, ◌then◌, nothing, when, one, here, on_page, runs, ran_stores}
 use Rattle.model.specs.Phases.{counts, ticks, drops_request, forgets, returns, cable, suspends, leaves, starts_frame, changing}

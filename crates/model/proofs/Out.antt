@@ -9,7 +9,7 @@ use Rattle.record.specs.Record.{Counter, place, in_frames, out_frames}
 use Rattle.record.proofs.Counters.{rose, raised_by, rose_other}
 use Rattle.record.specs.World.{World}
 use Rattle.record.specs.Parts as Part
-use Rattle.record.specs.Change.{Change, bus, ran, lost, count, counter, timers, taken_from, apply, port, audio, request, stream}
+use Rattle.record.specs.Change.{Change, bus, ran, lost, count, timers, taken_from, apply, port, audio, request, stream}
 use Rattle.record.proofs.Beside.{port_beside, request_beside, stream_beside}
 use Rattle.model.specs.Earned.{Out, out_of}
 use Rattle.model.proofs.Fields.{Fields}

@@ -3,7 +3,7 @@ use Rattle.record.specs.declared.Phase.{Phase}
 use mathlib.Core.Path.{◌≡◌, refl, ap}
 use Rattle.record.specs.World.{World}
 use Rattle.record.specs.Parts as Part
-use Rattle.record.specs.Change.{Change, bus, ran, lost, count, phase, timers, apply, port, audio, request, stream}
+use Rattle.record.specs.Change.{Change, bus, ran, lost, count, timers, apply, port, audio, request, stream}
 use Rattle.record.proofs.Beside.{audio_beside, request_beside, stream_beside}
 use mathlib.Core.Bool.{true}
 use Rattle.bits.proofs.Tests.{false_true}

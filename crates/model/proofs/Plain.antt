@@ -103,7 +103,7 @@ chosen : (b : Bool) → (not b && true) ≡ false → b ≡ true
 chosen true e = refl
 chosen false e = absurd (false_true (sym e))
 
-module _ {K : Type 0} {i : Ignored} (F : Fields K) (P : (c : Change) → plain_by i c ≡ true → (k : K) → F.on c k ≡ k) where
+module _ {K : Type 0} (i : Ignored) (F : Fields K) (P : (c : Change) → plain_by i c ≡ true → (k : K) → F.on c k ≡ k) where
   -- ---- the kinds of change that are plain
 
   plain_is : (c : Change) → plain_by i c ≡ true → (j : K) (w : World) → Is F j w → Is F j (apply c w)
@@ -260,4 +260,4 @@ module _ {K : Type 0} {i : Ignored} (F : Fields K) (P : (c : Change) → plain_b
 module _ {K : Type 0} (F : Fields K) (P : (c : Change) → plain c ≡ true → (k : K) → F.on c k ≡ k) where
   pub still_enumerates : (c : Settings) → Keeps F (enumerates c)
   unfolding enumerates
-  still_enumerates c = keeps_then F _ _ (still_frame F P) (still_controls F P refl c.device_stack refl)
+  still_enumerates c = keeps_then F _ _ (still_frame block_and_enumerations F P) (still_controls block_and_enumerations F P refl c.device_stack refl)

@@ -11,7 +11,7 @@ use Rattle.record.specs.declared.Phase.TheVariants.{Idle, Vbus, Reset, Enumerate
 use Rattle.record.specs.declared.Settings.{Settings}
 use Rattle.record.specs.Record.{wrapped, midi_asleep, counter_of, raised}
 use Rattle.record.specs.World.{World}
-use Rattle.record.specs.Change.{phase, gone, suspended, was_running, apply, left, ◌then◌, nothing, when, one, here}
+use Rattle.record.specs.Change.{gone, suspended, was_running, apply, left, ◌then◌, nothing, when, one, here}
 use Rattle.model.specs.Phases.{within, ticks, forgets, unplugging, cable, sleeps, suspends, enters, departs, leaves}
 use Rattle.model.specs.Streams.{midi_in, midi_out, reads_vendor}
 use Rattle.model.specs.Audio.{streams}
@@ -23,7 +23,7 @@ use Rattle.model.proofs.OneBlock.{talking, gets_to, gets_closed}
 use Rattle.model.proofs.History.{four}
 use Rattle.model.proofs.Leaving.{keeps_awake, keeps_serves}
 use Rattle.model.proofs.Marking.{PortMarks, marks_by, marks_of, marks, marks_plain}
-use Rattle.model.proofs.Plain.{still_counts, still_ticks, still_forgets, still_returns, still_enters, still_idles, still_powers, still_resets, still_enumerates, still_streams, still_writes, still_vendor}
+use Rattle.model.proofs.Plain.{block_and_enumerations, still_counts, still_ticks, still_forgets, still_returns, still_enters, still_idles, still_powers, still_resets, still_enumerates, still_streams, still_writes, still_vendor}
 use Rattle.model.proofs.Spans.{within_between, gone_spans, suspend_span, run_bit}
 
 -- ---- from the choice by phase on no step changes them but the MIDI step in its sleep span
@@ -58,7 +58,7 @@ marks_others c t u =
     ∙ count_and c.midi_in (within c.sleep t) (marks_of u)
   where
     stack : Keeps marks (when (λ w. c.device_stack) (midi_out then reads_vendor))
-    stack = keeps_if marks _ _ nothing (keeps_then marks _ _ (still_writes marks marks_plain) (still_vendor marks marks_plain)) (keeps_nothing marks)
+    stack = keeps_if marks _ _ nothing (keeps_then marks _ _ (still_writes block_and_enumerations marks marks_plain) (still_vendor block_and_enumerations marks marks_plain)) (keeps_nothing marks)
 
 -- the MIDI step is asleep, where it is made
 abbrev is_midi_asleep : Settings → ℕ → Bool
@@ -74,7 +74,7 @@ unfolding transfers
 marks_transfers c t u =
     fields_if marks _ _ _ u
     ∙ pick_eq (streaming u.state.phase)
-    (fields_if marks _ _ _ u ∙ pick_eq c.cdc (keeps_serves marks (λ bs k. refl) (λ n k. refl) u) (fields_then marks streams (others c t) u ∙ marks_others c t _ ∙ ap (counting (is_midi_asleep c t)) (still_streams marks marks_plain u)))
+    (fields_if marks _ _ _ u ∙ pick_eq c.cdc (keeps_serves marks (λ bs k. refl) (λ n k. refl) u) (fields_then marks streams (others c t) u ∙ marks_others c t _ ∙ ap (counting (is_midi_asleep c t)) (still_streams block_and_enumerations marks marks_plain u)))
     (keeps_nothing marks u)
     ∙ serial_or (streaming u.state.phase) c.cdc (is_midi_asleep c t) (marks_of u)
 
@@ -92,9 +92,9 @@ marks_talks c t rs v =
     ∙ count_and rs asleep (marks_of v)
 
 marks_at : (c : Settings) (t : ℕ) (rs : Bool) (p : Phase) (v : World) → marks_of (left (at_phase c t rs p) v) ≡ counting (talking p && to_midi c t rs v) (marks_of v)
-marks_at c t rs Idle v = still_idles marks marks_plain v
-marks_at c t rs Vbus v = still_powers marks marks_plain rs v
-marks_at c t rs Reset v = still_resets marks marks_plain v
+marks_at c t rs Idle v = still_idles block_and_enumerations marks marks_plain v
+marks_at c t rs Vbus v = still_powers block_and_enumerations marks marks_plain rs v
+marks_at c t rs Reset v = still_resets block_and_enumerations marks marks_plain v
 marks_at c t rs Enumerate v = marks_talks c t rs v
 marks_at c t rs Stream v = marks_talks c t rs v
 
@@ -150,14 +150,14 @@ marks_cable true v =
     ∙ set_on set_gone v.state.port.gone (marks_of v) refl
 marks_cable false v =
     fields_if marks _ _ _ v
-    ∙ pick_eq v.state.port.gone (fields_then marks _ _ v ∙ still_returns marks marks_plain _ ∙ one_gone false v) (keeps_nothing marks v)
+    ∙ pick_eq v.state.port.gone (fields_then marks _ _ v ∙ still_returns block_and_enumerations marks marks_plain _ ∙ one_gone false v) (keeps_nothing marks v)
     ∙ set_off set_gone v.state.port.gone (marks_of v) refl
 
 marks_opens : (c : Settings) (g : Bool) (w : World) → marks_of (left (opens c g) w) ≡ set_gone g (marks_of w)
 unfolding opens
 marks_opens c g w =
     fields_then marks _ _ w ∙ fields_then marks _ _ _ ∙ marks_cable g _
-    ∙ ap (set_gone g) (keeps_if marks (λ v. c.midi_in) ticks nothing (still_ticks marks marks_plain) (keeps_nothing marks) _ ∙ still_counts marks marks_plain w)
+    ∙ ap (set_gone g) (keeps_if marks (λ v. c.midi_in) ticks nothing (still_ticks block_and_enumerations marks marks_plain) (keeps_nothing marks) _ ∙ still_counts block_and_enumerations marks marks_plain w)
 
 marks_suspends : (s : Bool) (v : World) → marks_of (left (suspends s) v) ≡ set_suspended s (marks_of v)
 unfolding suspends
@@ -172,7 +172,7 @@ marks_suspends false v =
 
 marks_departs : (v : World) → marks_of (left departs v) ≡ set_running false (marks_of v)
 unfolding departs
-marks_departs v = fields_then marks _ _ v ∙ keeps_then marks (enters Vbus) forgets (still_enters marks marks_plain Vbus) (still_forgets marks marks_plain) _ ∙ one_running false v
+marks_departs v = fields_then marks _ _ v ∙ keeps_then marks (enters Vbus) forgets (still_enters block_and_enumerations marks marks_plain Vbus) (still_forgets block_and_enumerations marks marks_plain) _ ∙ one_running false v
 
 marks_leaves : (stack rs : Bool) (v : World) → marks_of (left (leaves stack rs) v) ≡ set_running (pick stack rs v.state.port.was_running) (marks_of v)
 unfolding leaves

@@ -15,7 +15,7 @@ use Rattle.record.specs.declared.Settings.{Settings}
 use Rattle.record.specs.Record.{raised, wrapped}
 use Rattle.record.specs.World.{World}
 use Rattle.record.specs.Parts as Part
-use Rattle.record.specs.Change.{Change, bus, ran, lost, count, uf, phase, gone, was_running, timers, control, device, apply, drained, Step, left, nothing, if, when, one, here, port, audio, request, stream}
+use Rattle.record.specs.Change.{Change, bus, ran, lost, count, timers, apply, drained, Step, left, nothing, if, when, one, here, port, audio, request, stream}
 use Rattle.record.proofs.Beside.{audio_beside, stream_beside}
 use Rattle.model.specs.Phases.{counts, ticks, cable, suspends, leaves}
 use Rattle.model.specs.Microframe.{rs_set, gone_at, asleep_at, opens, by_phase, at_phase, frame_of, microframe}

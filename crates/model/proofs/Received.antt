@@ -7,7 +7,7 @@ use Rattle.bits.proofs.Tests.{false_true}
 use Rattle.record.specs.declared.Ring.{Ring}
 use Rattle.record.specs.World.{World}
 use Rattle.record.specs.Parts as Part
-use Rattle.record.specs.Change.{Change, bus, ran, lost, count, timers, received, apply, ringed, ringed_place, port, audio, request, stream}
+use Rattle.record.specs.Change.{Change, bus, ran, lost, count, timers, apply, ringed, ringed_place, port, audio, request, stream}
 use Rattle.record.proofs.Beside.{port_beside, request_beside, stream_beside}
 use Rattle.model.proofs.Fields.{Fields}
 use Rattle.model.proofs.Reading.{Reading, reading_of, Lasting, quiet}

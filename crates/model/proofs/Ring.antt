@@ -148,4 +148,4 @@ adds_blocks c [] k o = adds_none k o
 adds_blocks c (b ∷ bs) k o =
     let first = adds_block c b k o in
     subst (Adds (frames_of_block b ++ frames_of_blocks bs) k) (sym (replay_append kept_on (block_changes c b) _ k))
-    (adds_both (frames_of_block b) (frames_of_blocks bs) k (replay kept_on (block_changes c b) k) _ first (adds_blocks _ bs _ first.order))
+    (adds_both (frames_of_block b) (frames_of_blocks bs) k (replay kept_on (block_changes c b) k) _ first (adds_blocks (pick (good b) (wrapped (c + BLOCK_FRAMES)) c) bs (replay kept_on (block_changes c b) k) first.order))

@@ -8,7 +8,7 @@ use Rattle.record.specs.declared.Phase.{Phase}
 use Rattle.record.specs.declared.Phase.TheVariants.{Idle, Vbus, Reset, Enumerate, Stream}
 use Rattle.record.specs.declared.Settings.{Settings}
 use Rattle.record.specs.World.{World}
-use Rattle.record.specs.Change.{phase, gone, left, nothing, if, here}
+use Rattle.record.specs.Change.{left, nothing, if, here}
 use Rattle.model.specs.Phases.{within, cable, sleeps, suspends, departs, leaves}
 use Rattle.model.specs.Streams.{midi_in, serial_step}
 use Rattle.model.specs.Audio.{streams}
@@ -18,7 +18,7 @@ use Rattle.model.specs.PortMarks.{NoMidi, cable_out, bus_suspended, midi_sleeps,
 use Rattle.model.proofs.Fields.{Keeps, fields_if, keeps_then, keeps_if, keeps_nothing, keeps_one, keeps_here}
 use Rattle.model.proofs.Leaving.{keeps_unplugs, keeps_sleeps, keeps_suspends}
 use Rattle.model.proofs.Marking.{come, come_plain}
-use Rattle.model.proofs.Plain.{still_counts, still_ticks, still_forgets, still_returns, still_enters, still_idles, still_powers, still_resets, still_enumerates, still_streams, still_writes, still_vendor}
+use Rattle.model.proofs.Plain.{block_and_enumerations, still_counts, still_ticks, still_forgets, still_returns, still_enters, still_idles, still_powers, still_resets, still_enumerates, still_streams, still_writes, still_vendor}
 use Rattle.model.proofs.Spans.{within_between, gone_spans, suspend_span}
 
 -- ---- up to the choice by phase
@@ -27,13 +27,13 @@ come_cable : (g : Bool) → Keeps come (cable g)
 unfolding cable
 come_cable true = keeps_unplugs come (λ b k. refl)
 come_cable false =
-    keeps_if come _ _ nothing (keeps_then come _ _ (keeps_one come _ (λ w. refl)) (still_returns come come_plain)) (keeps_nothing come)
+    keeps_if come _ _ nothing (keeps_then come _ _ (keeps_one come _ (λ w. refl)) (still_returns block_and_enumerations come come_plain)) (keeps_nothing come)
 
 pub come_opens : (c : Settings) (g : Bool) → Keeps come (opens c g)
 unfolding opens
 come_opens c g =
-    keeps_then come _ _ (still_counts come come_plain)
-    (keeps_then come _ _ (keeps_if come _ _ nothing (still_ticks come come_plain) (keeps_nothing come)) (come_cable g))
+    keeps_then come _ _ (still_counts block_and_enumerations come come_plain)
+    (keeps_then come _ _ (keeps_if come _ _ nothing (still_ticks block_and_enumerations come come_plain) (keeps_nothing come)) (come_cable g))
 
 pub come_sleeps : Keeps come sleeps
 come_sleeps = keeps_sleeps come (λ n k. refl)
@@ -44,7 +44,7 @@ come_suspends = keeps_suspends come (λ b k. refl)
 come_departs : Keeps come departs
 unfolding departs
 come_departs =
-    keeps_then come _ _ (keeps_one come _ (λ w. refl)) (keeps_then come _ _ (still_enters come come_plain Vbus) (still_forgets come come_plain))
+    keeps_then come _ _ (keeps_one come _ (λ w. refl)) (keeps_then come _ _ (still_enters block_and_enumerations come come_plain Vbus) (still_forgets block_and_enumerations come come_plain))
 
 pub come_leaves : (stack rs : Bool) → Keeps come (leaves stack rs)
 unfolding leaves
@@ -64,7 +64,7 @@ module _ (c : Settings) (t : ℕ) (audio : c.cdc ≡ false) (asleep : within c.s
   unfolding others
   come_others =
       keeps_then come _ _ (keeps_if come _ _ nothing (come_midi (within c.sleep t) c.midi_every asleep) (keeps_nothing come))
-      (keeps_if come _ _ nothing (keeps_then come _ _ (still_writes come come_plain) (still_vendor come come_plain)) (keeps_nothing come))
+      (keeps_if come _ _ nothing (keeps_then come _ _ (still_writes block_and_enumerations come come_plain) (still_vendor block_and_enumerations come come_plain)) (keeps_nothing come))
 
   come_transfers : Keeps come (transfers c t)
   unfolding transfers
@@ -74,16 +74,16 @@ module _ (c : Settings) (t : ℕ) (audio : c.cdc ≡ false) (asleep : within c.s
       bridge w =
           fields_if come (λ w. c.cdc) serial_step (bridge_steps c t) w
           ∙ ap (λ (b : Bool). pick b (midi_come (left serial_step w)) (midi_come (left (bridge_steps c t) w))) audio
-          ∙ keeps_then come streams (others c t) (still_streams come come_plain) come_others w
+          ∙ keeps_then come streams (others c t) (still_streams block_and_enumerations come come_plain) come_others w
 
   come_talks : (rs : Bool) → Keeps come (talks c t rs)
   unfolding talks
   come_talks rs = keeps_if come _ _ nothing (keeps_then come _ _ (still_enumerates come come_plain c) come_transfers) (keeps_nothing come)
 
   come_at : (rs : Bool) (p : Phase) → Keeps come (at_phase c t rs p)
-  come_at rs Idle = still_idles come come_plain
-  come_at rs Vbus = still_powers come come_plain rs
-  come_at rs Reset = still_resets come come_plain
+  come_at rs Idle = still_idles block_and_enumerations come come_plain
+  come_at rs Vbus = still_powers block_and_enumerations come come_plain rs
+  come_at rs Reset = still_resets block_and_enumerations come come_plain
   come_at rs Enumerate = come_talks rs
   come_at rs Stream = come_talks rs
 

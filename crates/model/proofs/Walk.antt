@@ -300,7 +300,7 @@ module _ (P : World → Type 0) (R : Ran P) where
 
     walk_configures : (stack : Bool) → Chosen P stack → Holds P (configures stack)
     unfolding configures
-    walk_configures true B = search (steps, walk_chooses B, Q.configs, Q.queues) depth 8
+    walk_configures true B = search (steps, walk_chooses B, Q.configs) depth 8
     walk_configures false B = search (steps, Q.configs, Q.queues) depth 8
 
     module _ (stack : Bool) (B : Chosen P stack) where

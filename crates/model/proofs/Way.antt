@@ -6,7 +6,7 @@ use Rattle.record.specs.declared.Phase.{Phase}
 use mathlib.Core.Path.{◌≡◌, refl, ap}
 use Rattle.record.specs.World.{World}
 use Rattle.record.specs.Parts as Part
-use Rattle.record.specs.Change.{Change, bus, ran, lost, count, phase, timers, control, apply, port, audio, request, stream}
+use Rattle.record.specs.Change.{Change, bus, ran, lost, count, timers, apply, port, audio, request, stream}
 use Rattle.record.proofs.Beside.{audio_beside, stream_beside}
 use Rattle.model.proofs.Fields.{Fields}
 

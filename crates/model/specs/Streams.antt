@@ -1,5 +1,5 @@
 -- MIDI, serial and vendor transfers of a streaming microframe (document 01, "Streams"; usbhost.rs 497-508, 773-851).
-use Rattle.std.specs.Prelude.{ℕ, zero, suc, ◌+◌, ◌*◌, ◌/◌, ◌%◌, min, Bool, true, false, not, ◌&&◌, ◌||◌, List, [], ◌∷◌, ◌++◌, eqb, length, get_or, take, drop, replicate}
+use Rattle.std.specs.Prelude.{ℕ, zero, suc, ◌*◌, ◌/◌, ◌%◌, min, Bool, true, false, not, ◌&&◌, ◌||◌, List, [], ◌∷◌, ◌++◌, eqb, length, get_or, take, drop, replicate}
 use Rattle.bits.specs.Pick.{pick}
 use Rattle.bits.specs.Word.{set}
 use Rattle.usbdev.specs.Offsets.{EPNAK}
