@@ -1,4 +1,6 @@
 // Worked examples of document 01, each the contract of a function that does nothing.
+#![tactic(auto)]
+
 ghost use Rattle.worked.specs.Worked.{Worked};
 ghost use Rattle.worked.specs.Pages.{TwoPages};
 
