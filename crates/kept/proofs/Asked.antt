@@ -8,7 +8,7 @@ use Rattle.record.specs.declared.Phase.{Phase}
 use Rattle.record.specs.declared.Control.{Control}
 use Rattle.record.specs.World.{World}
 use Rattle.record.specs.Parts as Part
-use Rattle.record.specs.Change.{Change, bus, ran, lost, count, uf, phase, timers, control, reply, device, config, apply, drained, port, audio, request, stream}
+use Rattle.record.specs.Change.{Change, bus, ran, lost, count, timers, apply, drained, port, audio, request, stream}
 use Rattle.record.proofs.Beside.{audio_beside, stream_beside}
 use Rattle.model.proofs.Fields.{Fields}
 

@@ -19,7 +19,7 @@ use Rattle.record.specs.declared.Settings.{Settings}
 use Rattle.record.specs.Record.{Stats, COUNTERS, wrapped, Counter, place, counter_at, counter_of, counted, raised, microframes, in_transfers, out_transfers, in_frames, out_frames, bad_blocks, midi_dtds, midi_asleep, out_underruns, midi_packets_out, vendor_in_bytes, restarts, enumerations}
 use Rattle.record.proofs.Counters.{raised_same, raised_other}
 use Rattle.record.specs.World.{World, bus_of}
-use Rattle.record.specs.Change.{Change, count, phase, budget, on_page, apply, Step, left, ◌then◌, nothing, if, when, one, here, ran_stores, runs, midi}
+use Rattle.record.specs.Change.{Change, count, budget, on_page, apply, Step, left, ◌then◌, nothing, if, when, one, here, ran_stores, runs}
 use Rattle.model.specs.Phases.{now, counts, ticks, cable, returns, sleeps, suspends, enters, leaves, resets, starts_frame}
 use Rattle.model.specs.Control.{stalled, unstalls, stages, posts, configured, controls}
 use Rattle.model.specs.Streams.{naks, reads, reads_at, midi_in, fitting, serial_step, drains_midi, midi_out, reads_vendor}

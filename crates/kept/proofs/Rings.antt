@@ -1,5 +1,5 @@
 -- The rings of frames: each start lies in its ring, and a ring holds no more than it has room for (document 01, number 5), whatever the changes.
-use Prim.Native.Nat.{ℕ, ◌+◌, ◌-◌, ◌/◌, ◌%◌, ◌≤◌, ◌<◌}
+use Prim.Native.Nat.{ℕ, ◌+◌, ◌/◌, ◌%◌, ◌≤◌, ◌<◌}
 use mathlib.Core.Path.{◌≡◌, refl, ap, subst, sym}
 use mathlib.Core.Bool.{Bool, true, false}
 use mathlib.Core.List.{List, [], ◌∷◌}
@@ -15,7 +15,7 @@ use Rattle.record.specs.declared.Ring.{Ring}
 use Rattle.record.specs.World.{World}
 use Rattle.record.specs.Parts as Part
 use Rattle.record.specs.Sizes.{FRAMES, WORDS}
-use Rattle.record.specs.Change.{Change, bus, ran, lost, count, timers, frame, ringed_place, taken_from, apply, left, port, audio, request, stream}
+use Rattle.record.specs.Change.{Change, bus, ran, lost, count, timers, ringed_place, taken_from, apply, left, port, audio, request, stream}
 use Rattle.record.proofs.Beside.{port_beside, request_beside, stream_beside}
 use Rattle.model.specs.Microframe.{microframe}
 use Rattle.bounds.specs.Bounds.{ring_ok}

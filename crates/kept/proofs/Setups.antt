@@ -27,7 +27,7 @@ use Rattle.record.specs.Setups.{little}
 use Rattle.record.specs.World.{World, bus_of}
 use Rattle.record.specs.Change.{Change, uf, phase, block, control, queued, popped, pushed, cleared, reply, device, config, forgot, drained, apply, Step, left, ◌then◌, nothing, if, when, one, here, on_page, runs}
 use Rattle.model.specs.Phases.{now, counts, ticks, drops_request, forgets, returns, cable, sleeps, suspends, enters, departs, leaves, idles, powers, resets, starts_frame, first_setups}
-use Rattle.model.specs.Control.{request, w_length, begun, posted, posts, enumerating, configured, to_status, keeps_reply, data_stage, asks_for, replied, asks_whole, sets_configuration, interface_setups, fixed_setups, chooses, configures, finishes, status_ends, status_stage, unstalls, stages, controls}
+use Rattle.model.specs.Control.{w_length, begun, posted, posts, enumerating, configured, to_status, keeps_reply, data_stage, asks_for, replied, asks_whole, sets_configuration, interface_setups, fixed_setups, chooses, configures, finishes, status_ends, status_stage, unstalls, stages, controls}
 use Rattle.model.specs.Microframe.{rs_set, gone_at, asleep_at, transfers, enumerates, talks, at_phase, by_phase, opens, frame_of, microframe}
 use Rattle.model.proofs.Fields.{Keeps, fields_then, left_runs, fields_ran, ran_world, keeps_then, keeps_if, keeps_nothing, keeps_one, keeps_bus, keeps_page}
 use Rattle.bounds.proofs.Shapes.{made_device, made_configuration}

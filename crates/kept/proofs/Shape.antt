@@ -1,6 +1,6 @@
 -- What no change can change: settings, packers, and the lengths of memory and of every area; and the lengths of the record's queues,
 -- whose arrays hold them. One induction over lists serves every step.
-use Prim.Native.Nat.{ℕ, ◌+◌, ◌-◌, ◌*◌, ◌≤◌}
+use Prim.Native.Nat.{ℕ, ◌-◌, ◌*◌, ◌≤◌}
 use mathlib.Core.Path.{◌≡◌, refl, ap, ◌∙◌}
 use mathlib.Core.List.{List, [], ◌∷◌, ◌++◌}
 use native.Mathlib.Omega.{arith}
@@ -15,7 +15,7 @@ use Rattle.midi.specs.declared.Packer.{Packer}
 use Rattle.record.specs.declared.Settings.{Settings}
 use Rattle.record.specs.World.{World, bus_of}
 use Rattle.record.specs.Parts as Part
-use Rattle.record.specs.Change.{Change, bus, ran, lost, count, timers, control, popped, cleared, reply, device, config, midi, serial, received, drained, waiting, ringed, apply, Step, left, port, audio, request, stream}
+use Rattle.record.specs.Change.{Change, bus, ran, lost, count, timers, popped, cleared, drained, waiting, ringed, apply, Step, left, port, audio, request, stream}
 use Rattle.record.proofs.Beside.{port_beside}
 use Rattle.model.specs.Microframe.{microframe}
 use Rattle.model.proofs.Walk.{adds_any, clears_any}
