@@ -117,30 +117,30 @@ aside_plain (stream c) h k = refl
 
 keeps_midi : (asleep : Bool) (every : ℕ) → asleep ≡ false → Keeps aside (midi_in asleep every)
 keeps_midi true every e = λ w. absurd (false_true (sym e))
-keeps_midi false every e = still_awake {i = aside_ignored} aside aside_plain refl every
+keeps_midi false every e = still_awake aside_ignored aside aside_plain refl every
 
 keeps_leaves : (rs : Bool) → Keeps aside (leaves false rs)
 unfolding leaves
 keeps_leaves rs = keeps_nothing aside
 
 keeps_transfers : (c : Settings) (t : ℕ) → within c.sleep t ≡ false → Keeps aside (transfers c t)
-keeps_transfers c t e = still_transfers {i = aside_ignored} aside aside_plain refl c t (keeps_midi (within c.sleep t) c.midi_every e)
+keeps_transfers c t e = still_transfers aside_ignored aside aside_plain refl c t (keeps_midi (within c.sleep t) c.midi_every e)
 
 keeps_enumerates : (c : Settings) → c.device_stack ≡ false → Keeps aside (enumerates c)
 unfolding enumerates
 keeps_enumerates c e w =
     fields_then aside starts_frame _ w
     ∙ ap (λ (b : Bool). aside_of (left (controls b) (left starts_frame w))) e
-    ∙ still_controls {i = aside_ignored} aside aside_plain refl false refl (left starts_frame w) ∙ still_frame {i = aside_ignored} aside aside_plain w
+    ∙ still_controls aside_ignored aside aside_plain refl false refl (left starts_frame w) ∙ still_frame aside_ignored aside aside_plain w
 
 keeps_talks : (c : Settings) (t : ℕ) (rs : Bool) → c.device_stack ≡ false → within c.sleep t ≡ false → Keeps aside (talks c t rs)
 unfolding talks
 keeps_talks c t rs e f = keeps_if aside _ _ nothing (keeps_then aside _ _ (keeps_enumerates c e) (keeps_transfers c t f)) (keeps_nothing aside)
 
 keeps_phase : (c : Settings) (t : ℕ) (rs : Bool) → c.device_stack ≡ false → within c.sleep t ≡ false → (p : Phase) → Keeps aside (at_phase c t rs p)
-keeps_phase c t rs e f Idle = still_idles {i = aside_ignored} aside aside_plain
-keeps_phase c t rs e f Vbus = still_powers {i = aside_ignored} aside aside_plain rs
-keeps_phase c t rs e f Reset = still_resets {i = aside_ignored} aside aside_plain
+keeps_phase c t rs e f Idle = still_idles aside_ignored aside aside_plain
+keeps_phase c t rs e f Vbus = still_powers aside_ignored aside aside_plain rs
+keeps_phase c t rs e f Reset = still_resets aside_ignored aside aside_plain
 keeps_phase c t rs e f Enumerate = keeps_talks c t rs e f
 keeps_phase c t rs e f Stream = keeps_talks c t rs e f
 
@@ -151,7 +151,7 @@ aside_opened c rs e w =
     fields_then aside (opens c false) _ w
     ∙ fields_then aside (suspends false) _ (left (opens c false) w)
     ∙ ap (λ (b : Bool). aside_of (left (leaves b rs) (left (suspends false) (left (opens c false) w)))) e
-    ∙ keeps_leaves rs _ ∙ still_suspends {i = aside_ignored} aside aside_plain refl false _ ∙ still_opens {i = aside_ignored} aside aside_plain refl c w
+    ∙ keeps_leaves rs _ ∙ still_suspends aside_ignored aside aside_plain refl false _ ∙ still_opens aside_ignored aside aside_plain refl c w
 
 -- at the stream step, and at the output step
 pub aside_stream : (rs : Bool) (w : World) → w.settings.device_stack ≡ false → aside_of (stream_by rs w) ≡ aside_of w
@@ -159,7 +159,7 @@ unfolding stream_by phase_by
 aside_stream rs w e = keeps_enumerates w.settings e (phase_by rs w) ∙ aside_opened w.settings rs e w
 
 pub aside_output : (w : World) → w.settings.device_stack ≡ false → aside_of (at_output w) ≡ aside_of w
-aside_output w e = still_hears {i = aside_ignored} aside aside_plain (stream_by (rs_set w) w) ∙ aside_stream (rs_set w) w e
+aside_output w e = still_hears aside_ignored aside aside_plain (stream_by (rs_set w) w) ∙ aside_stream (rs_set w) w e
 
 -- a microframe that is neither gone, nor suspended, nor asleep, without the device stack
 pub aside_awake : (t : ℕ) (w : World) → gone_at t w ≡ false → asleep_at t w ≡ false → w.settings.device_stack ≡ false → within w.settings.sleep t ≡ false → aside_of (left (microframe t) w) ≡ aside_of w
@@ -183,7 +183,7 @@ by_suspend t rs false true w e f =
     let c = w.settings in
     fields_then aside (opens c false) _ w
     ∙ fields_then aside (suspends true) sleeps (left (opens c false) w)
-    ∙ sleeps_once _ ∙ ap slept (still_suspends {i = aside_ignored} aside aside_plain refl true _ ∙ still_opens {i = aside_ignored} aside aside_plain refl c w)
+    ∙ sleeps_once _ ∙ ap slept (still_suspends aside_ignored aside aside_plain refl true _ ∙ still_opens aside_ignored aside aside_plain refl c w)
 
 pub aside_suspended : (t : ℕ) (w : World) → gone_at t w ≡ false → asleep_at t w ≡ true → aside_of (left (microframe t) w) ≡ slept (aside_of w)
 unfolding microframe here

@@ -118,13 +118,13 @@ counts_controls v =
     ∙ by_tests v.state.control.on (eqb v.state.lengths.setups 0) (enumerating v.state.phase) refl refl
   where
     runs : enumerated_of (left (requests false) v) ≡ enumerated_of v
-    runs = keeps_if enumerated stalled unstalls (stages false) (still_unstalls {i = enumerated_ignored} enumerated enumerated_plain) (still_stages {i = enumerated_ignored} enumerated enumerated_plain false refl) v
+    runs = keeps_if enumerated stalled unstalls (stages false) (still_unstalls enumerated_ignored enumerated enumerated_plain) (still_stages enumerated_ignored enumerated enumerated_plain false refl) v
 
     other : (b n : Bool) → eqb v.state.lengths.setups 0 ≡ n → enumerating v.state.phase ≡ b → enumerated_of (left (if (λ w. eqb w.state.lengths.setups 0) configured posts) v) ≡ pick (b && n) (wrapped (enumerated_of v + 1)) (enumerated_of v)
     other true true e f = fields_if enumerated (λ w. eqb w.state.lengths.setups 0) configured posts v ∙ ap (λ (t : Bool). pick t (enumerated_of (left configured v)) (enumerated_of (left posts v))) e ∙ counts_configured v ∙ ap (λ (t : Bool). pick t (wrapped (enumerated_of v + 1)) (enumerated_of v)) f
     other false true e f = fields_if enumerated (λ w. eqb w.state.lengths.setups 0) configured posts v ∙ ap (λ (t : Bool). pick t (enumerated_of (left configured v)) (enumerated_of (left posts v))) e ∙ counts_configured v ∙ ap (λ (t : Bool). pick t (wrapped (enumerated_of v + 1)) (enumerated_of v)) f
-    other true false e f = fields_if enumerated (λ w. eqb w.state.lengths.setups 0) configured posts v ∙ ap (λ (t : Bool). pick t (enumerated_of (left configured v)) (enumerated_of (left posts v))) e ∙ still_posts {i = enumerated_ignored} enumerated enumerated_plain v
-    other false false e f = fields_if enumerated (λ w. eqb w.state.lengths.setups 0) configured posts v ∙ ap (λ (t : Bool). pick t (enumerated_of (left configured v)) (enumerated_of (left posts v))) e ∙ still_posts {i = enumerated_ignored} enumerated enumerated_plain v
+    other true false e f = fields_if enumerated (λ w. eqb w.state.lengths.setups 0) configured posts v ∙ ap (λ (t : Bool). pick t (enumerated_of (left configured v)) (enumerated_of (left posts v))) e ∙ still_posts enumerated_ignored enumerated enumerated_plain v
+    other false false e f = fields_if enumerated (λ w. eqb w.state.lengths.setups 0) configured posts v ∙ ap (λ (t : Bool). pick t (enumerated_of (left configured v)) (enumerated_of (left posts v))) e ∙ still_posts enumerated_ignored enumerated enumerated_plain v
 
     never : (b : Bool) → (b && false) ≡ false
     never true = refl
@@ -140,7 +140,7 @@ counts_controls v =
 keeps_midi : (asleep : Bool) (every : ℕ) → Keeps enumerated (midi_in asleep every)
 unfolding midi_in sleeps
 keeps_midi true every = keeps_one enumerated _ (λ w. refl)
-keeps_midi false every = still_awake {i = enumerated_ignored} enumerated enumerated_plain refl every
+keeps_midi false every = still_awake enumerated_ignored enumerated enumerated_plain refl every
 
 keeps_leaves : (stack : Bool) → Keeps enumerated (leaves stack true)
 unfolding leaves
@@ -151,8 +151,8 @@ module _ (t : ℕ) (w : World) (p : Plain t w) (without : w.settings.device_stac
   opened : enumerated_of (phase_by true w) ≡ enumerated_of w
   opened =
       ap enumerated_of (phase_ticked true w p.still)
-      ∙ keeps_leaves w.settings.device_stack _ ∙ still_suspends {i = enumerated_ignored} enumerated enumerated_plain refl false (ticked w.settings w)
-      ∙ keeps_if enumerated (λ v. w.settings.midi_in) ticks nothing (still_ticks {i = enumerated_ignored} enumerated enumerated_plain) (keeps_nothing enumerated) (left counts w) ∙ still_counts {i = enumerated_ignored} enumerated enumerated_plain w
+      ∙ keeps_leaves w.settings.device_stack _ ∙ still_suspends enumerated_ignored enumerated enumerated_plain refl false (ticked w.settings w)
+      ∙ keeps_if enumerated (λ v. w.settings.midi_in) ticks nothing (still_ticks enumerated_ignored enumerated enumerated_plain) (keeps_nothing enumerated) (left counts w) ∙ still_counts enumerated_ignored enumerated enumerated_plain w
 
   -- the tests at control are those at entry
   tests : ends_by (asked t w p).state.phase (asked t w p).state.control.on (asked t w p).state.lengths.setups ≡ ends_by w.state.phase w.state.control.on w.state.lengths.setups
@@ -162,9 +162,9 @@ module _ (t : ℕ) (w : World) (p : Plain t w) (without : w.settings.device_stac
       → enumerated_of (left (M.microframe t) w) ≡ pick (ends_by w.state.phase w.state.control.on w.state.lengths.setups) (wrapped (enumerated_of w + 1)) (enumerated_of w)
   unfolding talks enumerates
   in_talks q e f =
-      let n = still_frame {i = enumerated_ignored} enumerated enumerated_plain (phase_by true w) ∙ opened in
+      let n = still_frame enumerated_ignored enumerated enumerated_plain (phase_by true w) ∙ opened in
       ap enumerated_of (frame_in_lem t w p q e ∙ f ∙ when_true (λ v. true) _ (phase_by true w) refl ∙ exec_then apply _ _ (phase_by true w))
-      ∙ still_transfers {i = enumerated_ignored} enumerated enumerated_plain refl w.settings t (keeps_midi _ _) _
+      ∙ still_transfers enumerated_ignored enumerated enumerated_plain refl w.settings t (keeps_midi _ _) _
       ∙ fields_then enumerated _ _ (phase_by true w)
       ∙ ap (λ (b : Bool). enumerated_of (left (controls b) (asked t w p))) without
       ∙ counts_controls (asked t w p)
@@ -179,8 +179,8 @@ module _ (t : ℕ) (w : World) (p : Plain t w) (without : w.settings.device_stac
       none q e f h = h ∙ ap (λ (b : Bool). pick (b && (not w.state.control.on && eqb w.state.lengths.setups 0)) (wrapped (enumerated_of w + 1)) (enumerated_of w)) (sym (ap enumerating e ∙ f))
 
       by_phase_lem : (q : Phase) → w.state.phase ≡ q → enumerated_of (left (M.microframe t) w) ≡ pick (ends_by w.state.phase w.state.control.on w.state.lengths.setups) (wrapped (enumerated_of w + 1)) (enumerated_of w)
-      by_phase_lem Idle e = none Idle e refl (ap enumerated_of (frame_in_lem t w p Idle e) ∙ still_idles {i = enumerated_ignored} enumerated enumerated_plain _ ∙ opened)
-      by_phase_lem Vbus e = none Vbus e refl (ap enumerated_of (frame_in_lem t w p Vbus e) ∙ still_powers {i = enumerated_ignored} enumerated enumerated_plain true _ ∙ opened)
-      by_phase_lem Reset e = none Reset e refl (ap enumerated_of (frame_in_lem t w p Reset e) ∙ still_resets {i = enumerated_ignored} enumerated enumerated_plain _ ∙ opened)
+      by_phase_lem Idle e = none Idle e refl (ap enumerated_of (frame_in_lem t w p Idle e) ∙ still_idles enumerated_ignored enumerated enumerated_plain _ ∙ opened)
+      by_phase_lem Vbus e = none Vbus e refl (ap enumerated_of (frame_in_lem t w p Vbus e) ∙ still_powers enumerated_ignored enumerated enumerated_plain true _ ∙ opened)
+      by_phase_lem Reset e = none Reset e refl (ap enumerated_of (frame_in_lem t w p Reset e) ∙ still_resets enumerated_ignored enumerated enumerated_plain _ ∙ opened)
       by_phase_lem Enumerate e = in_talks Enumerate e refl
       by_phase_lem Stream e = in_talks Stream e refl

@@ -127,7 +127,7 @@ aside_asleep t w s ph stack midi asleep =
     ∙ ap aside_of (when_true (λ v. c.midi_in) (midi_in (within c.sleep t) c.midi_every) (left streams u) midi)
     ∙ ap (λ (b : Bool). aside_of (left (midi_in b c.midi_every) (left streams u))) asleep
     ∙ sleeps_once (left streams u)
-    ∙ ap slept (still_streams {i = aside_ignored} aside aside_plain u ∙ aside_stream true w stack)
+    ∙ ap slept (still_streams aside_ignored aside aside_plain u ∙ aside_stream true w stack)
 
 -- ---- of calls
 
