@@ -1,5 +1,5 @@
 -- What the proofs on descriptors cite.
-use Rattle.std.proofs.Common.{◌≡◌, ℕ, ◌+◌, ◌-◌, ◌/◌, ◌%◌, ◌^◌, ◌≤◌, Bool, true, false, List, sym, refl, ap, ◌∙◌, ap₂, arith}
+use Rattle.std.proofs.Common.{◌≡◌, ℕ, ◌+◌, ◌/◌, ◌%◌, ◌^◌, ◌≤◌, Bool, true, false, List, sym, refl, ap, ◌∙◌, ap₂, arith}
 use lib.Bits.{and_high}
 use Rattle.bits.specs.Pick.{pick_both}
 use Rattle.bits.specs.Word.{clear, any, replace}

@@ -1,5 +1,5 @@
 -- A run stores nowhere else, and retires no more than its endpoint may.
-use Rattle.std.proofs.Common.{ℕ, zero, suc, ◌+◌, ◌≤◌, Bool, not, List, [], ◌∷◌, ◌++◌, map, drop, arith}
+use Rattle.std.proofs.Common.{ℕ, zero, suc, ◌≤◌, Bool, not, List, [], ◌∷◌, ◌++◌, map, drop, arith}
 use Rattle.bits.specs.Pick.{pick_both}
 use Rattle.bus.specs.Steps.{exec, and_then}
 use Rattle.bus.specs.Stores.{Bus, Store, store, putting, when}

@@ -1,4 +1,6 @@
 // Queue heads and transfer descriptors (dTDs): finding the next one, retiring it, and runs over an endpoint's list.
+#![tactic(auto)]
+
 ghost use Rattle.std.specs.Prelude.{◌≡◌, ℕ, ◌<◌, ◌≤◌, Bool, true, false, [], length};
 ghost use Rattle.bus.specs.Memory.{shown, peek32 as Memory·peek32};
 ghost use Rattle.bus.specs.Sized.{PAGE, Sized};
@@ -34,8 +36,8 @@ pub fn qh(page: &[u8], ep: u32, dir_in: bool) -> u32
 
 // The pointer to the next descriptor that the controller would run; 1 where there is none.
 pub fn next_dtd(dynamic: &[u8], sram: &[u8], page: &[u8], qh: u32) -> u32
-    requires { Sized (shown dynamic sram page) }
-    ensures { result ≡ D.next_of qh (shown dynamic.entry sram.entry page.entry) }
+    requires { Sized (shown dynamic.now sram.now page.now) }
+    ensures { result ≡ D.next_of qh (shown dynamic.now sram.now page.now) }
 {
     let next = peek32(dynamic, sram, page, wrapping_add_u32(qh, 8));
     if bits::any(next, 1) {
@@ -50,8 +52,8 @@ pub fn next_dtd(dynamic: &[u8], sram: &[u8], page: &[u8], qh: u32) -> u32
 
 // The token of the descriptor that the pointer n names.
 pub fn token_of(dynamic: &[u8], sram: &[u8], page: &[u8], n: u32) -> u32
-    requires { Sized (shown dynamic sram page) }
-    ensures { result ≡ D.token_of n (shown dynamic.entry sram.entry page.entry) }
+    requires { Sized (shown dynamic.now sram.now page.now) }
+    ensures { result ≡ D.token_of n (shown dynamic.now sram.now page.now) }
 {
     peek32(
         dynamic,
@@ -63,9 +65,9 @@ pub fn token_of(dynamic: &[u8], sram: &[u8], page: &[u8], n: u32) -> u32
 
 // What stands before a descriptor of the endpoint, whose bit of EPSR is `bit`.
 pub fn find(dynamic: &[u8], sram: &[u8], page: &[u8], ep: u32, dir_in: bool, bit: u32) -> Found
-    requires sized { Sized (shown dynamic sram page) }
+    requires sized { Sized (shown dynamic.now sram.now page.now) }
     requires ep_bound { (ep < 16) × (bit ≡ D.bit_of (D.endpoint ep dir_in)) }
-    ensures { result ≡ D.found (D.endpoint ep dir_in) (shown dynamic.entry sram.entry page.entry) }
+    ensures { result ≡ D.found (D.endpoint ep dir_in) (shown dynamic.now sram.now page.now) }
 {
     if bits::any(word_at(page, EPSR), bit) {
         let head = qh(page, ep, dir_in);
@@ -92,8 +94,8 @@ fn close(
     tok: u32,
     moved: u32,
 ) -> u32
-    requires { Sized (shown dynamic sram page) }
-    ensures { ((l : Bool) → Does (D.closing qh n tok moved) (Stores·bus (shown dynamic.entry sram.entry page.entry) l) (Stores·bus (shown dynamic.exit sram.exit page.exit) l) result) × (result ≤ 12) }
+    requires { Sized (shown dynamic.old sram.old page.old) }
+    ensures { ((l : Bool) → Does (D.closing qh n tok moved) (Stores·bus (shown dynamic.old sram.old page.old) l) (Stores·bus (shown dynamic.new sram.new page.new) l) result) × (result ≤ 12) }
 {
     let td = bits::clear(n, 0x1F);
     let token = usbdev::token_after(tok, moved);
@@ -134,8 +136,8 @@ fn advance(
     tok: u32,
     bit: u32,
 ) -> Retired
-    requires { Sized (shown dynamic sram page) }
-    ensures { P.Advances qh n tok bit (shown dynamic.entry sram.entry page.entry) (shown dynamic.exit sram.exit page.exit) result }
+    requires { Sized (shown dynamic.old sram.old page.old) }
+    ensures { P.Advances qh n tok bit (shown dynamic.old sram.old page.old) (shown dynamic.new sram.new page.new) result }
 {
     let td = bits::clear(n, 0x1F);
     let next = peek32(&*dynamic, &*sram, &*page, td);
@@ -160,8 +162,8 @@ pub fn retire(
     moved: u32,
     bit: u32,
 ) -> Retired
-    requires { Sized (shown dynamic sram page) }
-    ensures { P.Retires qh n tok moved bit (shown dynamic.entry sram.entry page.entry) (shown dynamic.exit sram.exit page.exit) result }
+    requires { Sized (shown dynamic.old sram.old page.old) }
+    ensures { P.Retires qh n tok moved bit (shown dynamic.old sram.old page.old) (shown dynamic.new sram.new page.new) result }
 {
     let n0 = close(dynamic, sram, page, qh, n, tok, moved);
     let advanced = advance(dynamic, sram, page, qh, n, tok, bit);
@@ -173,8 +175,8 @@ pub fn retire(
 
 // Whether a list ends at the pointer n: it names no descriptor, or one that is not active.
 fn list_ends(dynamic: &[u8], sram: &[u8], page: &[u8], n: u32) -> bool
-    requires { Sized (shown dynamic sram page) }
-    ensures { result ≡ D.list_ends n (shown dynamic.entry sram.entry page.entry) }
+    requires { Sized (shown dynamic.now sram.now page.now) }
+    ensures { result ≡ D.list_ends n (shown dynamic.now sram.now page.now) }
 {
     if bits::any(n, 1) {
         return true;
@@ -214,8 +216,8 @@ pub fn settle(
     completed: bool,
     flag: bool,
 ) -> bool
-    requires { Sized (shown dynamic sram page) }
-    ensures { Does (D.settling bit n completed) (Stores·bus (shown dynamic.entry sram.entry page.entry) flag) (Stores·bus (shown dynamic.entry sram.entry page.exit) result) 0 }
+    requires { Sized (shown dynamic.now sram.now page.old) }
+    ensures { Does (D.settling bit n completed) (Stores·bus (shown dynamic.now sram.now page.old) flag) (Stores·bus (shown dynamic.now sram.now page.new) result) 0 }
 {
     let ends = list_ends(dynamic, sram, &*page, n);
     unprime(page, ends, bit);
@@ -242,8 +244,8 @@ pub fn finish(
     bit: u32,
     flag: bool,
 ) -> Finished
-    requires { Sized (shown dynamic sram page) }
-    ensures { P.Finishes qh n tok moved bit (Stores·bus (shown dynamic.entry sram.entry page.entry) flag) (Stores·bus (shown dynamic.exit sram.exit page.exit) result.line) result }
+    requires { Sized (shown dynamic.old sram.old page.old) }
+    ensures { P.Finishes qh n tok moved bit (Stores·bus (shown dynamic.old sram.old page.old) flag) (Stores·bus (shown dynamic.new sram.new page.new) result.line) result }
 {
     let retired = retire(dynamic, sram, page, qh, n, tok, moved, bit);
     let completed = bits::any(tok, 0x8000);
@@ -290,8 +292,8 @@ pub fn send_one(
     bytes: &[u8],
     flag: bool,
 ) -> Ran
-    requires { Sized (shown dynamic sram page) }
-    ensures { P.SendsOne qh n tok bit bytes.now (Stores·bus (shown dynamic.entry sram.entry page.entry) flag) (Stores·bus (shown dynamic.exit sram.exit page.exit) result.line) result }
+    requires { Sized (shown dynamic.old sram.old page.old) }
+    ensures { P.SendsOne qh n tok bit bytes.now (Stores·bus (shown dynamic.old sram.old page.old) flag) (Stores·bus (shown dynamic.new sram.new page.new) result.line) result }
 {
     let count = bits::least(usbdev::total(tok) as usize, bytes.len());
     let td = bits::clear(n, 0x1F);
@@ -319,8 +321,8 @@ pub fn take_one(
     bit: u32,
     flag: bool,
 ) -> Ran
-    requires { Sized (shown dynamic sram page) }
-    ensures { P.TakesOne qh n tok bit (Stores·bus (shown dynamic.entry sram.entry page.entry) flag) (Stores·bus (shown dynamic.exit sram.exit page.exit) result.line) result }
+    requires { Sized (shown dynamic.old sram.old page.old) }
+    ensures { P.TakesOne qh n tok bit (Stores·bus (shown dynamic.old sram.old page.old) flag) (Stores·bus (shown dynamic.new sram.new page.new) result.line) result }
 {
     let moved = usbdev::total(tok);
     let finished = finish(dynamic, sram, page, qh, n, tok, moved, bit, flag);
@@ -343,9 +345,9 @@ pub fn run_out(
     bytes: &[u8],
     flag: bool,
 ) -> Ran
-    requires sized { Sized (shown dynamic sram page) }
+    requires sized { Sized (shown dynamic.old sram.old page.old) }
     requires ep_nonzero { (0 < ep) × ((ep < 16) × (bit ≡ D.bit_of (D.endpoint ep false))) }
-    ensures { P.Runs (D.endpoint ep false) bytes.now (Stores·bus (shown dynamic.entry sram.entry page.entry) flag) (Stores·bus (shown dynamic.exit sram.exit page.exit) result.line) result }
+    ensures { P.Runs (D.endpoint ep false) bytes.now (Stores·bus (shown dynamic.old sram.old page.old) flag) (Stores·bus (shown dynamic.new sram.new page.new) result.line) result }
 {
     match find(&*dynamic, &*sram, &*page, ep, false, bit) {
         Found::Unprimed => none_ran(flag),
@@ -363,9 +365,9 @@ pub fn run_count(
     bit: u32,
     flag: bool,
 ) -> Ran
-    requires sized { Sized (shown dynamic sram page) }
+    requires sized { Sized (shown dynamic.old sram.old page.old) }
     requires ep_nonzero { (0 < ep) × ((ep < 16) × (bit ≡ D.bit_of (D.endpoint ep true))) }
-    ensures { P.Runs (D.endpoint ep true) [] (Stores·bus (shown dynamic.entry sram.entry page.entry) flag) (Stores·bus (shown dynamic.exit sram.exit page.exit) result.line) result }
+    ensures { P.Runs (D.endpoint ep true) [] (Stores·bus (shown dynamic.old sram.old page.old) flag) (Stores·bus (shown dynamic.new sram.new page.new) result.line) result }
 {
     match find(&*dynamic, &*sram, &*page, ep, true, bit) {
         Found::Unprimed => none_ran(flag),
