@@ -1,7 +1,7 @@
 -- How the promises of steps compose.
 use Rattle.std.proofs.Common.{◌≡◌, ℕ, ◌+◌, Bool, true, false, List, [], ◌∷◌, map, get_or, sym, refl, ap, ◌∙◌, arith}
 use Rattle.bits.specs.Pick.{pick}
-use Rattle.bus.specs.Memory.{Memory, memory, word}
+use Rattle.bus.specs.Memory.{Memory, word}
 use Rattle.bus.specs.Steps.{replay, replay_append, exec, exec_then, exec_choose}
 use Rattle.bus.specs.Stores as S
 use Rattle.bus.specs.Stores.{Bus, Store, store, stored, dropped_by, BusStep}
