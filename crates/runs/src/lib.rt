@@ -1,4 +1,6 @@
 // Runs over whole lists of descriptors: endpoint 0 both ways, and input into a lent area.
+#![tactic(auto)]
+
 ghost use Rattle.std.specs.Prelude.{◌≡◌, Bool, true, false, [], ℕ, ◌+◌, ◌<◌, ◌≤◌, length};
 ghost use Rattle.bus.specs.Memory.{shown};
 ghost use Rattle.bus.specs.Sized.{Sized};
@@ -70,11 +72,11 @@ fn take_in(
     limit: usize,
     t: Turn,
 ) -> Turn
-    requires sized { Sized (shown dynamic sram page) }
+    requires sized { Sized (shown dynamic.old sram.old page.old) }
     requires limit_in_bounds { (limit ≤ length out.old) × (t.at ≤ limit) }
     requires small { T.Small t }
-    requires tok_value { tok ≡ D.token_of t.next (shown dynamic sram page) }
-    ensures { T.TakesIn qh tok bit limit (shown dynamic.entry sram.entry page.entry) (shown dynamic.exit sram.exit page.exit) out.old out.new t result }
+    requires tok_value { tok ≡ D.token_of t.next (shown dynamic.old sram.old page.old) }
+    ensures { T.TakesIn qh tok bit limit (shown dynamic.old sram.old page.old) (shown dynamic.new sram.new page.new) out.old out.new t result }
 {
     let at = t.at;
     let total = usbdev::total(tok);
@@ -106,11 +108,11 @@ fn turn_in(
     limit: usize,
     t: Turn,
 ) -> Turn
-    requires sized { Sized (shown dynamic sram page) }
+    requires sized { Sized (shown dynamic.old sram.old page.old) }
     requires limit_in_bounds { (limit ≤ length out.old) × (t.at ≤ limit) }
     requires small { T.Small t }
     requires bit_value { bit ≡ D.bit_of (D.endpoint ep true) }
-    ensures { T.TurnsIn (D.endpoint ep true) qh limit (shown dynamic.entry sram.entry page.entry) (shown dynamic.exit sram.exit page.exit) out.old out.new t result }
+    ensures { T.TurnsIn (D.endpoint ep true) qh limit (shown dynamic.old sram.old page.old) (shown dynamic.new sram.new page.new) out.old out.new t result }
 {
     let next = t.next;
     if bits::any(next, 1) {
@@ -136,10 +138,10 @@ fn loop_in(
     at: usize,
     limit: usize,
 ) -> Turn
-    requires sized { Sized (shown dynamic sram page) }
+    requires sized { Sized (shown dynamic.old sram.old page.old) }
     requires limit_in_bounds { (limit ≤ length out.old) × (at ≤ limit) }
     requires bit_value { bit ≡ D.bit_of (D.endpoint ep true) }
-    ensures { T.LoopsIn (D.endpoint ep true) qh first limit (shown dynamic.entry sram.entry page.entry) (shown dynamic.exit sram.exit page.exit) out.old out.new at result }
+    ensures { T.LoopsIn (D.endpoint ep true) qh first limit (shown dynamic.old sram.old page.old) (shown dynamic.new sram.new page.new) out.old out.new at result }
 {
     let mut t = first_turn(first, at);
     let mut left: u32 = 64;
@@ -163,9 +165,9 @@ pub fn run0_in(
     limit: usize,
     flag: bool,
 ) -> Filled
-    requires sized { Sized (shown dynamic sram page) }
+    requires sized { Sized (shown dynamic.old sram.old page.old) }
     requires limit_in_bounds { (limit ≤ length out.old) × (at ≤ limit) }
-    ensures { T.RunsIn (D.endpoint 0 true) limit (Stores·bus (shown dynamic.entry sram.entry page.entry) flag) (Stores·bus (shown dynamic.exit sram.exit page.exit) result.ran.line) out.old out.new at result }
+    ensures { T.RunsIn (D.endpoint 0 true) limit (Stores·bus (shown dynamic.old sram.old page.old) flag) (Stores·bus (shown dynamic.new sram.new page.new) result.ran.line) out.old out.new at result }
 {
     if bits::any(word_at(&*page, EPSR), 0x1_0000) {
         let qh = dtd::qh(&*page, 0, true);
@@ -207,10 +209,10 @@ fn give_out(
     bit: u32,
     t: Turn,
 ) -> Turn
-    requires sized { Sized (shown dynamic sram page) }
+    requires sized { Sized (shown dynamic.old sram.old page.old) }
     requires at_in_bounds { t.at ≤ length bytes.now }
     requires small { T.Small t }
-    ensures { T.GivesOut qh tok bit bytes.now (shown dynamic.entry sram.entry page.entry) (shown dynamic.exit sram.exit page.exit) t result }
+    ensures { T.GivesOut qh tok bit bytes.now (shown dynamic.old sram.old page.old) (shown dynamic.new sram.new page.new) t result }
 {
     let at = t.at;
     let next = t.next;
@@ -241,11 +243,11 @@ fn turn_out(
     bit: u32,
     t: Turn,
 ) -> Turn
-    requires sized { Sized (shown dynamic sram page) }
+    requires sized { Sized (shown dynamic.old sram.old page.old) }
     requires at_in_bounds { t.at ≤ length bytes.now }
     requires small { T.Small t }
     requires bit_value { bit ≡ D.bit_of (D.endpoint ep false) }
-    ensures { T.TurnsOut (D.endpoint ep false) qh bytes.now (shown dynamic.entry sram.entry page.entry) (shown dynamic.exit sram.exit page.exit) t result }
+    ensures { T.TurnsOut (D.endpoint ep false) qh bytes.now (shown dynamic.old sram.old page.old) (shown dynamic.new sram.new page.new) t result }
 {
     let next = t.next;
     if bits::any(next, 1) {
@@ -269,9 +271,9 @@ fn loop_out(
     bit: u32,
     first: u32,
 ) -> Turn
-    requires sized { Sized (shown dynamic sram page) }
+    requires sized { Sized (shown dynamic.old sram.old page.old) }
     requires bit_value { bit ≡ D.bit_of (D.endpoint ep false) }
-    ensures { T.Looped (D.endpoint ep false) qh first bytes.now (shown dynamic.entry sram.entry page.entry) (shown dynamic.exit sram.exit page.exit) 0 result }
+    ensures { T.Looped (D.endpoint ep false) qh first bytes.now (shown dynamic.old sram.old page.old) (shown dynamic.new sram.new page.new) 0 result }
 {
     let mut t = first_turn(first, 0);
     let mut left: u32 = 64;
@@ -293,8 +295,8 @@ pub fn run0_out(
     bytes: &[u8],
     flag: bool,
 ) -> Ran
-    requires { Sized (shown dynamic sram page) }
-    ensures { P.Runs (D.endpoint 0 false) bytes.now (Stores·bus (shown dynamic.entry sram.entry page.entry) flag) (Stores·bus (shown dynamic.exit sram.exit page.exit) result.line) result }
+    requires { Sized (shown dynamic.old sram.old page.old) }
+    ensures { P.Runs (D.endpoint 0 false) bytes.now (Stores·bus (shown dynamic.old sram.old page.old) flag) (Stores·bus (shown dynamic.new sram.new page.new) result.line) result }
 {
     if bits::any(word_at(&*page, EPSR), 1) {
         let qh = dtd::qh(&*page, 0, false);
@@ -320,9 +322,9 @@ fn fill_one(
     limit: usize,
     flag: bool,
 ) -> Filled
-    requires sized { Sized (shown dynamic sram page) }
+    requires sized { Sized (shown dynamic.old sram.old page.old) }
     requires limit_in_bounds { (limit ≤ length out.old) × (at ≤ limit) }
-    ensures { T.FillsOne qh n tok bit limit (shown dynamic.entry sram.entry page.entry) (Stores·bus (shown dynamic.entry sram.entry page.entry) flag) (Stores·bus (shown dynamic.exit sram.exit page.exit) result.ran.line) out.old out.new at result }
+    ensures { T.FillsOne qh n tok bit limit (shown dynamic.old sram.old page.old) (Stores·bus (shown dynamic.old sram.old page.old) flag) (Stores·bus (shown dynamic.new sram.new page.new) result.ran.line) out.old out.new at result }
 {
     let keep = bits::least(usbdev::total(tok) as usize, limit - at);
     let ps = transfer::pointers_for(&*dynamic, &*sram, &*page, bits::clear(n, 0x1F), keep);
@@ -343,10 +345,10 @@ pub fn run_in(
     limit: usize,
     flag: bool,
 ) -> Filled
-    requires sized { Sized (shown dynamic sram page) }
+    requires sized { Sized (shown dynamic.old sram.old page.old) }
     requires limit_in_bounds { (limit ≤ length out.old) × (at ≤ limit) }
     requires ep_nonzero { (0 < ep) × ((ep < 16) × (bit ≡ D.bit_of (D.endpoint ep true))) }
-    ensures { T.RunsIn (D.endpoint ep true) limit (Stores·bus (shown dynamic.entry sram.entry page.entry) flag) (Stores·bus (shown dynamic.exit sram.exit page.exit) result.ran.line) out.old out.new at result }
+    ensures { T.RunsIn (D.endpoint ep true) limit (Stores·bus (shown dynamic.old sram.old page.old) flag) (Stores·bus (shown dynamic.new sram.new page.new) result.ran.line) out.old out.new at result }
 {
     match dtd::find(&*dynamic, &*sram, &*page, ep, true, bit) {
         Found::Unprimed => Filled {
