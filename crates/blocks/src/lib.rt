@@ -1,4 +1,6 @@
 // Audio blocks that the device sends: the blocks of a run go, frame by frame, into the ring of received frames.
+#![tactic(auto)]
+
 ghost use Rattle.std.specs.Prelude.{◌≡◌, ◌+◌, ◌*◌, ◌%◌, ◌<◌, ◌≤◌, length, take, drop};
 ghost use Rattle.std.proofs.lemmas.List.Edits.{sets};
 ghost use Rattle.bus.specs.Memory.{shown};
@@ -114,10 +116,10 @@ fn decode_block(
     received: &mut [u32],
     d: Decoded,
 ) -> Decoded
-    requires sized { Sized (shown dynamic sram page) }
+    requires sized { Sized (shown dynamic.now sram.now page.now) }
     requires from_bound { from + 368 ≤ 32767 }
     requires in_ring { InRing d.ring × (length received.old ≡ Sizes.RING) }
-    ensures { Keeps (keeps_block (bytes_from (shown dynamic.entry sram.entry page.entry) pointers.now from 368)) d received.old result received.new }
+    ensures { Keeps (keeps_block (bytes_from (shown dynamic.now sram.now page.now) pointers.now from 368)) d received.old result received.new }
 {
     let mut block = [0u8; Audio::BLOCK];
     transfer::copy_part(dynamic, sram, page, pointers, from, &mut block);
@@ -139,10 +141,10 @@ pub fn decode_run(
     received: &mut [u32],
     before: Decoded,
 ) -> Decoded
-    requires sized { Sized (shown dynamic sram page) }
+    requires sized { Sized (shown dynamic.now sram.now page.now) }
     requires total_bound { total ≤ 32767 }
     requires in_ring { InRing before.ring × (length received.old ≡ Sizes.RING) }
-    ensures { Keeps (keeps_blocks (blocks_of (bytes_in (shown dynamic.entry sram.entry page.entry) pointers.now total))) before received.old result received.new }
+    ensures { Keeps (keeps_blocks (blocks_of (bytes_in (shown dynamic.now sram.now page.now) pointers.now total))) before received.old result received.new }
 {
     let mut d = before;
     let blocks = total / Audio::BLOCK;
