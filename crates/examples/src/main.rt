@@ -1,4 +1,6 @@
 // Runs the worked examples of document 01 that are not marked, by the crates' own calls.
+#![tactic(auto)]
+
 ghost use Rattle.std.specs.Prelude.{◌+◌, ◌≤◌};
 
 use midi::Packer;
@@ -56,12 +58,13 @@ fn queue_space(out: &mut [u8; 65536], at: usize, held: usize) -> usize
     show_line(out, end, bits::widest(queue[4092]))
 }
 
-fn main() {
+fn main(rt: HostRuntime) {
     let mut out = [0u8; 65536];
     let mut end = two_pages(&mut out, 0);
     end = queue_space(&mut out, end, 4092);
     end = queue_space(&mut out, end, 4096);
     stdio::finish(
+        rt,
         false,
         false,
         &out,
