@@ -1,4 +1,6 @@
 // Entries for C, for measuring: the data of one transfer descriptor (dTD) moved in or out, in windows and areas of any lengths.
+#![tactic(auto)]
+
 ghost use Rattle.std.specs.Prelude.{Bool, ◌≡◌, ℕ, length};
 ghost use Rattle.bus.specs.Memory.{shown};
 ghost use Rattle.bus.specs.Steps.{exec};
@@ -18,7 +20,7 @@ pub extern "C" fn meter_in(
     total: usize,
     out: &mut [u8],
 ) -> u8
-    ensures { (result ≡ C.refusal (shown dynamic.entry sram.entry page.entry) 0 total (length out.old)) × (out.new ≡ metered (shown dynamic.entry sram.entry page.entry) td total out.old) }
+    ensures { (result ≡ C.refusal (shown dynamic.now sram.now page.now) 0 total (length out.old)) × (out.new ≡ metered (shown dynamic.now sram.now page.now) td total out.old) }
 {
     let number = refusal(dynamic, sram, page, 0, total, out.len());
     if number != 0 {
@@ -39,7 +41,7 @@ pub extern "C" fn meter_out(
     source: &[u8],
     total: usize,
 ) -> u32
-    ensures { (result ≡ answered (shown dynamic.entry sram.entry page.entry) td source.now total) × ((l : Bool) → bus (shown dynamic.exit sram.exit page.exit) l ≡ exec store (metering td source.now total) (bus (shown dynamic.entry sram.entry page.entry) l)) }
+    ensures { (result ≡ answered (shown dynamic.old sram.old page.old) td source.now total) × ((l : Bool) → bus (shown dynamic.new sram.new page.new) l ≡ exec store (metering td source.now total) (bus (shown dynamic.old sram.old page.old) l)) }
 {
     let number = refusal(&*dynamic, &*sram, &*page, 0, total, source.len());
     if number != 0 {
