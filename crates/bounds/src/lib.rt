@@ -1,4 +1,6 @@
 // The bounds of a host record (number 5), decided: a test for each clause, and all of them.
+#![tactic(auto)]
+
 ghost use Rattle.std.specs.Prelude.{◌≡◌, Bool, ◌+◌, ◌-◌, ◌≤◌, ◌<◌, min};
 ghost use Rattle.model.specs.Control.{enumerating as Control·enumerating};
 ghost use Rattle.midi.specs.Packer.{CABLES as Packer-as-CABLES};

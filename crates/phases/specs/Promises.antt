@@ -1,6 +1,5 @@
 -- What the steps of a phase are made of, and what a step on state, register page and setups promises.
 use Rattle.std.specs.Prelude.{ℕ, List}
-use Rattle.usbdev.specs.Registers as R
 use Rattle.record.specs.declared.State.{State}
 use Rattle.record.specs.World.{World, with_setup_queue, at_page}
 use Rattle.record.specs.Change.{Step}

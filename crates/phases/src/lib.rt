@@ -1,4 +1,6 @@
 // The steps of a microframe that touch only the record and the register page: counts, timers, spans, and the phases before enumeration.
+#![tactic(auto)]
+
 ghost use Rattle.std.specs.Prelude.{◌≡◌, ◌+◌, ◌*◌, ◌≤◌, true, length};
 ghost use Rattle.std.proofs.lemmas.List.Edits.{sets};
 ghost use Rattle.bits.specs.Word as B;

@@ -1,0 +1,9 @@
+-- `bounds::queues_ok` meets its contract.
+use mathlib.Core.Path.{refl}
+use Rattle.bounds.specs.Bounds.{queues_ok}
+use Rattle.bounds.proofs.queues_ok.Goals as goal
+
+-- `bounds::queues_ok` meets its contract.
+pub returns : goal.returns
+unfolding queues_ok
+returns c = refl
