@@ -1,4 +1,6 @@
 // What a finished request brings: descriptors are kept, and a configuration says which setups follow.
+#![tactic(auto)]
+
 ghost use Rattle.std.specs.Prelude.{◌≡◌, false, List, ℕ, ◌+◌, ◌*◌, ◌<◌, ◌≤◌, length, take};
 ghost use Rattle.std.proofs.lemmas.List.Edits.{sets};
 ghost use Rattle.config.specs.Config.{out_block};
@@ -16,6 +18,9 @@ const GET_CONFIGURATION: u32 = 0x0200_0680;
 const SET_CONFIGURATION: u32 = 0x0001_0900;
 
 const SET_INTERFACE: u32 = 0x0B01;
+
+// A configuration reply of this length is a header.
+const HEADER: usize = 9;
 
 // Whether a request asks for the descriptor of a type.
 fn asks_for(c: Control, kind: u32) -> bool
@@ -150,7 +155,7 @@ fn configuration(
     requires in_bounds { (Sizes.REPLY ≤ length reply.now) × (Sizes.REPLY ≤ length config.old) }
     ensures { (d : List ℕ) → P.Brings (C.takes_configuration device_stack) s setups.old d reply.now config.old result setups.new d config.new }
 {
-    if s.control.got == 9 {
+    if s.control.got == HEADER {
         return ask_whole(s, setups, reply);
     }
     let next = keep_config(s, reply, config);
