@@ -1,4 +1,6 @@
 // The audio block that the host sends: a header, and the oldest frames of the sending ring.
+#![tactic(auto)]
+
 ghost use Rattle.std.specs.Prelude.{◌≡◌, List, ◌++◌, ℕ, ◌+◌, ◌*◌, ◌<◌, ◌≤◌, length, take, drop, replicate};
 ghost use Rattle.record.specs.World.{World};
 ghost use Rattle.model.specs.Audio.{channel_bytes, frame_bytes};
