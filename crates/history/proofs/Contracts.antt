@@ -7,6 +7,7 @@ use base.Logic.{SProp}
 use prog.Memory.{Memory}
 use prog.Model.{Model}
 use prog.Routine.{Routine}
+use prog.Wired.{Wired}
 use types.Logic.{Logic}
 use contract.Lifetimes.{Lfts, Shares}
 use contract.Monad.{Fun, fact}
@@ -113,11 +114,11 @@ module _ {M : Type 1} {𝓤 : Ura M} (𝓛 : Logic 𝓤) where
       later_tells 𝓛 9 κs qs 2 Ts a _
       (lent_bytes 𝓛 9 κs qs 0 1 2 3 tt tt tt tt (types_from 6 Ts) (denots_from 2 Ts a) a.1.1.1.1.1.1.0.now a.1.1.1.1.1.1.1.0.now a.1.1.1.1.1.1.1.1.0.now a.1.1.1.1.1.1.1.1.1.0.now a.1.1.1.1.1.1.1.1.1.1.0.now)
 
-  pub microframe_met_bytes : (𝓜 : Model 𝓤 H) (𝓡 : Running 𝓤 H 𝓜)
-      → Meets 𝓛 Microframe·spec.signature (𝓡.run Microframe·symbol.routine) (also Microframe·spec.signature (Microframe·spec.spec 𝓛 𝓜.mem 𝓡.run) (λ κs a. BytesLent (microframe_lent κs a)))
-  microframe_met_bytes 𝓜 𝓡 =
-      meets_also 𝓛 𝓜 𝓡 Microframe·spec.signature (Microframe·spec.spec 𝓛 𝓜.mem 𝓡.run) (λ κs a. BytesLent (microframe_lent κs a)) microframe_bytes
-      Microframe·symbol.routine (Microframe·proof.met 𝓤 𝓛 𝓜 𝓡)
+  pub microframe_met_bytes : (𝓜 : Model 𝓤 H) (𝓡 : Running 𝓤 H 𝓜) → Wired 𝓡.env Microframe·symbol.code
+      → Meets 𝓛 Microframe·spec.signature (𝓡.run (𝓡.env Microframe·symbol.name)) (also Microframe·spec.signature (Microframe·spec.spec 𝓛 𝓜.mem 𝓡.returns) (λ κs a. BytesLent (microframe_lent κs a)))
+  microframe_met_bytes 𝓜 𝓡 w =
+      meets_also 𝓛 𝓜 𝓡 Microframe·spec.signature (Microframe·spec.spec 𝓛 𝓜.mem 𝓡.returns) (λ κs a. BytesLent (microframe_lent κs a)) microframe_bytes
+      (𝓡.env Microframe·symbol.name) (Microframe·proof.met 𝓤 𝓛 𝓜 𝓡 w)
 
 -- ---- `thin::microframe`, on the record behind a reference
 
@@ -156,11 +157,11 @@ module _ {M : Type 1} {𝓤 : Ura M} (𝓛 : Logic 𝓤) where
       later_tells 𝓛 10 κs qs 2 Ts a _
       (lent_bytes 𝓛 10 κs qs 1 2 3 4 tt tt tt tt (types_from 6 Ts) (denots_from 2 Ts a) a.1.1.1.1.1.1.0.now a.1.1.1.1.1.1.1.0.now a.1.1.1.1.1.1.1.1.0.now a.1.1.1.1.1.1.1.1.1.0.now a.1.1.1.1.1.1.1.1.1.1.0.now)
 
-  pub thin_met_bytes : (𝓜 : Model 𝓤 H) (𝓡 : Running 𝓤 H 𝓜)
-      → Meets 𝓛 Thin·spec.signature (𝓡.run Thin·symbol.routine) (also Thin·spec.signature (Thin·spec.spec 𝓛 𝓜.mem 𝓡.run) (λ κs a. BytesLent (thin_lent κs a)))
-  thin_met_bytes 𝓜 𝓡 =
-      meets_also 𝓛 𝓜 𝓡 Thin·spec.signature (Thin·spec.spec 𝓛 𝓜.mem 𝓡.run) (λ κs a. BytesLent (thin_lent κs a)) thin_bytes
-      Thin·symbol.routine (Thin·proof.met 𝓤 𝓛 𝓜 𝓡)
+  pub thin_met_bytes : (𝓜 : Model 𝓤 H) (𝓡 : Running 𝓤 H 𝓜) → Wired 𝓡.env Thin·symbol.code
+      → Meets 𝓛 Thin·spec.signature (𝓡.run (𝓡.env Thin·symbol.name)) (also Thin·spec.signature (Thin·spec.spec 𝓛 𝓜.mem 𝓡.returns) (λ κs a. BytesLent (thin_lent κs a)))
+  thin_met_bytes 𝓜 𝓡 w =
+      meets_also 𝓛 𝓜 𝓡 Thin·spec.signature (Thin·spec.spec 𝓛 𝓜.mem 𝓡.returns) (λ κs a. BytesLent (thin_lent κs a)) thin_bytes
+      (𝓡.env Thin·symbol.name) (Thin·proof.met 𝓤 𝓛 𝓜 𝓡 w)
 
 -- ---- `midi_send`
 

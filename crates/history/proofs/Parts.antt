@@ -6,6 +6,7 @@ use mathlib.Core.Path.{◌≡◌, refl, ap, ◌∙◌}
 use Prim.Native.Nat.{ℕ}
 use seplogic.Ra.Ura.{Ura}
 use prog.Model.{Model}
+use prog.Wired.{Wired}
 use types.Logic.{Logic}
 use contract.Lifetimes.{Lfts, Shares}
 use contract.Running.{Running}
@@ -89,11 +90,11 @@ module _ {M : Type 1} {𝓤 : Ura M} (𝓛 : Logic 𝓤) where
       later_tells 𝓛 13 κs qs 7 Ts a _
       (lent_bytes 𝓛 13 κs qs 4 5 6 7 tt tt tt tt (types_from 11 Ts) (denots_from 7 Ts a) a.1.1.1.1.1.1.1.1.1.1.1.0.now a.1.1.1.1.1.1.1.1.1.1.1.1.0.now a.1.1.1.1.1.1.1.1.1.1.1.1.1.0.now a.1.1.1.1.1.1.1.1.1.1.1.1.1.1.0.now a.1.1.1.1.1.1.1.1.1.1.1.1.1.1.1.0.now)
 
-  pub run_microframe_met_bytes : (𝓜 : Model 𝓤 H) (𝓡 : Running 𝓤 H 𝓜)
-      → Meets 𝓛 RunMicroframe·spec.signature (𝓡.run RunMicroframe·symbol.routine) (also RunMicroframe·spec.signature (RunMicroframe·spec.spec 𝓛 𝓜.mem 𝓡.run) (λ κs a. BytesLent (parts_lent κs a)))
-  run_microframe_met_bytes 𝓜 𝓡 =
-      meets_also 𝓛 𝓜 𝓡 RunMicroframe·spec.signature (RunMicroframe·spec.spec 𝓛 𝓜.mem 𝓡.run) (λ κs a. BytesLent (parts_lent κs a)) run_microframe_bytes
-      RunMicroframe·symbol.routine (RunMicroframe·proof.met 𝓤 𝓛 𝓜 𝓡)
+  pub run_microframe_met_bytes : (𝓜 : Model 𝓤 H) (𝓡 : Running 𝓤 H 𝓜) → Wired 𝓡.env RunMicroframe·symbol.code
+      → Meets 𝓛 RunMicroframe·spec.signature (𝓡.run (𝓡.env RunMicroframe·symbol.name)) (also RunMicroframe·spec.signature (RunMicroframe·spec.spec 𝓛 𝓜.mem 𝓡.returns) (λ κs a. BytesLent (parts_lent κs a)))
+  run_microframe_met_bytes 𝓜 𝓡 w =
+      meets_also 𝓛 𝓜 𝓡 RunMicroframe·spec.signature (RunMicroframe·spec.spec 𝓛 𝓜.mem 𝓡.returns) (λ κs a. BytesLent (parts_lent κs a)) run_microframe_bytes
+      (𝓡.env RunMicroframe·symbol.name) (RunMicroframe·proof.met 𝓤 𝓛 𝓜 𝓡 w)
 
 -- ---- the record by its parts, whatever its settings but their count of spans
 
