@@ -10,7 +10,7 @@ use borrow.Author.Tests.{eq-eqb, ne_eqb}
 use lib.ListN.{length, get_or, take, drop, set, length-drop}
 use lib.Seq.{sets, take_all, length-take-le, get_or-append-add, get_or-drop, paste, paste-suc}
 use Rattle.bits.proofs.Tests.{and_false}
-use Rattle.bus.specs.Memory.{Memory, memory}
+use Rattle.bus.specs.Memory.{Memory}
 use Rattle.bus.specs.Stores as S
 use Rattle.usbdev.specs.Transfer.{total_of}
 use Rattle.dtd.specs.declared.Ran.{Ran}
@@ -23,7 +23,7 @@ use Rattle.record.specs.declared.Lengths.{Lengths}
 use Rattle.record.specs.declared.State.{State}
 use Rattle.record.specs.Record.{with_stats, with_answer, with_count, with_lengths, with_serial, with_midi, counted, midi_packets_out, vendor_in_bytes}
 use Rattle.record.specs.World.{World, at_bus, with_serial_queue, with_midi_queue, with_receive_area}
-use Rattle.record.specs.Change.{count, received, serial, midi, drained, apply, Step, nothing, when, one, here, runs}
+use Rattle.record.specs.Change.{count, received, serial, midi, drained, apply, Step, nothing, when, one, here}
 use Rattle.record.specs.Did.{Leads, Did, after_run}
 use Rattle.record.proofs.Laws.{in_turn, by_true, by_false, unchanged, once, from_here, leads_as, leads_by, run_then}
 use Rattle.model.specs.Streams.{ready, fitting, drains_serial, serial_step, drains_midi, reads_vendor}

@@ -1,4 +1,6 @@
 // Streams of bytes of a configured host: serial, MIDI to the device, and the vendor interface's.
+#![tactic(auto)]
+
 ghost use Rattle.std.specs.Prelude.{◌≡◌, false, ◌+◌, ◌<◌, ◌≤◌, length};
 ghost use Rattle.bus.specs.Memory.{shown};
 ghost use Rattle.bus.specs.Sized.{Sized};
@@ -56,9 +58,9 @@ fn serial_in(
     page: &mut [u8],
     receive: &mut [u8],
 ) -> State
-    requires sized { Sized (shown dynamic sram page) }
+    requires sized { Sized (shown dynamic.old sram.old page.old) }
     requires received_in_bounds { s.answer.received + 32767 ≤ length receive.old }
-    ensures { P.Receives M.takes_serial s (shown dynamic.entry sram.entry page.entry) receive.old result (shown dynamic.exit sram.exit page.exit) receive.new }
+    ensures { P.Receives M.takes_serial s (shown dynamic.old sram.old page.old) receive.old result (shown dynamic.new sram.new page.new) receive.new }
 {
     let at = s.answer.received;
     let limit = receive.len();
@@ -91,10 +93,10 @@ fn give(
     bit: u32,
     line: bool,
 ) -> Took
-    requires sized { Sized (shown dynamic sram page) }
+    requires sized { Sized (shown dynamic.old sram.old page.old) }
     requires held_in_bounds { (held ≤ length queue.old) × (1 ≤ unit) }
     requires le_ep { (1 ≤ ep) × ((ep < 16) × (bit ≡ D.bit_of (D.endpoint ep false))) }
-    ensures { P.Gives (D.endpoint ep false) unit line (shown dynamic.entry sram.entry page.entry) queue.old held result (shown dynamic.exit sram.exit page.exit) queue.new }
+    ensures { P.Gives (D.endpoint ep false) unit line (shown dynamic.old sram.old page.old) queue.old held result (shown dynamic.new sram.new page.new) queue.new }
 {
     if held == 0 {
         return Took::Nothing;
@@ -119,9 +121,9 @@ fn serial_out(
     page: &mut [u8],
     serial: &mut [u8],
 ) -> State
-    requires sized { Sized (shown dynamic sram page) }
+    requires sized { Sized (shown dynamic.old sram.old page.old) }
     requires serial_in_bounds { s.lengths.serial ≤ length serial.old }
-    ensures { P.Serves with_serial_queue M.gives_serial s (shown dynamic.entry sram.entry page.entry) serial.old result (shown dynamic.exit sram.exit page.exit) serial.new }
+    ensures { P.Serves with_serial_queue M.gives_serial s (shown dynamic.old sram.old page.old) serial.old result (shown dynamic.new sram.new page.new) serial.new }
 {
     let queued = s.lengths.serial;
     match give(
@@ -154,9 +156,9 @@ pub fn serial_step(
     serial: &mut [u8],
     receive: &mut [u8],
 ) -> State
-    requires sized { Sized (shown dynamic sram page) }
+    requires sized { Sized (shown dynamic.old sram.old page.old) }
     requires serial_in_bounds { (s.lengths.serial ≤ length serial.old) × (s.answer.received + 32767 ≤ length receive.old) }
-    ensures { P.ServesBoth M.serial_step s (shown dynamic.entry sram.entry page.entry) serial.old receive.old result (shown dynamic.exit sram.exit page.exit) serial.new receive.new }
+    ensures { P.ServesBoth M.serial_step s (shown dynamic.old sram.old page.old) serial.old receive.old result (shown dynamic.new sram.new page.new) serial.new receive.new }
 {
     let next = serial_in(s, dynamic, sram, page, receive);
     serial_out(next, dynamic, sram, page, serial)
@@ -170,9 +172,9 @@ pub fn midi_out(
     page: &mut [u8],
     midi: &mut [u8],
 ) -> State
-    requires sized { Sized (shown dynamic sram page) }
+    requires sized { Sized (shown dynamic.old sram.old page.old) }
     requires midi_in_bounds { s.lengths.midi ≤ length midi.old }
-    ensures { P.Serves with_midi_queue M.midi_out s (shown dynamic.entry sram.entry page.entry) midi.old result (shown dynamic.exit sram.exit page.exit) midi.new }
+    ensures { P.Serves with_midi_queue M.midi_out s (shown dynamic.old sram.old page.old) midi.old result (shown dynamic.new sram.new page.new) midi.new }
 {
     let queued = s.lengths.midi;
     match give(
@@ -203,8 +205,8 @@ pub fn midi_out(
 
 // The vendor interface's input, whose bytes are only counted.
 pub fn vendor(s: State, dynamic: &mut [u8], sram: &mut [u8], page: &mut [u8]) -> State
-    requires { Sized (shown dynamic sram page) }
-    ensures did { R.Did M.reads_vendor s (shown dynamic.entry sram.entry page.entry) result (shown dynamic.exit sram.exit page.exit) }
+    requires { Sized (shown dynamic.old sram.old page.old) }
+    ensures did { R.Did M.reads_vendor s (shown dynamic.old sram.old page.old) result (shown dynamic.new sram.new page.new) }
     ensures fewer { P.Fewer s.lengths result.lengths }
 {
     let ran = dtd::run_count(dynamic, sram, page, 2, SECOND_IN, s.port.line);
