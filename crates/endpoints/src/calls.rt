@@ -334,7 +334,7 @@ fn serve_control(
     out: &mut [u8; 65536],
     at: usize,
 ) -> Next
-    requires sized { Sized (shown dynamic sram page) }
+    requires sized { Sized (shown dynamic.old sram.old page.old) }
     requires at_bound { (at ≤ 40000) × ((state.queued ≤ 4096) × (state.length ≤ 65536)) }
     ensures { ((result.state.queued ≤ 4096) × (result.state.length ≤ 65536)) × (result.at ≤ 65536) }
 {
@@ -353,7 +353,7 @@ fn serve_serial(
     out: &mut [u8; 65536],
     at: usize,
 ) -> Next
-    requires sized { Sized (shown dynamic sram page) }
+    requires sized { Sized (shown dynamic.old sram.old page.old) }
     requires at_bound { (at ≤ 40000) × ((state.queued ≤ 4096) × (state.length ≤ 65536)) }
     ensures { ((result.state.queued ≤ 4096) × (result.state.length ≤ 65536)) × (result.at ≤ 65536) }
 {

@@ -40,17 +40,17 @@ fn fill(
     at: usize,
     flag: bool,
 ) -> Filled
-    requires sized { Sized (shown dynamic sram page) }
+    requires sized { Sized (shown dynamic.old sram.old page.old) }
     requires at_bound { at ≤ 64 }
-    ensures { Sized (shown dynamic.exit sram.exit page.exit) }
+    ensures { Sized (shown dynamic.new sram.new page.new) }
 {
     runs::run0_in(dynamic, sram, page, reply, at, 64, flag)
 }
 
 // The data stage: input on endpoint 0, of which the reply keeps 64 bytes.
 fn data(dynamic: &mut [u8], sram: &mut [u8], page: &mut [u8], request: Request, flag: bool) -> Step
-    requires { Sized (shown dynamic sram page) }
-    ensures { Sized (shown dynamic.exit sram.exit page.exit) }
+    requires { Sized (shown dynamic.old sram.old page.old) }
+    ensures { Sized (shown dynamic.new sram.new page.new) }
 {
     let mut reply = request.reply;
     let at = bits::least(request.filled, 64);
@@ -72,7 +72,7 @@ fn data(dynamic: &mut [u8], sram: &mut [u8], page: &mut [u8], request: Request, 
 
 // The status stage: output of nothing on endpoint 0, whose completion ends the request.
 fn status(dynamic: &mut [u8], sram: &mut [u8], page: &mut [u8], before: Step) -> Step
-    requires { Sized (shown dynamic sram page) }
+    requires { Sized (shown dynamic.old sram.old page.old) }
 {
     let request = before.request;
     let ran = runs::run0_out(dynamic, sram, page, b"", before.line);
@@ -92,8 +92,8 @@ fn staged(
     request: Request,
     flag: bool,
 ) -> Step
-    requires { Sized (shown dynamic sram page) }
-    ensures { Sized (shown dynamic.exit sram.exit page.exit) }
+    requires { Sized (shown dynamic.old sram.old page.old) }
+    ensures { Sized (shown dynamic.new sram.new page.new) }
 {
     if request.status {
         return Step {
@@ -114,7 +114,7 @@ pub fn microframe(
     request: Request,
     flag: bool,
 ) -> Step
-    requires { Sized (shown dynamic sram page) }
+    requires { Sized (shown dynamic.old sram.old page.old) }
 {
     let on = frames::begin(page, flag);
     let before = staged(dynamic, sram, page, request, on);

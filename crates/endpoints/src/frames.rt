@@ -27,7 +27,7 @@ pub fn begin(page: &mut [u8], flag: bool) -> bool
 
 // The bytes of endpoint 2's next input descriptor, and how many there are; a total has 15 bits.
 fn take_in(dynamic: &[u8], sram: &[u8], page: &[u8], input: &mut [u8; 32768]) -> usize
-    requires { Sized (shown dynamic sram page) }
+    requires { Sized (shown dynamic.now sram.now page.now) }
     ensures { result ≤ 32767 }
 {
     match dtd::find(dynamic, sram, page, 2, true, 0x4_0000) {
@@ -50,7 +50,7 @@ struct Asked {
 }
 
 fn wanted(dynamic: &[u8], sram: &[u8], page: &[u8], queued: usize) -> Asked
-    requires { Sized (shown dynamic sram page) }
+    requires { Sized (shown dynamic.now sram.now page.now) }
     ensures { result.count ≤ queued }
 {
     match dtd::find(dynamic, sram, page, 2, false, 4) {
@@ -77,9 +77,9 @@ fn receive(
     input: &mut [u8; 32768],
     flag: bool,
 ) -> Served
-    requires { Sized (shown dynamic sram page) }
+    requires { Sized (shown dynamic.old sram.old page.old) }
     ensures received_bound { result.received ≤ 32767 }
-    ensures sized { Sized (shown dynamic.exit sram.exit page.exit) }
+    ensures sized { Sized (shown dynamic.new sram.new page.new) }
 {
     let received = take_in(&*dynamic, &*sram, &*page, input);
     let ran = dtd::run_count(dynamic, sram, page, 2, 0x4_0000, flag);
@@ -100,7 +100,7 @@ fn send(
     queued: usize,
     before: Served,
 ) -> Served
-    requires sized { Sized (shown dynamic sram page) }
+    requires sized { Sized (shown dynamic.old sram.old page.old) }
     requires queued_in_bounds { (queued ≤ length queue.now) × (before.received ≤ 32767) }
     ensures { (result.received ≤ 32767) × (result.sent ≤ queued) }
 {
@@ -133,7 +133,7 @@ pub fn serial(
     input: &mut [u8; 32768],
     flag: bool,
 ) -> Served
-    requires sized { Sized (shown dynamic sram page) }
+    requires sized { Sized (shown dynamic.old sram.old page.old) }
     requires queued_in_bounds { queued ≤ length queue.now }
     ensures { (result.received ≤ 32767) × (result.sent ≤ queued) }
 {

@@ -1,4 +1,6 @@
 // Answers a script of lines from standard input by single runs over the transfer descriptors of endpoints 0 and 2.
+#![tactic(auto)]
+
 mod calls;
 mod control;
 mod frames;
@@ -35,6 +37,7 @@ fn take_line(
 
 // All lines, up to one that is too long, and to a read or a write that fails.
 fn run(
+    rt: HostRuntime,
     text: &mut [u8; 65536],
     dynamic: &mut [u8; 65536],
     sram: &mut [u8; 65536],
@@ -51,17 +54,18 @@ fn run(
     let mut more = true;
     let mut turns = u64::MAX;
     while turns > 0 && more {
-        place = stdio::next_line(text, place.next, place.held);
+        place = stdio::next_line(rt, text, place.next, place.held);
         next = take_line(
             next, &*text, place.from, place.end, dynamic, sram, page, queue, out,
         );
-        let answers = stdio::room(&*out, next.at);
+        let answers = stdio::room(rt, &*out, next.at);
         next.at = answers.at;
         failed = answers.failed;
         more = place.more & !(failed | (place.from + 65536 <= place.end));
         turns -= 1;
     }
     stdio::finish(
+        rt,
         place.failed,
         failed,
         out,
@@ -71,7 +75,7 @@ fn run(
     );
 }
 
-fn main() {
+fn main(rt: HostRuntime) {
     let mut text = [0u8; 65536];
     let mut dynamic = [0u8; 65536];
     let mut sram = [0u8; 65536];
@@ -79,6 +83,7 @@ fn main() {
     let mut queue = [0u8; 4096];
     let mut out = [0u8; 65536];
     run(
+        rt,
         &mut text,
         &mut dynamic,
         &mut sram,

@@ -1,0 +1,10 @@
+-- The loop keeps the state, the answers' end and the text inside their bounds; the turns left are the measure.
+use Rattle.std.proofs.Common.{◌≤◌}
+use Rattle.endpoints.proofs.run.Given as goal
+
+abbrev pub invariant-loop-turns : goal.invariant-loop-turns
+invariant-loop-turns l =
+    ((l.next.at ≤ 40000) × ((l.next.state.queued ≤ 4096) × (l.next.state.length ≤ 65536))) × ((l.place.next ≤ l.place.held) × (l.place.held ≤ 65536))
+
+abbrev pub decreases-loop-turns : goal.decreases-loop-turns
+decreases-loop-turns l = l.turns
