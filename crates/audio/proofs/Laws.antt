@@ -400,19 +400,19 @@ module _ (s : State) (m m' : Memory) (line : Bool) (d : S.Does (settling (bit_of
 
 -- ---- both
 
-pub stream_steps : (s s₁ s₂ : State) (m m₁ m₂ : Memory) (l l₁ k : List ℕ) → Hears stream_in s m l s₁ m₁ l₁ → Outputs stream_out s₁ m₁ k s₂ m₂ → Streams streams s m l k s₂ m₂ l₁
+pub stream_steps : (s a₁ a₂ : State) (m m₁ m₂ : Memory) (l l₁ k : List ℕ) → Hears stream_in s m l a₁ m₁ l₁ → Outputs stream_out a₁ m₁ k a₂ m₂ → Streams streams s m l k a₂ m₂ l₁
 unfolding streams
-stream_steps s s₁ s₂ m m₁ m₂ l l₁ k h o =
+stream_steps s a₁ a₂ m m₁ m₂ l l₁ k h o =
     record {
-      leads = λ w. in_turn (h.leads (at_stream w s m l k)) (o.leads (at_stream w s₁ m₁ l₁ k));
+      leads = λ w. in_turn (h.leads (at_stream w s m l k)) (o.leads (at_stream w a₁ m₁ l₁ k));
       sized = o.sized;
       inside = subst InRing (sym o.received) h.inside;
       can = o.can;
     }
 
 -- output can go on from what input left
-pub can_still : (s s₁ : State) (l : List ℕ) → SameOut s s₁ → CanSend s l → CanSend s₁ l
-can_still s s₁ l e can =
+pub can_still : (s a₁ : State) (l : List ℕ) → SameOut s a₁ → CanSend s l → CanSend a₁ l
+can_still s a₁ l e can =
     record {
       ring = subst (λ (x : Ring). InSending x (length l / 12)) (sym e.sending) can.ring;
       block = subst (λ (x : ℕ). x ≤ 2048) (sym e.block) can.block;

@@ -1,4 +1,6 @@
 // The audio stream of a host: one descriptor of input a microframe, paced by a budget, and one block of output, where credit is left.
+#![tactic(auto)]
+
 ghost use Rattle.std.specs.Prelude.{◌≡◌, ◌≤◌, length};
 ghost use Rattle.bus.specs.Memory.{shown};
 ghost use Rattle.bus.specs.Sized.{Sized};
@@ -30,8 +32,8 @@ pub struct Paced {
 
 // One packet a microframe: a descriptor of n packets completes in its n-th.
 fn pace(dynamic: &[u8], sram: &[u8], page: &[u8], budget: u64) -> Paced
-    requires { Sized (shown dynamic sram page) }
-    ensures { result ≡ P.paced_of (shown dynamic.entry sram.entry page.entry) budget }
+    requires { Sized (shown dynamic.now sram.now page.now) }
+    ensures { result ≡ P.paced_of (shown dynamic.now sram.now page.now) budget }
 {
     if !bits::any(bus::word_at(page, EPSR), AUDIO_IN) {
         return Paced {
@@ -109,10 +111,10 @@ fn take_blocks(
     td: u32,
     tok: u32,
 ) -> State
-    requires sized { Sized (shown dynamic sram page) }
+    requires sized { Sized (shown dynamic.old sram.old page.old) }
     requires in_ring { InRing s.audio.received × (length received.old ≡ Sizes.RING) }
-    requires page_value { D.found Steps.audio_in (shown dynamic sram page) ≡ Active qh td tok }
-    ensures { P.Hears Steps.inputs s (shown dynamic.entry sram.entry page.entry) received.old result (shown dynamic.exit sram.exit page.exit) received.new }
+    requires page_value { D.found Steps.audio_in (shown dynamic.old sram.old page.old) ≡ Active qh td tok }
+    ensures { P.Hears Steps.inputs s (shown dynamic.old sram.old page.old) received.old result (shown dynamic.new sram.new page.new) received.new }
 {
     let total = usbdev::total(tok) as usize;
     let ps = transfer::pointers_for(&*dynamic, &*sram, &*page, bits::clear(td, 0x1F), total);
@@ -131,9 +133,9 @@ fn take_input(
     page: &mut [u8],
     received: &mut [u32],
 ) -> State
-    requires sized { Sized (shown dynamic sram page) }
+    requires sized { Sized (shown dynamic.old sram.old page.old) }
     requires in_ring { InRing s.audio.received × (length received.old ≡ Sizes.RING) }
-    ensures { P.Hears Steps.inputs s (shown dynamic.entry sram.entry page.entry) received.old result (shown dynamic.exit sram.exit page.exit) received.new }
+    ensures { P.Hears Steps.inputs s (shown dynamic.old sram.old page.old) received.old result (shown dynamic.new sram.new page.new) received.new }
 {
     match dtd::find(&*dynamic, &*sram, &*page, 3, true, AUDIO_IN) {
         Found::Unprimed => record::after_run(s, dtd::none_ran(s.port.line)),
@@ -153,9 +155,9 @@ pub fn stream_in(
     page: &mut [u8],
     received: &mut [u32],
 ) -> State
-    requires sized { Sized (shown dynamic sram page) }
+    requires sized { Sized (shown dynamic.old sram.old page.old) }
     requires in_ring { InRing s.audio.received × (length received.old ≡ Sizes.RING) }
-    ensures { P.Hears Steps.stream_in s (shown dynamic.entry sram.entry page.entry) received.old result (shown dynamic.exit sram.exit page.exit) received.new }
+    ensures { P.Hears Steps.stream_in s (shown dynamic.old sram.old page.old) received.old result (shown dynamic.new sram.new page.new) received.new }
 {
     let paced = pace(&*dynamic, &*sram, &*page, s.audio.budget);
     let mut next = s;
@@ -200,10 +202,10 @@ fn send_block(
     td: u32,
     tok: u32,
 ) -> State
-    requires sized { Sized (shown dynamic sram page) }
+    requires sized { Sized (shown dynamic.old sram.old page.old) }
     requires can_send { P.CanSend s sending.now × (7 ≤ s.audio.credit) }
-    requires page_value { D.found Steps.audio_out (shown dynamic sram page) ≡ Active qh td tok }
-    ensures { P.Outputs Steps.stream_out s (shown dynamic.entry sram.entry page.entry) sending.now result (shown dynamic.exit sram.exit page.exit) }
+    requires page_value { D.found Steps.audio_out (shown dynamic.old sram.old page.old) ≡ Active qh td tok }
+    ensures { P.Outputs Steps.stream_out s (shown dynamic.old sram.old page.old) sending.now result (shown dynamic.new sram.new page.new) }
 {
     let mut block = [0u8; 2048];
     let channels = s.audio.channels as usize;
@@ -234,8 +236,8 @@ fn send_block(
 
 // A list that has ended is un-primed.
 fn unprime(s: State, dynamic: &[u8], sram: &[u8], page: &mut [u8]) -> State
-    requires { Sized (shown dynamic sram page) }
-    ensures { P.Unprimes s (shown dynamic.entry sram.entry page.entry) result (shown dynamic.entry sram.entry page.exit) }
+    requires { Sized (shown dynamic.now sram.now page.old) }
+    ensures { P.Unprimes s (shown dynamic.now sram.now page.old) result (shown dynamic.now sram.now page.new) }
 {
     let line = dtd::settle(dynamic, sram, page, AUDIO_OUT, 1, false, s.port.line);
     let mut next = s;
@@ -251,9 +253,9 @@ pub fn stream_out(
     page: &mut [u8],
     sending: &[u32],
 ) -> State
-    requires sized { Sized (shown dynamic sram page) }
+    requires sized { Sized (shown dynamic.old sram.old page.old) }
     requires can_send { P.CanSend s sending.now }
-    ensures { P.Outputs Steps.stream_out s (shown dynamic.entry sram.entry page.entry) sending.now result (shown dynamic.exit sram.exit page.exit) }
+    ensures { P.Outputs Steps.stream_out s (shown dynamic.old sram.old page.old) sending.now result (shown dynamic.new sram.new page.new) }
 {
     if s.audio.credit < Audio::FRAMES_PER_BLOCK as u64 {
         return s;
@@ -274,10 +276,10 @@ pub fn stream(
     received: &mut [u32],
     sending: &[u32],
 ) -> State
-    requires sized { Sized (shown dynamic sram page) }
+    requires sized { Sized (shown dynamic.old sram.old page.old) }
     requires in_ring { InRing s.audio.received × (length received.old ≡ Sizes.RING) }
     requires can_send { P.CanSend s sending.now }
-    ensures { P.Streams Steps.streams s (shown dynamic.entry sram.entry page.entry) received.old sending.now result (shown dynamic.exit sram.exit page.exit) received.new }
+    ensures { P.Streams Steps.streams s (shown dynamic.old sram.old page.old) received.old sending.now result (shown dynamic.new sram.new page.new) received.new }
 {
     let next = stream_in(s, dynamic, sram, page, received);
     stream_out(next, dynamic, sram, page, sending)

@@ -1,0 +1,6 @@
+-- `audio::stream` meets its contract.
+use Rattle.audio.proofs.Laws.{stream_steps}
+use Rattle.audio.proofs.stream.Goals as goal
+
+pub returns : goal.returns
+returns c = stream_steps _ _ _ _ _ _ _ _ _ c.stream_in-next.ensures c.stream_out.ensures
