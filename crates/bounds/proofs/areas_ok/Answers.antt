@@ -3,7 +3,6 @@ use mathlib.Core.Path.{refl}
 use Rattle.bounds.specs.Bounds.{areas_ok}
 use Rattle.bounds.proofs.areas_ok.Goals as goal
 
--- `bounds::areas_ok` meets its contract.
 pub returns : goal.returns
 unfolding areas_ok
 returns c = refl

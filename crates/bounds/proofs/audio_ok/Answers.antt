@@ -4,7 +4,6 @@ use borrow.Author.Tests.{lt-leb, le-leb}
 use Rattle.bounds.specs.Bounds.{audio_ok}
 use Rattle.bounds.proofs.audio_ok.Goals as goal
 
--- `bounds::audio_ok` meets its contract.
 pub returns-then-a-lt33 : goal.returns-then-a-lt33
 unfolding audio_ok
 returns-then-a-lt33 c = rw (lt-leb 33 _ c.if-a-lt33.true) refl

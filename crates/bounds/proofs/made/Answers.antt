@@ -4,7 +4,6 @@ use Rattle.bits.proofs.Tests.{or_false}
 use Rattle.bounds.specs.Bounds.{made}
 use Rattle.bounds.proofs.made.Goals as goal
 
--- `bounds::made` meets its contract: no shape stands behind the last.
 pub returns : goal.returns
 unfolding made
 returns c = rw or_false refl

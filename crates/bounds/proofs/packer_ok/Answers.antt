@@ -5,7 +5,6 @@ use Rattle.bounds.proofs.Laws.{or_true}
 use borrow.Author.Tests.{ne_eqb}
 use Rattle.bounds.proofs.packer_ok.Goals as goal
 
--- `bounds::packer_ok` meets its contract.
 pub returns-then-p-eq0 : goal.returns-then-p-eq0
 unfolding packer_ok
 returns-then-p-eq0 c = rw c.if-p-eq0.true (sym (or_true c.args.p.sysex))

@@ -3,7 +3,6 @@ use mathlib.Core.Path.{refl}
 use Rattle.bounds.specs.Bounds.{queues_ok}
 use Rattle.bounds.proofs.queues_ok.Goals as goal
 
--- `bounds::queues_ok` meets its contract.
 pub returns : goal.returns
 unfolding queues_ok
 returns c = refl

@@ -3,7 +3,6 @@ use mathlib.Core.Path.{refl}
 use Rattle.bounds.specs.Bounds.{request_ok}
 use Rattle.bounds.proofs.request_ok.Goals as goal
 
--- `bounds::request_ok` meets its contract.
 pub returns-then-not-c : goal.returns-then-not-c
 unfolding request_ok
 returns-then-not-c c = rw c.if-not-c.true refl

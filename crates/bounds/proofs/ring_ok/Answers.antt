@@ -3,7 +3,6 @@ use mathlib.Core.Path.{refl}
 use Rattle.bounds.specs.Bounds.{ring_ok}
 use Rattle.bounds.proofs.ring_ok.Goals as goal
 
--- `bounds::ring_ok` meets its contract.
 pub returns : goal.returns
 unfolding ring_ok
 returns c = refl

@@ -4,7 +4,6 @@ use borrow.Author.Tests.{lt-leb, le-leb}
 use Rattle.bounds.specs.Bounds.{setups_ok}
 use Rattle.bounds.proofs.setups_ok.Goals as goal
 
--- `bounds::setups_ok` meets its contract.
 pub returns-then-n-gt-SETUPS : goal.returns-then-n-gt-SETUPS
 unfolding setups_ok
 returns-then-n-gt-SETUPS c = rw (lt-leb _ 257 c.if-n-gt-SETUPS.true) refl

@@ -7,7 +7,6 @@ use Rattle.config.specs.Config.{counts, packet_size}
 use Rattle.config.proofs.Holding.{held_counts, step_short, step_idle, step_endpoint}
 use Rattle.config.proofs.endpoint.Goals as goal
 
--- An endpoint descriptor that is too short or does not count is passed over, and any other is chosen by `choose`.
 pub returns-then-x-lt7 : goal.returns-then-x-lt7
 returns-then-x-lt7 c h = rw (step_short c.args.x.now h.walk c.requires.x_value c.if-x-lt7.true) h.holds
 

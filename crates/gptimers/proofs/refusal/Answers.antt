@@ -3,7 +3,6 @@ use borrow.Author.Tests.{eq-eqb, ne_eqb}
 use Rattle.gptimers.specs.Checked.{refusal}
 use Rattle.gptimers.proofs.refusal.Goals as goal
 
--- `gptimers::refusal` meets its contract. Assumes nothing.
 pub returns-then-len-ne-PAGE : goal.returns-then-len-ne-PAGE
 unfolding refusal
 returns-then-len-ne-PAGE c = simp (ne_eqb _ 4096 c.if-len-ne-PAGE.true)

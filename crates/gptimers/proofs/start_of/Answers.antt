@@ -4,7 +4,6 @@ use Rattle.gptimers.specs.Timer.{start_of}
 use Rattle.gptimers.proofs.Laws.{range}
 use Rattle.gptimers.proofs.start_of.Goals as goal
 
--- `gptimers::start_of` meets its contract. Assumes nothing.
 pub returns-then-t : goal.returns-then-t
 unfolding start_of
 returns-then-t c =

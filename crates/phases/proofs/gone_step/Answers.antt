@@ -6,7 +6,6 @@ use Rattle.model.specs.Phases.{cable}
 use Rattle.record.proofs.Laws.{in_turn, once, by_true, by_false, unchanged}
 use Rattle.phases.proofs.gone_step.Goals as goal
 
--- `phases::gone_step` meets its contract.
 pub returns-then-s : goal.returns-then-s
 unfolding cable
 returns-then-s c = rw c.if-gone.true (record { leads = λ w. by_false _ _ _ (ap not c.if-s.true) (unchanged _) })

@@ -4,7 +4,6 @@ use Rattle.model.specs.Phases.{suspends}
 use Rattle.record.proofs.Laws.{by_true, by_false, unchanged}
 use Rattle.phases.proofs.suspend_step.Goals as goal
 
--- `phases::suspend_step` meets its contract.
 pub returns-then-s : goal.returns-then-s
 unfolding suspends
 returns-then-s c = rw c.if-asleep.true (record { leads = λ w. by_false _ _ _ (ap not c.if-s.true) (unchanged _) })

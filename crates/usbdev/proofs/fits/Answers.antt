@@ -4,7 +4,6 @@ use Rattle.usbdev.specs.Access.{fits}
 use Rattle.usbdev.proofs.Laws.{within}
 use Rattle.usbdev.proofs.fits.Goals as goal
 
--- `usbdev::fits` meets its contract. Assumes nothing.
 pub returns-in-1 : goal.returns-in-1
 unfolding fits
 returns-in-1 c =

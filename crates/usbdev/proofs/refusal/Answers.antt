@@ -3,7 +3,6 @@ use Rattle.std.proofs.Common.{sym, ◌∙◌, eq-eqb, ne_eqb}
 use Rattle.usbdev.specs.Access.{refusal}
 use Rattle.usbdev.proofs.refusal.Goals as goal
 
--- `usbdev::refusal` meets its contract. Assumes nothing.
 pub returns-then-len-ne-PAGE : goal.returns-then-len-ne-PAGE
 unfolding refusal
 returns-then-len-ne-PAGE c = simp (ne_eqb _ 4096 c.if-len-ne-PAGE.true)

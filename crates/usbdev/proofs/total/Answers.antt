@@ -3,7 +3,6 @@ use Rattle.std.proofs.Common.{refl}
 use Rattle.usbdev.specs.Transfer.{total_of}
 use Rattle.usbdev.proofs.total.Goals as goal
 
--- `usbdev::total` meets its contract. Assumes nothing.
 pub returns : goal.returns
 unfolding total_of
 returns c = refl
