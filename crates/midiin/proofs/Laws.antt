@@ -9,7 +9,7 @@ use Rattle.bus.specs.Stores as S
 use Rattle.bus.proofs.Places.{Kept, kept_refl, kept_trans}
 use Rattle.bus.specs.Words.{word_at, word_put}
 use Rattle.usbdev.specs.Offsets.{EPNAK}
-use Rattle.usbdev.specs.Registers.{registers, store, done}
+use Rattle.usbdev.specs.Registers.{registers, store}
 use Rattle.usbdev.specs.Transfer.{total_of}
 use Rattle.usbdev.proofs.Tokens.{total_lt}
 use Rattle.transfer.specs.Transfer.{pointers, pointers_for, bytes_in}

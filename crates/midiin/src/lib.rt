@@ -1,4 +1,6 @@
 // MIDI input of a configured host: the packets of its descriptors, decoded into the receive area and the area of their cables.
+#![tactic(auto)]
+
 ghost use Rattle.std.specs.Prelude.{◌≡◌, ℕ, ◌+◌, ◌*◌, ◌/◌, ◌<◌, ◌≤◌, true, false, [], ◌∷◌, length};
 ghost use Rattle.bus.specs.Memory.{shown};
 ghost use Rattle.bus.specs.Sized.{PAGE, Sized};
@@ -85,10 +87,10 @@ fn decode_some(
     cables: &mut [u8],
     at: usize,
 ) -> usize
-    requires sized { Sized (shown dynamic sram page) }
+    requires sized { Sized (shown dynamic.now sram.now page.now) }
     requires piece_bound { from + length piece.old ≤ 32767 }
     requires piece_in_bounds { (at + 3 * (length piece.old / 4) ≤ length receive.old) × (at + 3 * (length piece.old / 4) ≤ length cables.old) }
-    ensures { P.Decodes (length piece.old / 4) (T.bytes_from (shown dynamic.entry sram.entry page.entry) pointers.now from (length piece.old)) receive.old receive.new cables.old cables.new at result }
+    ensures { P.Decodes (length piece.old / 4) (T.bytes_from (shown dynamic.now sram.now page.now) pointers.now from (length piece.old)) receive.old receive.new cables.old cables.new at result }
 {
     transfer::copy_part(dynamic, sram, page, pointers, from, piece);
     decode_piece(&*piece, receive, cables, at)
@@ -106,10 +108,10 @@ fn decode_run(
     cables: &mut [u8],
     start: usize,
 ) -> usize
-    requires sized { Sized (shown dynamic sram page) }
+    requires sized { Sized (shown dynamic.now sram.now page.now) }
     requires total_bound { (total ≤ 32767) × (length piece.old ≡ 512) }
     requires total_in_bounds { (start + 3 * (total / 4) ≤ length receive.old) × (start + 3 * (total / 4) ≤ length cables.old) }
-    ensures { P.Decodes (total / 4) (T.bytes_in (shown dynamic.entry sram.entry page.entry) pointers.now total) receive.old receive.new cables.old cables.new start result }
+    ensures { P.Decodes (total / 4) (T.bytes_in (shown dynamic.now sram.now page.now) pointers.now total) receive.old receive.new cables.old cables.new start result }
 {
     let mut at = start;
     let mut from = 0;
@@ -142,10 +144,10 @@ fn decode(
     cables: &mut [u8],
     start: usize,
 ) -> usize
-    requires sized { Sized (shown dynamic sram page) }
+    requires sized { Sized (shown dynamic.now sram.now page.now) }
     requires total_bound { total ≤ 32767 }
     requires total_in_bounds { (start + 3 * (total / 4) ≤ length receive.old) × (start + 3 * (total / 4) ≤ length cables.old) }
-    ensures { P.Decodes (total / 4) (T.bytes_in (shown dynamic.entry sram.entry page.entry) pointers.now total) receive.old receive.new cables.old cables.new start result }
+    ensures { P.Decodes (total / 4) (T.bytes_in (shown dynamic.now sram.now page.now) pointers.now total) receive.old receive.new cables.old cables.new start result }
 {
     let mut piece = [0u8; 512];
     decode_run(
@@ -198,10 +200,10 @@ fn read_active(
     td: u32,
     tok: u32,
 ) -> Read
-    requires sized { Sized (shown dynamic sram page) }
+    requires sized { Sized (shown dynamic.old sram.old page.old) }
     requires received_in_bounds { (s.answer.received + 24573 ≤ length receive.old) × (s.answer.received + 24573 ≤ length cables.old) }
-    requires page_value { D.found (D.endpoint 1 true) (shown dynamic sram page) ≡ Active qh td tok }
-    ensures { P.ReadsOne s (shown dynamic.entry sram.entry page.entry) receive.old cables.old result (shown dynamic.exit sram.exit page.exit) receive.new cables.new }
+    requires page_value { D.found (D.endpoint 1 true) (shown dynamic.old sram.old page.old) ≡ Active qh td tok }
+    ensures { P.ReadsOne s (shown dynamic.old sram.old page.old) receive.old cables.old result (shown dynamic.new sram.new page.new) receive.new cables.new }
 {
     let total = usbdev::total(tok) as usize;
     let start = s.answer.received;
@@ -222,9 +224,9 @@ fn read_one(
     receive: &mut [u8],
     cables: &mut [u8],
 ) -> Read
-    requires sized { Sized (shown dynamic sram page) }
+    requires sized { Sized (shown dynamic.old sram.old page.old) }
     requires received_in_bounds { (s.answer.received + 24573 ≤ length receive.old) × (s.answer.received + 24573 ≤ length cables.old) }
-    ensures { P.ReadsOne s (shown dynamic.entry sram.entry page.entry) receive.old cables.old result (shown dynamic.exit sram.exit page.exit) receive.new cables.new }
+    ensures { P.ReadsOne s (shown dynamic.old sram.old page.old) receive.old cables.old result (shown dynamic.new sram.new page.new) receive.new cables.new }
 {
     match dtd::find(&*dynamic, &*sram, &*page, 1, true, MIDI_IN) {
         Found::Unprimed => {
@@ -258,9 +260,9 @@ fn read_all(
     cables: &mut [u8],
     count: u32,
 ) -> State
-    requires sized { Sized (shown dynamic sram page) }
+    requires sized { Sized (shown dynamic.old sram.old page.old) }
     requires count_in_bounds { (s.answer.received + count * 24573 ≤ length receive.old) × (s.answer.received + count * 24573 ≤ length cables.old) }
-    ensures { P.Hears (M.reads count) s (shown dynamic.entry sram.entry page.entry) receive.old cables.old result (shown dynamic.exit sram.exit page.exit) receive.new cables.new }
+    ensures { P.Hears (M.reads count) s (shown dynamic.old sram.old page.old) receive.old cables.old result (shown dynamic.new sram.new page.new) receive.new cables.new }
 {
     let mut next = s;
     let mut left = count;
@@ -310,9 +312,9 @@ pub fn midi_step(
     receive: &mut [u8],
     cables: &mut [u8],
 ) -> State
-    requires sized { Sized (shown dynamic sram page) }
+    requires sized { Sized (shown dynamic.old sram.old page.old) }
     requires received_in_bounds { (s.answer.received + 196584 ≤ length receive.old) × (s.answer.received + 196584 ≤ length cables.old) }
-    ensures { P.Hears (M.midi_in false every) s (shown dynamic.entry sram.entry page.entry) receive.old cables.old result (shown dynamic.exit sram.exit page.exit) receive.new cables.new }
+    ensures { P.Hears (M.midi_in false every) s (shown dynamic.old sram.old page.old) receive.old cables.old result (shown dynamic.new sram.new page.new) receive.new cables.new }
 {
     nak(page);
     let count = reads(every, s.port.uf);
