@@ -1,5 +1,5 @@
 -- Facts on the setup queue, and how the promises of a request's parts compose.
-use Rattle.std.proofs.Common.{◌≡◌, ℕ, suc, ◌+◌, ◌-◌, ◌*◌, ◌%◌, ◌^◌, ◌<◌, ◌≤◌, Bool, false, ltb, List, [], ◌∷◌, ◌++◌, length, get_or, take, drop, set, sym, refl, ap, ◌∙◌, subst, ap₂, ⊎_elim, add-one, arith, length-append, length-drop, length-take-le, get_or-drop, le-ltb, lt-ltb}
+use Rattle.std.proofs.Common.{◌≡◌, ℕ, suc, ◌+◌, ◌-◌, ◌*◌, ◌%◌, ◌^◌, ◌<◌, ◌≤◌, Bool, false, ltb, List, ◌++◌, length, get_or, take, drop, set, sym, refl, ap, ◌∙◌, subst, ap₂, add-one, arith, length-append, length-drop, length-take-le, get_or-drop, le-ltb, lt-ltb}
 use lib.Seq.{paste-suc, drop-paste}
 use Rattle.bits.specs.Word as W
 use Rattle.bus.specs.Memory.{Memory, memory, after, poke32, dropped32}
@@ -16,9 +16,6 @@ use Rattle.usbdev.proofs.Laws.{Inside, done_then, does_page}
 use Rattle.dtd.proofs.Laws.{after_is, does_store, dropped32_le}
 use Rattle.record.specs.declared.Phase.{Phase}
 use Rattle.record.specs.declared.Phase.TheVariants.{Idle, Vbus, Reset, Enumerate, Stream}
-use Rattle.record.specs.contracts.Phase.{the_type as the-phase}
-use denote.Enum.Declared.{tag_of}
-use types.Run.{OneOf}
 use Rattle.record.specs.declared.State.{State}
 use Rattle.record.specs.Record.{wrapped, counted, with_on, with_setups, with_dropped, with_phase, with_stats, with_control, with_lengths, with_answer, enumerations}
 use Rattle.record.proofs.Counters.{counts_one}
@@ -162,12 +159,12 @@ enumeration_ends s h ex er =
           (in_turn (once (λ v. phase Stream) (with_state w s) _ (ap (with_state w) ex)) (counts_one enumerations 1 w er));
     }
 
--- the tags of the phases that are not enumeration
-pub other_phase : (p : Phase) → OneOf (0 ∷ 1 ∷ 2 ∷ 4 ∷ []) (tag_of the-phase p) → enumerating p ≡ false
+-- a phase that is not enumeration
+pub other_phase : (p : Phase) → (p ≡ Enumerate → ⊥) → enumerating p ≡ false
 other_phase Idle k = refl
 other_phase Vbus k = refl
 other_phase Reset k = refl
-other_phase Enumerate k = absurd (⊎_elim (λ e. omega arith) (⊎_elim (λ e. omega arith) (⊎_elim (λ e. omega arith) (λ e. omega arith))) k)
+other_phase Enumerate k = absurd (k refl)
 other_phase Stream k = refl
 
 pub enumeration_none : (s : State) → enumerating s.phase ≡ false → Alone configured s s

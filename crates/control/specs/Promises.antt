@@ -7,7 +7,6 @@ use Rattle.bus.specs.Stores.{BusStep, putting, ◌then◌}
 use Rattle.record.specs.Setups.{little}
 use Rattle.record.specs.declared.State.{State}
 use Rattle.record.specs.World.{World, with_setup_queue, with_device_area, with_reply_area, with_config_area, at_bus}
-use Rattle.record.specs.Change as H
 use Rattle.record.specs.Change.{Step}
 use Rattle.record.specs.Did.{Leads}
 use Rattle.model.specs.Control.{ends_by, status_stage}

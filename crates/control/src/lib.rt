@@ -1,4 +1,6 @@
 // Control requests on endpoint 0: the setup queue, posting, the data and the status stage.
+#![tactic(auto)]
+
 ghost use Rattle.std.specs.Prelude.{◌≡◌, ℕ, ◌+◌, ◌*◌, ◌<◌, ◌≤◌, Bool, false, List, length};
 ghost use Rattle.bits.specs.Word as W;
 ghost use Rattle.bus.specs.Memory.{shown};
@@ -74,8 +76,8 @@ fn configured(s: State) -> State
 
 // The setup packet goes to the queue head as its two words; the bytes dropped.
 fn put_words(dynamic: &mut [u8], sram: &mut [u8], page: &mut [u8], first: u32, second: u32) -> u32
-    requires { Sized (shown dynamic sram page) }
-    ensures { ((l : Bool) → Does (P.puts_setup (D.queue_head (D.endpoint 0 false) page.old) first second) (Stores·bus (shown dynamic.entry sram.entry page.entry) l) (Stores·bus (shown dynamic.exit sram.exit page.exit) l) result) × (result ≤ 8) }
+    requires { Sized (shown dynamic.old sram.old page.old) }
+    ensures { ((l : Bool) → Does (P.puts_setup (D.queue_head (D.endpoint 0 false) page.old) first second) (Stores·bus (shown dynamic.old sram.old page.old) l) (Stores·bus (shown dynamic.new sram.new page.new) l) result) × (result ≤ 8) }
 {
     let qh = dtd::qh(&*page, 0, false);
     let n0 = poke32(dynamic, sram, page, wrapping_add_u32(qh, 0x28), first);
@@ -120,9 +122,9 @@ fn post(
     first: u32,
     second: u32,
 ) -> State
-    requires sized { Sized (shown dynamic sram page) }
+    requires sized { Sized (shown dynamic.old sram.old page.old) }
     requires le_setups { (1 ≤ s.lengths.setups) × (s.lengths.setups ≤ Sizes.SETUPS) }
-    ensures { P.Posts (C.posted (D.queue_head (D.endpoint 0 false) page.old) first second) s (shown dynamic.entry sram.entry page.entry) setups.old result (shown dynamic.exit sram.exit page.exit) setups.new }
+    ensures { P.Posts (C.posted (D.queue_head (D.endpoint 0 false) page.old) first second) s (shown dynamic.old sram.old page.old) setups.old result (shown dynamic.new sram.new page.new) setups.new }
 {
     let count = s.lengths.setups;
     drop_first(setups, count);
@@ -180,9 +182,9 @@ fn data_in(
     page: &mut [u8],
     reply: &mut [u8],
 ) -> State
-    requires sized { Sized (shown dynamic sram page) }
+    requires sized { Sized (shown dynamic.old sram.old page.old) }
     requires ready { Ready s × (Sizes.REPLY ≤ length reply.old) }
-    ensures { P.Stages C.data_in s (shown dynamic.entry sram.entry page.entry) reply.old result (shown dynamic.exit sram.exit page.exit) reply.new }
+    ensures { P.Stages C.data_in s (shown dynamic.old sram.old page.old) reply.old result (shown dynamic.new sram.new page.new) reply.new }
 {
     let limit = asked(s);
     let at = s.control.got;
@@ -198,9 +200,9 @@ fn data_in(
 
 // The data stage towards the device, of which no request here has a byte.
 fn data_out(s: State, dynamic: &mut [u8], sram: &mut [u8], page: &mut [u8]) -> State
-    requires sized { Sized (shown dynamic sram page) }
+    requires sized { Sized (shown dynamic.old sram.old page.old) }
     requires ready { Ready s }
-    ensures { (p : List ℕ) → P.Stages C.data_out s (shown dynamic.entry sram.entry page.entry) p result (shown dynamic.exit sram.exit page.exit) p }
+    ensures { (p : List ℕ) → P.Stages C.data_out s (shown dynamic.old sram.old page.old) p result (shown dynamic.new sram.new page.new) p }
 {
     let ran = runs::run0_out(dynamic, sram, page, b"", s.port.line);
     let next = record::after_run(s, ran);
@@ -218,9 +220,9 @@ fn data_stage(
     page: &mut [u8],
     reply: &mut [u8],
 ) -> State
-    requires sized { Sized (shown dynamic sram page) }
+    requires sized { Sized (shown dynamic.old sram.old page.old) }
     requires ready { Ready s × (Sizes.REPLY ≤ length reply.old) }
-    ensures { P.Stages C.data_stage s (shown dynamic.entry sram.entry page.entry) reply.old result (shown dynamic.exit sram.exit page.exit) reply.new }
+    ensures { P.Stages C.data_stage s (shown dynamic.old sram.old page.old) reply.old result (shown dynamic.new sram.new page.new) reply.new }
 {
     if asked(s) == 0 {
         return at_status(s);
@@ -246,9 +248,9 @@ fn status_stage(
     page: &mut [u8],
     reply: &mut [u8],
 ) -> Acknowledged
-    requires sized { Sized (shown dynamic sram page) }
+    requires sized { Sized (shown dynamic.old sram.old page.old) }
     requires ready { Ready s }
-    ensures { P.Acknowledges s (shown dynamic.entry sram.entry page.entry) result (shown dynamic.exit sram.exit page.exit) × (reply.new ≡ reply.old) }
+    ensures { P.Acknowledges s (shown dynamic.old sram.old page.old) result (shown dynamic.new sram.new page.new) × (reply.new ≡ reply.old) }
 {
     if to_host(s) & (asked(s) != 0) {
         let ran = runs::run0_out(dynamic, sram, page, b"", s.port.line);
@@ -277,9 +279,9 @@ fn acknowledge(
     reply: &mut [u8],
     config: &mut [u8],
 ) -> State
-    requires sized { Sized (shown dynamic sram page) }
+    requires sized { Sized (shown dynamic.old sram.old page.old) }
     requires ready { Ready s × ((Sizes.REPLY ≤ length reply.old) × (Sizes.REPLY ≤ length config.old)) }
-    ensures { P.Controls (C.status_stage device_stack) s (shown dynamic.entry sram.entry page.entry) setups.old device.old reply.old config.old result (shown dynamic.exit sram.exit page.exit) setups.new device.new reply.new config.new }
+    ensures { P.Controls (C.status_stage device_stack) s (shown dynamic.old sram.old page.old) setups.old device.old reply.old config.old result (shown dynamic.new sram.new page.new) setups.new device.new reply.new config.new }
 {
     let status = status_stage(s, dynamic, sram, page, reply);
     let next = status.state;
@@ -301,9 +303,9 @@ fn served(
     reply: &mut [u8],
     config: &mut [u8],
 ) -> State
-    requires sized { Sized (shown dynamic sram page) }
+    requires sized { Sized (shown dynamic.old sram.old page.old) }
     requires ready { Ready s × ((Sizes.REPLY ≤ length reply.old) × (Sizes.REPLY ≤ length config.old)) }
-    ensures { P.Controls (C.data_then_status device_stack) s (shown dynamic.entry sram.entry page.entry) setups.old device.old reply.old config.old result (shown dynamic.exit sram.exit page.exit) setups.new device.new reply.new config.new }
+    ensures { P.Controls (C.data_then_status device_stack) s (shown dynamic.old sram.old page.old) setups.old device.old reply.old config.old result (shown dynamic.new sram.new page.new) setups.new device.new reply.new config.new }
 {
     let next = data_stage(s, dynamic, sram, page, reply);
     let running = next.control;
@@ -336,9 +338,9 @@ fn answered(
     reply: &mut [u8],
     config: &mut [u8],
 ) -> State
-    requires sized { Sized (shown dynamic sram page) }
+    requires sized { Sized (shown dynamic.old sram.old page.old) }
     requires ready { Ready s × ((Sizes.REPLY ≤ length reply.old) × (Sizes.REPLY ≤ length config.old)) }
-    ensures { P.Controls (C.stages device_stack) s (shown dynamic.entry sram.entry page.entry) setups.old device.old reply.old config.old result (shown dynamic.exit sram.exit page.exit) setups.new device.new reply.new config.new }
+    ensures { P.Controls (C.stages device_stack) s (shown dynamic.old sram.old page.old) setups.old device.old reply.old config.old result (shown dynamic.new sram.new page.new) setups.new device.new reply.new config.new }
 {
     let running = s.control;
     let stage = running.stage;
@@ -380,9 +382,9 @@ fn request(
     reply: &mut [u8],
     config: &mut [u8],
 ) -> State
-    requires sized { Sized (shown dynamic sram page) }
+    requires sized { Sized (shown dynamic.old sram.old page.old) }
     requires ready { Ready s × ((Sizes.REPLY ≤ length reply.old) × (Sizes.REPLY ≤ length config.old)) }
-    ensures { P.Controls (C.requests device_stack) s (shown dynamic.entry sram.entry page.entry) setups.old device.old reply.old config.old result (shown dynamic.exit sram.exit page.exit) setups.new device.new reply.new config.new }
+    ensures { P.Controls (C.requests device_stack) s (shown dynamic.old sram.old page.old) setups.old device.old reply.old config.old result (shown dynamic.new sram.new page.new) setups.new device.new reply.new config.new }
 {
     let epcr0 = word_at(&*page, EPCR0);
     if bits::any(epcr0, STALLED) {
@@ -415,9 +417,9 @@ pub fn control(
     reply: &mut [u8],
     config: &mut [u8],
 ) -> State
-    requires sized { Sized (shown dynamic sram page) }
+    requires sized { Sized (shown dynamic.old sram.old page.old) }
     requires bounded { P.Bounded s × ((Sizes.REPLY ≤ length reply.old) × (Sizes.REPLY ≤ length config.old)) }
-    ensures { P.Controls (C.controls device_stack) s (shown dynamic.entry sram.entry page.entry) setups.old device.old reply.old config.old result (shown dynamic.exit sram.exit page.exit) setups.new device.new reply.new config.new }
+    ensures { P.Controls (C.controls device_stack) s (shown dynamic.old sram.old page.old) setups.old device.old reply.old config.old result (shown dynamic.new sram.new page.new) setups.new device.new reply.new config.new }
 {
     if s.control.on {
         return request(
