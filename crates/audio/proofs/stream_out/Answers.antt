@@ -3,7 +3,6 @@ use Rattle.std.proofs.Common.{sym, ◌∙◌}
 use Rattle.audio.proofs.Laws.{out_short, out_unprimed, out_ended}
 use Rattle.audio.proofs.stream_out.Goals as goal
 
--- `audio::stream_out` meets its contract.
 pub returns-then-s : goal.returns-then-s
 returns-then-s c = out_short _ _ _ c.requires.sized c.requires.can_send c.if-s.true
 

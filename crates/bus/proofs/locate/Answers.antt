@@ -4,7 +4,6 @@ use Rattle.bus.specs.declared.Place.TheVariants.{Dynamic}
 use Rattle.bus.proofs.Places.{place_low, place_dynamic, place_static, place_gap, place_page, place_high, masked}
 use Rattle.bus.proofs.locate.Goals as goal
 
--- `bus::locate` meets its contract. Assumes nothing.
 pub returns-then-a-lt1073741824 : goal.returns-then-a-lt1073741824
 returns-then-a-lt1073741824 c = sym (place_low _ _ (search rules))
 

@@ -4,7 +4,6 @@ use borrow.Author.Tests.{lt-leb}
 use Rattle.bus.specs.Sized.{is_power}
 use Rattle.bus.proofs.power.Goals as goal
 
--- `bus::power` meets its contract. Assumes nothing.
 pub returns-then-n-lt4096 : goal.returns-then-n-lt4096
 unfolding is_power
 returns-then-n-lt4096 c = simp (lt-leb 4096 _ c.if-n-lt4096.true)

@@ -3,7 +3,6 @@ use Rattle.std.proofs.Common.{eq-eqb, ne_eqb}
 use Rattle.bus.specs.Sized.{is_sized}
 use Rattle.bus.proofs.sized.Goals as goal
 
--- `bus::sized` meets its contract. Assumes nothing.
 pub returns-then-sram-ne-SRAM : goal.returns-then-sram-ne-SRAM
 unfolding is_sized
 returns-then-sram-ne-SRAM c = simp (ne_eqb _ 65536 c.if-sram-ne-SRAM.true)

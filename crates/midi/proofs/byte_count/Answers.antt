@@ -11,7 +11,6 @@ use Rattle.midi.specs.Packer.{byte_counts, byte_count}
 use Rattle.midi.proofs.Table.{every_in}
 use Rattle.midi.proofs.byte_count.Goals as goal
 
--- `midi::byte_count` meets its contract: a code by itself is looked up, and a range of codes by one test of the table's entries there.
 pub returns-in-5 : goal.returns-in-5
 unfolding byte_count
 returns-in-5 c = ⊎_elim (λ e. rw e) (λ e. rw e) c.in-5.is

@@ -5,7 +5,6 @@ use native.Mathlib.Omega.{arith}
 use borrow.Author.Tests.{le-leb, lt-leb, ne_eqb}
 use Rattle.midi.proofs.message_code.Goals as goal
 
--- `midi::message_code` meets its contract, arm by arm.
 pub returns-in-241 : goal.returns-in-241
 unfolding message_length message_code
 returns-in-241 c = ⊎_elim (λ e. rw e) (λ e. rw e) c.in-241.is

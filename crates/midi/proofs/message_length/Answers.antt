@@ -5,7 +5,6 @@ use native.Mathlib.Omega.{arith}
 use borrow.Author.Tests.{le-leb, lt-leb, ne_eqb}
 use Rattle.midi.proofs.message_length.Goals as goal
 
--- `midi::message_length` meets its contract, arm by arm.
 pub returns-in_default : goal.returns-in_default
 unfolding message_length
 returns-in_default c =

@@ -4,7 +4,6 @@ use native.Mathlib.Omega.{arith}
 use borrow.Author.Tests.{le-leb, lt-leb}
 use Rattle.midi.proofs.running.Goals as goal
 
--- `midi::running` meets its contract: by whether the status is a system common one.
 pub returns-in-0-to-239 : goal.returns-in-0-to-239
 unfolding running_of
 returns-in-0-to-239 c = simp (lt-leb 0xF0 c.args.s (omega arith))

@@ -7,7 +7,6 @@ use borrow.Author.Tests.{le-leb, lt-leb, lt-ltb, le-ltb}
 use Rattle.midi.specs.Packer.{packet_count, is_cable, room_for, sent_of, queue_after, sent_on, queue_on}
 use Rattle.midi.proofs.send.Goals as goal
 
--- `midi::send` meets its contract: its first test is number 8's, the next two are number 7's, and the way that puts the packets cites `put_packets`.
 pub returns-then-cable-gt15 : goal.returns-then-cable-gt15
 unfolding sent_on queue_on
 returns-then-cable-gt15 c =

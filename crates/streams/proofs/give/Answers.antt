@@ -8,7 +8,6 @@ use Rattle.streams.specs.Promises.{Gives}
 use Rattle.streams.proofs.Laws.{served_none, served_unprimed, served_ended, served_active, fits_active, units_held}
 use Rattle.streams.proofs.give.Goals as goal
 
--- `streams::give` meets its contract.
 pub returns-then-held-eq0 : goal.returns-then-held-eq0
 unfolding Gives
 returns-then-held-eq0 c =
