@@ -14,7 +14,7 @@ use Rattle.record.specs.Change.{left}
 use Rattle.model.specs.Microframe as M
 use Rattle.model.specs.Microframe.{rs_set, gone_at, asleep_at}
 use Rattle.model.specs.Reach.{reaches_output, comes_back, device_left, at_output, output_ready, stream_by}
-use Rattle.model.specs.Earned.{Counts, counts_of, earned, sent_one, zeroed, blocks_read, reset_counts, heard_counts, sent_counts}
+use Rattle.model.specs.Earned.{Counts, counts_of, sent_one, zeroed, blocks_read, reset_counts, heard_counts, sent_counts}
 use Rattle.model.proofs.History.{counts_microframe}
 use Rattle.kept.proofs.Credit.{SMALL, added, heard_plain}
 use Rattle.usbhost.specs.declared.Host.{Host}

@@ -18,7 +18,7 @@ use Rattle.record.specs.World.{Lent, World}
 use Rattle.record.specs.Sizes.{FRAMES, WORDS}
 use Rattle.record.specs.Change.{left, taken_from}
 use Rattle.model.specs.Microframe as M
-use Rattle.model.specs.Audio.{BLOCK_FRAMES, capacity, block_of}
+use Rattle.model.specs.Audio.{BLOCK_FRAMES, block_of}
 use Rattle.model.specs.Reach.{at_output}
 use Rattle.model.specs.Earned.{Out, out_of, sent_out}
 use Rattle.model.specs.Claims.{sends_at}

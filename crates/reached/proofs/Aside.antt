@@ -12,7 +12,7 @@ use Rattle.record.specs.Record.{wrapped, raised, Counter, place, midi_asleep, co
 use Rattle.record.proofs.Counters.{rose, raised_by, rose_other}
 use Rattle.record.specs.World.{World}
 use Rattle.record.specs.Parts as Part
-use Rattle.record.specs.Change.{Change, bus, ran, lost, count, phase, block, timers, midi, apply, left, nothing, one, here, port, audio, request, stream}
+use Rattle.record.specs.Change.{Change, bus, ran, lost, count, timers, apply, left, nothing, one, here, port, audio, request, stream}
 use Rattle.record.proofs.Beside.{port_beside, request_beside, stream_beside}
 use Rattle.model.specs.Phases.{within, sleeps, suspends, leaves, starts_frame}
 use Rattle.model.specs.Control.{controls}

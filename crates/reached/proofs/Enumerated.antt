@@ -12,7 +12,7 @@ use Rattle.record.specs.declared.Phase.TheVariants.{Idle, Vbus, Reset, Enumerate
 use Rattle.record.specs.Record.{wrapped, raised, Counter, place, midi_dtds, midi_asleep, enumerations, counter_of}
 use Rattle.record.proofs.Counters.{rose, raised_by, rose_other}
 use Rattle.record.specs.World.{World}
-use Rattle.record.specs.Change.{Change, bus, ran, lost, count, phase, block, timers, control, midi, apply, left, if, one, nothing, port, audio, request, stream}
+use Rattle.record.specs.Change.{Change, bus, ran, lost, count, phase, timers, apply, left, if, one, nothing, port, audio, request, stream}
 use Rattle.record.proofs.Beside.{port_beside, audio_beside, request_beside, stream_beside}
 use Rattle.model.specs.Phases.{counts, ticks, sleeps, leaves}
 use Rattle.model.specs.Control.{enumerating, posts, configured, stalled, unstalls, stages, requests, controls}

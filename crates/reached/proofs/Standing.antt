@@ -8,7 +8,7 @@ use lib.Seq.{sets}
 use Rattle.record.specs.declared.Phase.{Phase}
 use Rattle.record.specs.World.{World}
 use Rattle.record.specs.Parts as Part
-use Rattle.record.specs.Change.{Change, bus, ran, lost, count, uf, phase, gone, suspended, was_running, timers, apply, drained, port, audio, request, stream}
+use Rattle.record.specs.Change.{Change, bus, ran, lost, count, timers, apply, drained, port, audio, request, stream}
 use Rattle.record.proofs.Beside.{audio_beside, stream_beside}
 use Rattle.model.proofs.Fields.{Fields}
 
