@@ -1,4 +1,6 @@
 // Entries for C and Rust on numbers and bytes alone: device accesses, words of memory, the interface choice, a MIDI send.
+#![tactic(auto)]
+
 ghost use Rattle.std.specs.Prelude.{◌≡◌, ◌^◌, ◌≤◌, ◌<◌};
 ghost use Rattle.bus.specs.Memory as M;
 ghost use Rattle.bus.specs.Memory.{shown};
@@ -55,7 +57,7 @@ pub extern "C" fn usb_device_write(
 // The word at an address of the three windows: refusal * 2^32 + word.
 #[unsafe(no_mangle)]
 pub extern "C" fn usb_peek32(dynamic: &[u8], sram: &[u8], page: &[u8], address: u32) -> u64
-    ensures { result ≡ Answers.of_peeked (peeked (shown dynamic.entry sram.entry page.entry) (M.peek32 (shown dynamic.entry sram.entry page.entry) address)) }
+    ensures { result ≡ Answers.of_peeked (peeked (shown dynamic.now sram.now page.now) (M.peek32 (shown dynamic.now sram.now page.now) address)) }
 {
     let seen = bus::checked_peek32(dynamic, sram, page, address);
     above(seen.refusal, seen.value)
@@ -70,7 +72,7 @@ pub extern "C" fn usb_poke32(
     address: u32,
     value: u32,
 ) -> u64
-    ensures { (result ≡ Answers.of_poked (poked (shown dynamic.entry sram.entry page.entry) (M.dropped32 address))) × (shown dynamic.exit sram.exit page.exit ≡ kept (shown dynamic.entry sram.entry page.entry) (M.poke32 (shown dynamic.entry sram.entry page.entry) address value)) }
+    ensures { (result ≡ Answers.of_poked (poked (shown dynamic.old sram.old page.old) (M.dropped32 address))) × (shown dynamic.new sram.new page.new ≡ kept (shown dynamic.old sram.old page.old) (M.poke32 (shown dynamic.old sram.old page.old) address value)) }
 {
     let stored = bus::checked_poke32(dynamic, sram, page, address, value);
     above(stored.refusal, stored.dropped)
