@@ -36,8 +36,8 @@ pub record GoesOn (p : Phase) (w w' : World) : Type 0 where
   pub starts : w'.state.port.t ≡ w.state.port.t
 
 -- USB 2.0, 9.4.3: GET_DESCRIPTOR of a type, with index 0 and so many bytes below 256; 9.4.6: SET_ADDRESS
-abbrev pub get_orescriptor : ℕ → ℕ → List ℕ
-get_orescriptor type bytes = 128 ∷ 6 ∷ 0 ∷ type ∷ 0 ∷ 0 ∷ bytes ∷ 0 ∷ []
+abbrev pub get_descriptor : ℕ → ℕ → List ℕ
+get_descriptor type bytes = 128 ∷ 6 ∷ 0 ∷ type ∷ 0 ∷ 0 ∷ bytes ∷ 0 ∷ []
 
 abbrev pub set_address : ℕ → List ℕ
 set_address address = 0 ∷ 5 ∷ address ∷ 0 ∷ 0 ∷ 0 ∷ 0 ∷ 0 ∷ []
@@ -46,7 +46,7 @@ set_address address = 0 ∷ 5 ∷ address ∷ 0 ∷ 0 ∷ 0 ∷ 0 ∷ 0 ∷ []
 -- configuration's header
 pub record Asks (w w' : World) : Type 0 where
   pub waits : w'.state.lengths.setups ≡ w.state.lengths.setups + 4
-  pub bytes : 8 * w.state.lengths.setups + 32 ≤ length w.own.setups → waiting w' ≡ waiting w ++ (get_orescriptor 1 64 ++ set_address 7 ++ get_orescriptor 1 18 ++ get_orescriptor 2 9)
+  pub bytes : 8 * w.state.lengths.setups + 32 ≤ length w.own.setups → waiting w' ≡ waiting w ++ (get_descriptor 1 64 ++ set_address 7 ++ get_descriptor 1 18 ++ get_descriptor 2 9)
 
 -- 625-645: the first setup that waited is a request that runs from now on, and the others moved up; EPSETUPSR's bit 0 says so on a page of 4,096 bytes
 pub record Posts (w w' : World) : Type 0 where
