@@ -2,7 +2,7 @@
 use Prim.Native.Nat.{ℕ}
 use mathlib.Core.Path.{◌≡◌, refl, sym, ap, subst, ◌∙◌}
 use mathlib.Core.Bool.{Bool, true, false}
-use mathlib.Core.List.{List, [], ◌∷◌}
+use mathlib.Core.List.{List, []}
 use native.Mathlib.Omega.{arith}
 use lib.ListN.{length}
 use Rattle.bus.specs.Memory.{Memory, memory}
@@ -10,10 +10,6 @@ use Rattle.bus.specs.Sized.{Sized}
 use Rattle.bus.specs.Steps.{and_then}
 use Rattle.record.specs.declared.Phase.{Phase}
 use Rattle.record.specs.declared.Phase.TheVariants.{Idle, Vbus, Reset, Enumerate, Stream}
-use mathlib.Core.Logic.{⊎_elim}
-use Rattle.record.specs.contracts.Phase.{the_type as the-phase}
-use denote.Enum.Declared.{tag_of}
-use types.Run.{OneOf}
 use Rattle.record.specs.declared.Lengths.{Lengths}
 use Rattle.record.specs.declared.Settings.{Settings}
 use Rattle.record.specs.declared.State.{State}
@@ -113,13 +109,13 @@ bridge_goes c t s s₁ s₂ s₃ m m₁ m₂ m₃ q q₃ out out₂ cs cs₂ l l
 
 -- ---- the streams
 
--- the tags of the phases before streaming
-pub not_streaming : (p : Phase) → OneOf (0 ∷ 1 ∷ 2 ∷ 3 ∷ []) (tag_of the-phase p) → streaming p ≡ false
+-- every phase but the last is before streaming
+pub not_streaming : (p : Phase) → (p ≡ Stream → ⊥) → streaming p ≡ false
 not_streaming Idle k = refl
 not_streaming Vbus k = refl
 not_streaming Reset k = refl
 not_streaming Enumerate k = refl
-not_streaming Stream k = absurd (⊎_elim (λ e. omega arith) (⊎_elim (λ e. omega arith) (⊎_elim (λ e. omega arith) (λ e. omega arith))) k)
+not_streaming Stream k = absurd (k refl)
 
 module _ (c : Settings) (t : ℕ) (s : State) (m : Memory) (q u out cs l k : List ℕ) where
   pub no_stream : streaming s.phase ≡ false → Sized m → Transfers (transfers c t) s m q u out cs l k s m q u out cs l

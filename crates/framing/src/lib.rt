@@ -1,4 +1,6 @@
 // The streams of a microframe over parts, and what it begins with: each function makes one step, and stops or goes on.
+#![tactic(auto)]
+
 ghost use Rattle.std.specs.Prelude.{true, ◌≡◌, ◌+◌, ◌≤◌, length};
 ghost use Rattle.bus.specs.Memory.{shown};
 ghost use Rattle.bus.specs.Sized.{PAGE, Sized};
@@ -24,9 +26,9 @@ fn midi_in(
     cables: &mut [u8],
     time: u64,
 ) -> State
-    requires sized { Sized (shown dynamic sram page) }
+    requires sized { Sized (shown dynamic.old sram.old page.old) }
     requires received_in_bounds { (s.answer.received + 196584 ≤ length receive.old) × (s.answer.received + 196584 ≤ length cables.old) }
-    ensures { Hears (M.midi_steps c time) s (shown dynamic.entry sram.entry page.entry) receive.old cables.old result (shown dynamic.exit sram.exit page.exit) receive.new cables.new }
+    ensures { Hears (M.midi_steps c time) s (shown dynamic.old sram.old page.old) receive.old cables.old result (shown dynamic.new sram.new page.new) receive.new cables.new }
 {
     if !c.midi_in {
         return s;
@@ -47,9 +49,9 @@ fn stack_step(
     sram: &mut [u8],
     page: &mut [u8],
 ) -> State
-    requires sized { Sized (shown dynamic sram page) }
+    requires sized { Sized (shown dynamic.old sram.old page.old) }
     requires midi_bound { s.lengths.midi ≤ Sizes.QUEUE }
-    ensures { P.Stacks (M.stack_steps device_stack) s (shown dynamic.entry sram.entry page.entry) midi.old result (shown dynamic.exit sram.exit page.exit) midi.new }
+    ensures { P.Stacks (M.stack_steps device_stack) s (shown dynamic.old sram.old page.old) midi.old result (shown dynamic.new sram.new page.new) midi.new }
 {
     if !device_stack {
         return s;
@@ -72,9 +74,9 @@ fn overbridge(
     sending: &[u32],
     time: u64,
 ) -> State
-    requires sized { Sized (shown dynamic sram page) }
+    requires sized { Sized (shown dynamic.old sram.old page.old) }
     requires in_bounds { ((Sizes.RECEIVE ≤ length receive.old) × ((Sizes.RECEIVE ≤ length cables.old) × (length received.old ≡ Sizes.RING))) × P.Flows s (length sending.now) }
-    ensures { P.Bridges (M.bridge_steps c time) s (shown dynamic.entry sram.entry page.entry) midi.old receive.old cables.old received.old sending.now result (shown dynamic.exit sram.exit page.exit) midi.new receive.new cables.new received.new }
+    ensures { P.Bridges (M.bridge_steps c time) s (shown dynamic.old sram.old page.old) midi.old receive.old cables.old received.old sending.now result (shown dynamic.new sram.new page.new) midi.new receive.new cables.new received.new }
 {
     let streamed = audio::stream(s, dynamic, sram, page, received, sending);
     let heard = midi_in(streamed, c, dynamic, sram, page, receive, cables, time);
@@ -96,9 +98,9 @@ pub fn streaming(
     sending: &[u32],
     time: u64,
 ) -> State
-    requires sized { Sized (shown dynamic sram page) }
+    requires sized { Sized (shown dynamic.old sram.old page.old) }
     requires in_bounds { ((Sizes.RECEIVE ≤ length receive.old) × ((Sizes.RECEIVE ≤ length cables.old) × (length received.old ≡ Sizes.RING))) × P.Flows s (length sending.now) }
-    ensures { P.Transfers (M.transfers c time) s (shown dynamic.entry sram.entry page.entry) midi.old serial.old receive.old cables.old received.old sending.now result (shown dynamic.exit sram.exit page.exit) midi.new serial.new receive.new cables.new received.new }
+    ensures { P.Transfers (M.transfers c time) s (shown dynamic.old sram.old page.old) midi.old serial.old receive.old cables.old received.old sending.now result (shown dynamic.new sram.new page.new) midi.new serial.new receive.new cables.new received.new }
 {
     let phase = s.phase;
     let Phase::Stream = phase else {

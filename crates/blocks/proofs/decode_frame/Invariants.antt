@@ -3,7 +3,6 @@ use Rattle.std.proofs.Common.{◌-◌}
 use Rattle.blocks.proofs.Laws.{Wording, frame_of}
 use Rattle.blocks.proofs.decode_frame.Given as goal
 
--- `blocks::decode_frame` meets its contract.
 abbrev pub invariant-loop-c : goal.invariant-loop-c
 invariant-loop-c l = Wording (frame_of l.block l.f) l.initial.received l.received l.at l.c
 

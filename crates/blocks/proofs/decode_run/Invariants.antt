@@ -4,7 +4,7 @@ use Rattle.bus.specs.Memory.{memory}
 use Rattle.blocks.proofs.Laws.{Decoding}
 use Rattle.blocks.proofs.decode_run.Given as goal
 
--- `blocks::decode_run` meets its contract. The invariant: what is left from here makes the whole.
+-- What is left from here makes the whole.
 abbrev pub invariant-loop-i : goal.invariant-loop-i
 invariant-loop-i l = Decoding (memory l.dynamic l.sram l.page) l.pointers l.total l.initial.d l.initial.received l.d l.received l.i
 

@@ -5,7 +5,6 @@ use lib.ListN.{take, drop}
 use Rattle.sending.proofs.Laws.{Channels}
 use Rattle.sending.proofs.encode_frame.Given as goal
 
--- `sending::encode_frame` meets its contract.
 abbrev pub invariant-loop-c : goal.invariant-loop-c
 invariant-loop-c l =
     (l.c ≤ min l.channels 12) × (l.count ≡ min l.channels 12) × Channels l.from (take 12 (drop (l.at * 12) l.sending)) l.initial.block l.block l.c

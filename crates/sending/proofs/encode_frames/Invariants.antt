@@ -4,7 +4,6 @@ use mathlib.Core.Path.{◌≡◌}
 use Rattle.sending.proofs.Laws.{Frames}
 use Rattle.sending.proofs.encode_frames.Given as goal
 
--- `sending::encode_frames` meets its contract.
 abbrev pub invariant-loop-f : goal.invariant-loop-f
 invariant-loop-f l =
     (l.f ≤ min l.ring.len 7) × (l.count ≡ min l.ring.len 7) × Frames l.channels l.sending l.ring l.initial.block l.block l.f
