@@ -36,7 +36,7 @@ def spelled(name):
         return name
     if re.fullmatch(r"[A-Z0-9-]+", name):
         return name.replace("-", "_")
-    name = name.replace("getD", "get_or")
+    name = re.sub(r"getD(?![a-z])", "get_or", name)
     name = re.sub(r"(?<=[a-z0-9])([A-Z])", lambda m: "_" + m[1].lower(), name)
     return name.replace("-", "_")
 
