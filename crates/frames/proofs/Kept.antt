@@ -2,7 +2,7 @@
 use Prim.Native.Nat.{ℕ, ◌≤◌}
 use mathlib.Core.Path.{◌≡◌, refl, sym, subst}
 use mathlib.Core.Bool.{Bool, true, false}
-use mathlib.Core.List.{List, []}
+use mathlib.Core.List.{List}
 use native.Mathlib.Omega.{arith}
 use lib.ListN.{length}
 use Rattle.bus.specs.Stores.{Store}
@@ -17,7 +17,7 @@ use Rattle.record.specs.Record.{with_on, with_credit, with_budget, Counter, micr
 use Rattle.record.specs.World.{World, with_state, at_page}
 use Rattle.record.specs.Change.{bus, count, uf, phase, started, gone, suspended, was_running, credit, budget, timers, control, cleared, forgot, apply, Step}
 use Rattle.record.specs.Did.{Alone, Paged}
-use Rattle.model.specs.Phases.{counts, ticks, forgets, cable, suspends, leaves, starts_frame}
+use Rattle.model.specs.Phases.{counts, ticks, cable, suspends, leaves, starts_frame}
 use Rattle.model.specs.Microframe.{opens}
 use Rattle.model.proofs.Holding.{Holds}
 use Rattle.model.proofs.Walk.{Forgotten, walk_counts, walk_ticks, walk_cable, walk_returns, walk_opens, walk_suspends, walk_leaves, walk_enters, walk_frame}

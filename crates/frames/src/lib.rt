@@ -1,4 +1,6 @@
 // The chain of a microframe's steps over parts: each function makes one step, and stops or goes on.
+#![tactic(auto)]
+
 ghost use Rattle.std.specs.Prelude.{◌≡◌, ◌≤◌, length};
 ghost use Rattle.bus.specs.Memory.{shown};
 ghost use Rattle.bus.specs.Sized.{Sized};
@@ -30,10 +32,10 @@ fn connected(
     time: u64,
     running: bool,
 ) -> State
-    requires sized { Sized (shown dynamic sram page) }
+    requires sized { Sized (shown dynamic.old sram.old page.old) }
     requires long { P.Long reply.old config.old receive.old cables.old received.old }
     requires going { P.Going s (length sending.now) }
-    ensures { P.Goes (M.talks c time running) s (own setups.old midi.old serial.old device.old) (lent (shown dynamic.entry sram.entry page.entry) reply.old config.old receive.old cables.old received.old sending.now) result (own setups.new midi.new serial.new device.new) (lent (shown dynamic.exit sram.exit page.exit) reply.new config.new receive.new cables.new received.new sending.now) }
+    ensures { P.Goes (M.talks c time running) s (own setups.old midi.old serial.old device.old) (lent (shown dynamic.old sram.old page.old) reply.old config.old receive.old cables.old received.old sending.now) result (own setups.new midi.new serial.new device.new) (lent (shown dynamic.new sram.new page.new) reply.new config.new receive.new cables.new received.new sending.now) }
 {
     if !running {
         return s;
@@ -75,10 +77,10 @@ fn by_phase(
     time: u64,
     running: bool,
 ) -> State
-    requires sized { Sized (shown dynamic sram page) }
+    requires sized { Sized (shown dynamic.old sram.old page.old) }
     requires long { P.Long reply.old config.old receive.old cables.old received.old }
     requires going { P.Going s (length sending.now) }
-    ensures { P.Goes (M.by_phase c time running) s (own setups.old midi.old serial.old device.old) (lent (shown dynamic.entry sram.entry page.entry) reply.old config.old receive.old cables.old received.old sending.now) result (own setups.new midi.new serial.new device.new) (lent (shown dynamic.exit sram.exit page.exit) reply.new config.new receive.new cables.new received.new sending.now) }
+    ensures { P.Goes (M.by_phase c time running) s (own setups.old midi.old serial.old device.old) (lent (shown dynamic.old sram.old page.old) reply.old config.old receive.old cables.old received.old sending.now) result (own setups.new midi.new serial.new device.new) (lent (shown dynamic.new sram.new page.new) reply.new config.new receive.new cables.new received.new sending.now) }
 {
     let phase = s.phase;
     match phase {
@@ -113,10 +115,10 @@ fn after_suspend(
     running: bool,
     asleep: bool,
 ) -> State
-    requires sized { Sized (shown dynamic sram page) }
+    requires sized { Sized (shown dynamic.old sram.old page.old) }
     requires long { P.Long reply.old config.old receive.old cables.old received.old }
     requires going { P.Going s (length sending.now) }
-    ensures { P.Goes (P.after_suspend c time running asleep) s (own setups.old midi.old serial.old device.old) (lent (shown dynamic.entry sram.entry page.entry) reply.old config.old receive.old cables.old received.old sending.now) result (own setups.new midi.new serial.new device.new) (lent (shown dynamic.exit sram.exit page.exit) reply.new config.new receive.new cables.new received.new sending.now) }
+    ensures { P.Goes (P.after_suspend c time running asleep) s (own setups.old midi.old serial.old device.old) (lent (shown dynamic.old sram.old page.old) reply.old config.old receive.old cables.old received.old sending.now) result (own setups.new midi.new serial.new device.new) (lent (shown dynamic.new sram.new page.new) reply.new config.new receive.new cables.new received.new sending.now) }
 {
     if asleep {
         return phases::asleep(s);
@@ -149,10 +151,10 @@ fn after_gone(
     running: bool,
     gone: bool,
 ) -> State
-    requires sized { Sized (shown dynamic sram page) }
+    requires sized { Sized (shown dynamic.old sram.old page.old) }
     requires long { P.Long reply.old config.old receive.old cables.old received.old }
     requires going { P.Going s (length sending.now) }
-    ensures { P.Goes (P.after_gone c time running gone (within c.suspend time)) s (own setups.old midi.old serial.old device.old) (lent (shown dynamic.entry sram.entry page.entry) reply.old config.old receive.old cables.old received.old sending.now) result (own setups.new midi.new serial.new device.new) (lent (shown dynamic.exit sram.exit page.exit) reply.new config.new receive.new cables.new received.new sending.now) }
+    ensures { P.Goes (P.after_gone c time running gone (within c.suspend time)) s (own setups.old midi.old serial.old device.old) (lent (shown dynamic.old sram.old page.old) reply.old config.old receive.old cables.old received.old sending.now) result (own setups.new midi.new serial.new device.new) (lent (shown dynamic.new sram.new page.new) reply.new config.new receive.new cables.new received.new sending.now) }
 {
     if gone {
         return phases::asleep(s);
@@ -197,10 +199,10 @@ pub fn microframe(
     sending: &[u32],
     time: u64,
 ) -> State
-    requires sized { Sized (shown dynamic sram page) }
+    requires sized { Sized (shown dynamic.old sram.old page.old) }
     requires long { P.Long reply.old config.old receive.old cables.old received.old }
     requires fit { P.Fit s (length sending.now) × (c.spans ≤ 16) }
-    ensures { P.Frame time c s (own setups.old midi.old serial.old device.old) (lent (shown dynamic.entry sram.entry page.entry) reply.old config.old receive.old cables.old received.old sending.now) result (own setups.new midi.new serial.new device.new) (lent (shown dynamic.exit sram.exit page.exit) reply.new config.new receive.new cables.new received.new sending.now) }
+    ensures { P.Frame time c s (own setups.old midi.old serial.old device.old) (lent (shown dynamic.old sram.old page.old) reply.old config.old receive.old cables.old received.old sending.now) result (own setups.new midi.new serial.new device.new) (lent (shown dynamic.new sram.new page.new) reply.new config.new receive.new cables.new received.new sending.now) }
 {
     let running = bits::any(bus::word_at(&*page, USBCMD), 1);
     let gone = in_gone(c, time);
