@@ -31,7 +31,7 @@ pub fn microframe(
     received: &mut [u32],
     sending: &[u32],
 ) -> Answered
-    ensures { (answered result host.new ≡ frame_answer time host.old (lent (shown dynamic.entry sram.entry page.entry) reply.old config.old receive.old cables.old received.old sending.now)) × (lent (shown dynamic.exit sram.exit page.exit) reply.new config.new receive.new cables.new received.new sending.now ≡ (framed time host.old (lent (shown dynamic.entry sram.entry page.entry) reply.old config.old receive.old cables.old received.old sending.now)).lent) }
+    ensures { (answered result host.new ≡ frame_answer time host.old (lent (shown dynamic.old sram.old page.old) reply.old config.old receive.old cables.old received.old sending.now)) × (lent (shown dynamic.new sram.new page.new) reply.new config.new receive.new cables.new received.new sending.now ≡ (framed time host.old (lent (shown dynamic.old sram.old page.old) reply.old config.old receive.old cables.old received.old sending.now)).lent) }
 {
     let f = Host::microframe(
         *host, time, dynamic, sram, page, reply, config, receive, cables, received, sending,

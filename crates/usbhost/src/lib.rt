@@ -1,4 +1,6 @@
 // The host record, and the calls on it: microframe, MIDI and serial send, frames given and taken, device access.
+#![tactic(auto)]
+
 ghost use Rattle.std.specs.Prelude.{◌≡◌, ◌++◌, ℕ, ◌+◌, ◌-◌, ◌*◌, ◌≤◌, length, take, drop, replicate, leb};
 ghost use Rattle.std.proofs.lemmas.List.Edits.{sets};
 ghost use Rattle.bits.specs.Pick.{pick};
@@ -549,7 +551,7 @@ fn microframe_number(
     received: &[u32],
     sending: &[u32],
 ) -> u8
-    ensures { result ≡ frame_number (bare s spans packers setups.now) (lent (shown dynamic.entry sram.entry page.entry) reply.now config.now receive.now cables.now received.now sending.now) }
+    ensures { result ≡ frame_number (bare s spans packers setups.now) (lent (shown dynamic.now sram.now page.now) reply.now config.now receive.now cables.now received.now sending.now) }
 {
     let sized = bus::sized(dynamic, sram, page);
     let lengths = lengths_ok(
@@ -604,7 +606,7 @@ pub fn run_microframe(
     sending: &[u32],
     time: u64,
 ) -> Stored
-    ensures { FramePromise time (host_of s c packers (own setups.old midi.old serial.old device.old)) (lent (shown dynamic.entry sram.entry page.entry) reply.old config.old receive.old cables.old received.old sending.now) result (own setups.new midi.new serial.new device.new) (lent (shown dynamic.exit sram.exit page.exit) reply.new config.new receive.new cables.new received.new sending.now) }
+    ensures { FramePromise time (host_of s c packers (own setups.old midi.old serial.old device.old)) (lent (shown dynamic.old sram.old page.old) reply.old config.old receive.old cables.old received.old sending.now) result (own setups.new midi.new serial.new device.new) (lent (shown dynamic.new sram.new page.new) reply.new config.new receive.new cables.new received.new sending.now) }
 {
     let spans = c.spans;
     let fresh = unanswered(s);
@@ -671,7 +673,7 @@ fn access_number(
     off: u32,
     size: u32,
 ) -> u8
-    ensures* { do ⌜ result ≡ access_number (bare s spans packers setups.now) (length page.now) off size ⌝ }
+    ensures { result ≡ access_number (bare s spans packers setups.now) (length page.now) off size }
 {
     let seen = usbdev::read(page, off, size);
     let five = first_of(bounds::in_bounds(s, packers, setups), 0, 5);
@@ -849,7 +851,7 @@ impl Host {
         received: &mut [u32],
         sending: &[u32],
     ) -> Framed
-        ensures { (result ≡ frame_answer time self (lent (shown dynamic.entry sram.entry page.entry) reply.old config.old receive.old cables.old received.old sending.now)) × (lent (shown dynamic.exit sram.exit page.exit) reply.new config.new receive.new cables.new received.new sending.now ≡ (framed time self (lent (shown dynamic.entry sram.entry page.entry) reply.old config.old receive.old cables.old received.old sending.now)).lent) }
+        ensures { (result ≡ frame_answer time self (lent (shown dynamic.old sram.old page.old) reply.old config.old receive.old cables.old received.old sending.now)) × (lent (shown dynamic.new sram.new page.new) reply.new config.new receive.new cables.new received.new sending.now ≡ (framed time self (lent (shown dynamic.old sram.old page.old) reply.old config.old receive.old cables.old received.old sending.now)).lent) }
     {
         let s = self.state();
         let settings = self.settings;

@@ -1,0 +1,21 @@
+-- `usbhost::access_number` meets its contract.
+use mathlib.Core.List.{[]}
+use lib.Dec.{eqb, leb}
+use lib.ListN.{length}
+use Rattle.usbdev.specs.Access.{fits, refusal, reading}
+use Rattle.bounds.specs.Bounds.{in_bounds}
+use Rattle.usbhost.specs.Host.{no_settings}
+use Rattle.usbhost.specs.Calls.{access_number}
+use Rattle.usbhost.specs.Promises.{with_spans}
+use Rattle.record.specs.World.{own}
+use Rattle.usbhost.proofs.Laws.{same_bounds, access_by}
+use Rattle.usbhost.proofs.access_number.Goals as goal
+
+pub returns : goal.returns
+unfolding access_number reading refusal
+returns c =
+    let a = c.args in
+    let bounded = same_bounds a.s (with_spans no_settings a.spans) a.packers (own a.setups.now [] [] []) in
+    let n = length a.page.now in
+    rw (c.first_of.ensures, c.first_of-three.ensures, c.first_of-four.ensures, c.first_of-five.ensures, c.in_bounds.ensures, c.read-seen.ensures, bounded)
+    (access_by (eqb n 4096) (leb a.spans 16) (fits a.off a.size) (in_bounds a.s a.packers a.setups.now))

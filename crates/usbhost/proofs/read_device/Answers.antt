@@ -1,0 +1,13 @@
+-- `usbhost::read_device` meets its contract.
+use Rattle.usbhost.proofs.Outcomes.{read_stops, read_goes}
+use Rattle.usbhost.proofs.read_device.Goals as goal
+
+pub returns-then-number-ne0 : goal.returns-then-number-ne0
+returns-then-number-ne0 c =
+    let a = c.args in
+    read_stops a.s a.spans a.packers a.setups.now a.page.now a.off a.size c.access_number-number.ensures c.if-number-ne0.true
+
+pub returns : goal.returns
+returns c =
+    let a = c.args in
+    read_goes a.s a.spans a.packers a.setups.now a.page.now a.off a.size c.access_number-number.ensures c.if-number-ne0.false c.read.result c.read.ensures
