@@ -1,4 +1,6 @@
 // A microframe on the host record behind a reference.
+#![tactic(auto)]
+
 ghost use Rattle.std.specs.Prelude.{◌≡◌};
 ghost use Rattle.bus.specs.Memory.{shown};
 ghost use Rattle.record.specs.World.{lent};
