@@ -1,5 +1,5 @@
 -- A queue of setups behind a run of addresses is tested as it stands alone. Assumes nothing.
-use Rattle.std.proofs.Common.{◌≡◌, ℕ, zero, suc, ◌+◌, ◌-◌, ◌*◌, Bool, true, false, ◌&&◌, leb, List, [], ◌∷◌, ◌++◌, get_or, refl, ap, ◌∙◌, append_assoc, suc-add, zero-add, arith}
+use Rattle.std.proofs.Common.{◌≡◌, ℕ, zero, suc, ◌+◌, ◌-◌, ◌*◌, ◌&&◌, leb, List, ◌++◌, get_or, refl, ap, ◌∙◌, append_assoc, suc-add, zero-add, arith}
 use mathlib.Core.List.{flat_map}
 use Rattle.record.specs.Setups.{little}
 use Rattle.bounds.specs.Bounds.{made, made_at, all_made, other, none_asks, setups_ok}

@@ -1,5 +1,5 @@
 -- Every limit of the numbers of refusal (documents 01 and 02), and one past it, in all calls: one table, about the numbers that the calls' contracts cite.
-use Rattle.std.specs.Prelude.{◌≡◌, ℕ, zero, suc, ◌+◌, ◌-◌, ◌*◌, ◌^◌, List, [], ◌∷◌, ◌++◌, map, set, replicate, slice_set}
+use Rattle.std.specs.Prelude.{◌≡◌, ℕ, zero, suc, ◌+◌, ◌-◌, ◌*◌, ◌^◌, List, [], ◌∷◌, ◌++◌, map, replicate, slice_set}
 use mathlib.Core.List.{flat_map}
 use Rattle.bits.specs.Pick.{pick}
 use Rattle.gptimers.specs.Timer.{ZERO}

@@ -1,17 +1,17 @@
 // Reads a run script from standard input, and writes its log, or a table of its runs.
+#![tactic(auto)]
+
 ghost use Rattle.std.specs.Prelude.{◌≤◌, length};
 
-use libc::STDERR_FILENO;
 use scripted::calls::{Next, Run};
 use scripted::table::Row;
 use scripted::{calls, lines, table};
 use stdio::Place;
 
 // How many runs are done, on standard error: at every 64th.
-fn progress(number: u64) {
+fn progress(rt: HostRuntime, number: u64) {
     if (0 < number) & (number % 64 == 0) {
-        io::print_decimal(STDERR_FILENO, number);
-        io::write_all(STDERR_FILENO, b" runs\r");
+        let _ = eprint!(rt; "{number} runs\r");
     }
 }
 
@@ -24,7 +24,13 @@ struct Work {
 }
 
 // The row of a run that a new one follows.
-fn row_before(before: Work, number: u64, out: &mut [u8; 65536], at: usize) -> table::Summed
+fn row_before(
+    rt: HostRuntime,
+    before: Work,
+    number: u64,
+    out: &mut [u8; 65536],
+    at: usize,
+) -> table::Summed
     requires { at ≤ 40000 }
     ensures { result.at ≤ 40400 }
 {
@@ -33,7 +39,7 @@ fn row_before(before: Work, number: u64, out: &mut [u8; 65536], at: usize) -> ta
     if run.number == number {
         return table::Summed { sums, at };
     }
-    progress(run.number);
+    progress(rt, run.number);
     table::end_run(run, sums, out, at)
 }
 
@@ -64,13 +70,20 @@ fn answered(before: Work, tabular: bool, next: Next) -> Work
 }
 
 // Behind that of a line that may start a run, which ends the one before it with a row of the table.
-fn settled(before: Work, tabular: bool, next: Next, out: &mut [u8; 65536], at: usize) -> Work
+fn settled(
+    rt: HostRuntime,
+    before: Work,
+    tabular: bool,
+    next: Next,
+    out: &mut [u8; 65536],
+    at: usize,
+) -> Work
     requires { ((before.at ≤ 40000) × (at ≤ 40000)) × (next.at ≤ 65536) }
     ensures { result.at ≤ 65536 }
 {
     let mut after = answered(before, tabular, next);
     if tabular {
-        let summed = row_before(before, after.run.number, out, at);
+        let summed = row_before(rt, before, after.run.number, out, at);
         let sums = summed.sums;
         after.sums = sums;
         after.at = summed.at;
@@ -80,6 +93,7 @@ fn settled(before: Work, tabular: bool, next: Next, out: &mut [u8; 65536], at: u
 
 // The line from `from` to `end`: microframes, which an empty line goes on with where some are left, or another answer.
 fn take_line(
+    rt: HostRuntime,
     before: Work,
     tabular: bool,
     text: &[u8],
@@ -153,7 +167,7 @@ fn take_line(
         received,
         sending,
     );
-    settled(before, tabular, next, out, at)
+    settled(rt, before, tabular, next, out, at)
 }
 
 // The good `w` line that stands whole from `from` on, taken: where the next one begins, or `from` where there is none.
@@ -225,6 +239,7 @@ fn pass_stores(
 
 // The next line; the stores before it are taken. It is an empty one where the text is read on, or microframes are left.
 fn next_line(
+    rt: HostRuntime,
     before: Place,
     left: u64,
     live: bool,
@@ -242,7 +257,7 @@ fn next_line(
         return stdio::no_line(before.next, held);
     }
     let next = pass_stores(live, &*text, before.next, held, memory, dynamic, sram, page);
-    stdio::next_line(text, next, held)
+    stdio::next_line(rt, text, next, held)
 }
 
 // The end of a table: the last run's row, the sums, and what stopped it.
@@ -284,12 +299,20 @@ fn ended(whole_table: bool, work: Work, out: &mut [u8; 65536]) -> usize
 }
 
 // Writes what is not written yet, and says what could not be read or written.
-fn finish(tabular: bool, unread: bool, unwritten: bool, work: Work, out: &mut [u8; 65536])
+fn finish(
+    rt: HostRuntime,
+    tabular: bool,
+    unread: bool,
+    unwritten: bool,
+    work: Work,
+    out: &mut [u8; 65536],
+)
     requires { work.at ≤ 40000 }
 {
     let end = ended(tabular & !unread, work, out);
     if tabular {
         stdio::finish(
+            rt,
             unread,
             unwritten,
             out,
@@ -300,6 +323,7 @@ fn finish(tabular: bool, unread: bool, unwritten: bool, work: Work, out: &mut [u
         return;
     }
     stdio::finish(
+        rt,
         unread,
         unwritten,
         out,
@@ -311,6 +335,7 @@ fn finish(tabular: bool, unread: bool, unwritten: bool, work: Work, out: &mut [u
 
 // The whole script, over its areas.
 fn run_areas(
+    rt: HostRuntime,
     tabular: bool,
     text: &mut [u8; 65536],
     setups: &mut [u8; record::SETUP_BYTES],
@@ -336,6 +361,7 @@ fn run_areas(
     let mut turns = u64::MAX;
     while turns > 0 && more {
         place = next_line(
+            rt,
             place,
             work.run.left,
             work.run.live,
@@ -346,20 +372,20 @@ fn run_areas(
             page,
         );
         work = take_line(
-            work, tabular, &*text, place.from, place.end, setups, midi, serial, device, dynamic,
-            sram, page, reply, config, receive, cables, received, sending, bytes, out,
+            rt, work, tabular, &*text, place.from, place.end, setups, midi, serial, device,
+            dynamic, sram, page, reply, config, receive, cables, received, sending, bytes, out,
         );
-        let answers = stdio::room(&*out, work.at);
+        let answers = stdio::room(rt, &*out, work.at);
         work.at = answers.at;
         failed = answers.failed;
         more = place.more & !(failed | work.run.stopped);
         turns -= 1;
     }
-    finish(tabular, place.failed, failed, work, out);
+    finish(rt, tabular, place.failed, failed, work, out);
 }
 
 // The script on standard input, up to a bad line: its log, or the table of its runs.
-pub fn run(tabular: bool) {
+pub fn run(rt: HostRuntime, tabular: bool) {
     let mut text = [0u8; 65536];
     let mut setups = [0u8; record::SETUP_BYTES];
     let mut midi = [0u8; record::QUEUE];
@@ -377,6 +403,7 @@ pub fn run(tabular: bool) {
     let mut bytes = [0u8; 32768];
     let mut out = [0u8; 65536];
     run_areas(
+        rt,
         tabular,
         &mut text,
         &mut setups,

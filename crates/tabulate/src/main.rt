@@ -1,4 +1,6 @@
 // Runs the script on standard input by the host's calls, and writes a table of what each run counted.
-fn main() {
-    reader::run(true);
+#![tactic(auto)]
+
+fn main(rt: HostRuntime) {
+    reader::run(rt, true);
 }
