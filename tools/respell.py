@@ -14,12 +14,15 @@ import sys
 
 WORD = r"[^\s(){}.;,@\"«»`]+"
 DECLARED = re.compile(r"^\s*(?:(?:abbrev|unfoldable|pub|ruleset) +)*(?!let |in |use |where |elim )(" + WORD + r")(?: +[({].*)? : ")
+SEVERAL = re.compile(r"^ +(?!let |in |use |where |elim |abbrev |pub |unfoldable )((?:[A-Za-z][\w'-]* +)+[A-Za-z][\w'-]*) : ")
 DECLARED_END = re.compile(r"^\s*(?:(?:abbrev|unfoldable|pub) +)*(" + WORD + r") :$")
 
 
 # Names that would meet another in snake case and are no lemma in kebab case: a lemma, or a field, beside a definition of its name.
 OWN = {name: name + "_lem" for name in "after_run bytes_read ends_by fixed_held held_bytes holds_frame in_bytes in_moved none_above plain_by".split()}
 OWN |= {"midiAsleep": "is_midi_asleep"}
+# Fields of limits that would have the names of the counters that they are about.
+COUNTS = "in-transfers out-transfers in-frames out-frames bad-blocks midi-dtds midi-asleep out-underruns midi-packets-out vendor-in-bytes".split()
 # Names that a library has too and that files import from there.
 STAYS = {"take-length", "not-true"}
 # The same as OWN within one crate.
@@ -30,6 +33,8 @@ def spelled(name):
     """The new spelling of a name that the crates declare."""
     if name in OWN:
         return OWN[name]
+    if name in COUNTS:
+        return name.replace("-", "_") + "_count"
     if name in STAYS:
         return name
     if re.fullmatch(r"[A-Z][A-Za-z0-9]*[₀-₉]*'*", name) or not re.fullmatch(r"[A-Za-z0-9_₀-₉'-]+", name) or not re.match(r"[A-Za-z]", name):
@@ -70,6 +75,9 @@ def declared(root):
             if re.match(r"^\S", text):
                 record = bool(re.match(r"(pub )?record ", text))
             m = DECLARED.match(text) or DECLARED_END.match(text)
+            if not is_walk(p) and SEVERAL.match(text):  # constructors of one type
+                names |= set(SEVERAL.match(text)[1].split())
+                continue
             if not m or (is_walk(p) and (re.search(r" : \{?(tie|goal)\.| : \{M : ", text) or m[1].endswith("-spec"))):
                 continue
             names.add(m[1])

@@ -16,29 +16,29 @@ use Rattle.usbhost.specs.Promises.{with_spans}
 
 pub data Field : Type 0 where
   -- the lengths of what a call is lent, given and sent, where a device access lies, and the cable of a MIDI send
-  dynamic static page reply-area config-area receive-area cables_area received-ring sending-ring frame-words serial-bytes offset size cable : Field
+  dynamic static page reply_area config_area receive_area cables_area received_ring sending_ring frame_words serial_bytes offset size cable : Field
   -- the record: a phase by its place among the five, and 1 where a flag is set
-  spans phase uf microframes phase-start waiting midi serial device config credit budget block channels received-start : Field
-  received-held sending-start sending-held running first second reply request-start zero-set zero-count one_set one-count : Field
+  spans phase uf microframes phase_start waiting midi serial device config credit budget block channels received_start : Field
+  received_held sending_start sending_held running first second reply request_start zero_set zero_count one_set one_count : Field
   -- one cable's packer; the other fifteen hold nothing
-  packer-cable status held sysex : Field
+  packer_cable status held sysex : Field
   -- its counters but that of microframes
-  in-transfers out-transfers in-frames out-frames bad-blocks midi-dtds midi-asleep out-underruns midi-packets-out : Field
-  vendor-in-bytes restarts enumerations : Field
+  in_transfers_count out_transfers_count in_frames_count out_frames_count bad_blocks_count midi_dtds_count midi_asleep_count out_underruns_count midi_packets_out_count : Field
+  vendor_in_bytes_count restarts enumerations : Field
 
 -- a field's place among the fields, and its value in the usual case
 unfoldable pub usual : Field → ℕ × ℕ
 usual dynamic = (0, 4096)
 usual static = (1, 65536)
 usual page = (2, 4096)
-usual reply-area = (3, 65535)
-usual config-area = (4, 65535)
-usual receive-area = (5, 196608)
+usual reply_area = (3, 65535)
+usual config_area = (4, 65535)
+usual receive_area = (5, 196608)
 usual cables_area = (6, 196608)
-usual received-ring = (7, 576000)
-usual sending-ring = (8, 84)
-usual frame-words = (9, 12)
-usual serial-bytes = (10, 1)
+usual received_ring = (7, 576000)
+usual sending_ring = (8, 84)
+usual frame_words = (9, 12)
+usual serial_bytes = (10, 1)
 usual offset = (11, 512)
 usual size = (12, 4)
 usual cable = (13, 0)
@@ -46,7 +46,7 @@ usual spans = (14, 0)
 usual phase = (15, 4)
 usual uf = (16, 3)
 usual microframes = (17, 3)
-usual phase-start = (18, 0)
+usual phase_start = (18, 0)
 usual waiting = (19, 0)
 usual midi = (20, 0)
 usual serial = (21, 0)
@@ -56,33 +56,33 @@ usual credit = (24, 0)
 usual budget = (25, 0)
 usual block = (26, 368)
 usual channels = (27, 12)
-usual received-start = (28, 0)
-usual received-held = (29, 0)
-usual sending-start = (30, 0)
-usual sending-held = (31, 0)
+usual received_start = (28, 0)
+usual received_held = (29, 0)
+usual sending_start = (30, 0)
+usual sending_held = (31, 0)
 usual running = (32, 0)
 usual first = (33, 0)
 usual second = (34, 0)
 usual reply = (35, 0)
-usual request-start = (36, 0)
-usual zero-set = (37, 0)
-usual zero-count = (38, 0)
+usual request_start = (36, 0)
+usual zero_set = (37, 0)
+usual zero_count = (38, 0)
 usual one_set = (39, 0)
-usual one-count = (40, 0)
-usual packer-cable = (41, 0)
+usual one_count = (40, 0)
+usual packer_cable = (41, 0)
 usual status = (42, 0)
 usual held = (43, 0)
 usual sysex = (44, 0)
-usual in-transfers = (45, 0)
-usual out-transfers = (46, 0)
-usual in-frames = (47, 0)
-usual out-frames = (48, 0)
-usual bad-blocks = (49, 0)
-usual midi-dtds = (50, 0)
-usual midi-asleep = (51, 0)
-usual out-underruns = (52, 0)
-usual midi-packets-out = (53, 0)
-usual vendor-in-bytes = (54, 0)
+usual in_transfers_count = (45, 0)
+usual out_transfers_count = (46, 0)
+usual in_frames_count = (47, 0)
+usual out_frames_count = (48, 0)
+usual bad_blocks_count = (49, 0)
+usual midi_dtds_count = (50, 0)
+usual midi_asleep_count = (51, 0)
+usual out_underruns_count = (52, 0)
+usual midi_packets_out_count = (53, 0)
+usual vendor_in_bytes_count = (54, 0)
 usual restarts = (55, 0)
 usual enumerations = (56, 0)
 
@@ -106,7 +106,7 @@ state_by v o =
       port =
           record {
             uf = v uf;
-            t = v phase-start;
+            t = v phase_start;
             suspended = o.port.suspended;
             gone = o.port.gone;
             was_running = o.port.was_running;
@@ -119,8 +119,8 @@ state_by v o =
             budget = v budget;
             block = v block;
             channels = v channels;
-            received = record { start = v received-start; len = v received-held };
-            sending = record { start = v sending-start; len = v sending-held };
+            received = record { start = v received_start; len = v received_held };
+            sending = record { start = v sending_start; len = v sending_held };
           };
       control =
           record {
@@ -129,25 +129,25 @@ state_by v o =
             first = v first;
             second = v second;
             got = v reply;
-            t0 = v request-start;
+            t0 = v request_start;
           };
       timers =
           record {
-            zero = record { set = flag (v zero-set); count = v zero-count };
-            one = record { set = flag (v one_set); count = v one-count };
+            zero = record { set = flag (v zero_set); count = v zero_count };
+            one = record { set = flag (v one_set); count = v one_count };
           };
       stats =
           v microframes
-          ∷ v in-transfers
-          ∷ v out-transfers
-          ∷ v in-frames
-          ∷ v out-frames
-          ∷ v bad-blocks
-          ∷ v midi-dtds
-          ∷ v midi-asleep
-          ∷ v out-underruns
-          ∷ v midi-packets-out
-          ∷ v vendor-in-bytes
+          ∷ v in_transfers_count
+          ∷ v out_transfers_count
+          ∷ v in_frames_count
+          ∷ v out_frames_count
+          ∷ v bad_blocks_count
+          ∷ v midi_dtds_count
+          ∷ v midi_asleep_count
+          ∷ v out_underruns_count
+          ∷ v midi_packets_out_count
+          ∷ v vendor_in_bytes_count
           ∷ v restarts
           ∷ v enumerations
           ∷ [];
@@ -160,7 +160,7 @@ packer_with s n x o = record { status = s; first = o.first; second = o.second; h
 
 abbrev packer_on : (Field → ℕ) → Host → ℕ → Packer
 packer_on v o n =
-    pick (n == v packer-cable) (packer_with (v status) (v held) (v sysex) (packer_at o.packers n))
+    pick (n == v packer_cable) (packer_with (v status) (v held) (v sysex) (packer_at o.packers n))
     (packer_with 0 0 0 (packer_at o.packers n))
 
 -- the cables, by their numbers
@@ -212,14 +212,14 @@ long_in v =
       dynamic = v dynamic;
       sram = v static;
       page = v page;
-      reply = v reply-area;
-      config = v config-area;
-      receive = v receive-area;
+      reply = v reply_area;
+      config = v config_area;
+      receive = v receive_area;
       cables = v cables_area;
-      received = v received-ring;
-      sending = v sending-ring;
-      frame = v frame-words;
-      bytes = v serial-bytes;
+      received = v received_ring;
+      sending = v sending_ring;
+      frame = v frame_words;
+      bytes = v serial_bytes;
     }
 
 -- in the order microframe, MIDI send, serial send, frame given, frame taken, device access

@@ -8,7 +8,7 @@ use Rattle.record.specs.Setups.{little}
 use Rattle.bounds.specs.Bounds.{made}
 use Rattle.usbhost.specs.Host.{created}
 use Rattle.usbhost.specs.Promises.{with_spans}
-use Rattle.limits.specs.Cases.{Field, Row, Table, calls, every_cable, dynamic, static, page, reply-area, config-area, receive-area, cables_area, received-ring, sending-ring, frame-words, serial-bytes, offset, size, cable, spans, phase, uf, microframes, phase-start, waiting, midi, serial, device, config, credit, budget, block, channels, received-start, received-held, sending-start, sending-held, running, first, second, reply, request-start, zero-set, zero-count, one_set, one-count, packer-cable, status, held, sysex, in-transfers, out-transfers, in-frames, out-frames, bad-blocks, midi-dtds, midi-asleep, out-underruns, midi-packets-out, vendor-in-bytes, restarts, enumerations}
+use Rattle.limits.specs.Cases.{Field, Row, Table, calls, every_cable, dynamic, static, page, reply_area, config_area, receive_area, cables_area, received_ring, sending_ring, frame_words, serial_bytes, offset, size, cable, spans, phase, uf, microframes, phase_start, waiting, midi, serial, device, config, credit, budget, block, channels, received_start, received_held, sending_start, sending_held, running, first, second, reply, request_start, zero_set, zero_count, one_set, one_count, packer_cable, status, held, sysex, in_transfers_count, out_transfers_count, in_frames_count, out_frames_count, bad_blocks_count, midi_dtds_count, midi_asleep_count, out_underruns_count, midi_packets_out_count, vendor_in_bytes_count, restarts, enumerations}
 
 -- ---- rows: what is not as usual, and the numbers of microframe, MIDI send, serial send, frame given, frame taken, device access
 
@@ -78,37 +78,37 @@ windows =
 
 unfoldable pub areas : List Row
 areas =
-    at reply-area 65534 (calls 2 0 0 0 0 0)
-    ∷ at reply-area 65535 none
-    ∷ at config-area 65534 (calls 2 0 0 0 0 0)
-    ∷ at config-area 65535 none
-    ∷ at receive-area 196607 (calls 2 0 0 0 0 0)
-    ∷ at receive-area 196608 none
+    at reply_area 65534 (calls 2 0 0 0 0 0)
+    ∷ at reply_area 65535 none
+    ∷ at config_area 65534 (calls 2 0 0 0 0 0)
+    ∷ at config_area 65535 none
+    ∷ at receive_area 196607 (calls 2 0 0 0 0 0)
+    ∷ at receive_area 196608 none
     ∷ at cables_area 196607 (calls 2 0 0 0 0 0)
     ∷ at cables_area 196608 none
-    ∷ at received-ring 0 (calls 2 0 0 0 2 0)
-    ∷ at received-ring 84 (calls 2 0 0 0 2 0)
-    ∷ at received-ring 575999 (calls 2 0 0 0 2 0)
-    ∷ at received-ring 576000 none
-    ∷ at received-ring 576001 (calls 2 0 0 0 2 0)
-    ∷ at received-ring 576012 (calls 2 0 0 0 2 0)
-    ∷ at sending-ring 0 (calls 2 0 0 2 0 0)
-    ∷ at sending-ring 72 (calls 2 0 0 2 0 0)
-    ∷ at sending-ring 83 (calls 2 0 0 2 0 0)
-    ∷ at sending-ring 84 none
-    ∷ at sending-ring 85 (calls 2 0 0 2 0 0)
-    ∷ at sending-ring 95 (calls 2 0 0 2 0 0)
-    ∷ at sending-ring 96 none
-    ∷ at sending-ring 575988 none
-    ∷ at sending-ring 575999 (calls 2 0 0 2 0 0)
-    ∷ at sending-ring 576000 none
-    ∷ at sending-ring 576001 (calls 2 0 0 2 0 0)
-    ∷ at sending-ring 576012 (calls 2 0 0 2 0 0)
-    ∷ at frame-words 0 (calls 0 0 0 2 0 0)
-    ∷ at frame-words 11 (calls 0 0 0 2 0 0)
-    ∷ at frame-words 12 none
-    ∷ at frame-words 13 (calls 0 0 0 2 0 0)
-    ∷ at frame-words 24 (calls 0 0 0 2 0 0)
+    ∷ at received_ring 0 (calls 2 0 0 0 2 0)
+    ∷ at received_ring 84 (calls 2 0 0 0 2 0)
+    ∷ at received_ring 575999 (calls 2 0 0 0 2 0)
+    ∷ at received_ring 576000 none
+    ∷ at received_ring 576001 (calls 2 0 0 0 2 0)
+    ∷ at received_ring 576012 (calls 2 0 0 0 2 0)
+    ∷ at sending_ring 0 (calls 2 0 0 2 0 0)
+    ∷ at sending_ring 72 (calls 2 0 0 2 0 0)
+    ∷ at sending_ring 83 (calls 2 0 0 2 0 0)
+    ∷ at sending_ring 84 none
+    ∷ at sending_ring 85 (calls 2 0 0 2 0 0)
+    ∷ at sending_ring 95 (calls 2 0 0 2 0 0)
+    ∷ at sending_ring 96 none
+    ∷ at sending_ring 575988 none
+    ∷ at sending_ring 575999 (calls 2 0 0 2 0 0)
+    ∷ at sending_ring 576000 none
+    ∷ at sending_ring 576001 (calls 2 0 0 2 0 0)
+    ∷ at sending_ring 576012 (calls 2 0 0 2 0 0)
+    ∷ at frame_words 0 (calls 0 0 0 2 0 0)
+    ∷ at frame_words 11 (calls 0 0 0 2 0 0)
+    ∷ at frame_words 12 none
+    ∷ at frame_words 13 (calls 0 0 0 2 0 0)
+    ∷ at frame_words 24 (calls 0 0 0 2 0 0)
     ∷ []
 
 -- ---- 3: gone spans in the record
@@ -175,36 +175,36 @@ queues =
     ∷ at device 65 (all 5)
     ∷ at config 65535 none
     ∷ at config 65536 (calls 5 0 0 0 0 0)
-    ∷ both config 65536 config-area 65536 none
-    ∷ both config 65537 config-area 65536 (calls 5 0 0 0 0 0)
+    ∷ both config 65536 config_area 65536 none
+    ∷ both config 65537 config_area 65536 (calls 5 0 0 0 0 0)
     ∷ []
 
 unfoldable pub rings : List Row
 rings =
-    at received-start 47999 none
-    ∷ at received-start 48000 (calls 5 0 0 0 5 0)
-    ∷ at received-held 48000 none
-    ∷ at received-held 48001 (calls 5 0 0 0 5 0)
-    ∷ both received-start 47999 received-held 48000 none
-    ∷ at sending-start 6 none
-    ∷ at sending-start 7 (calls 5 0 0 5 0 0)
-    ∷ at sending-start (2 ^ 64 - 1) (calls 5 0 0 5 0 0)
-    ∷ at sending-held 6 none
-    ∷ at sending-held 7 (calls 0 0 0 7 0 0)
-    ∷ at sending-held 8 (calls 5 0 0 5 0 0)
-    ∷ both sending-start 6 sending-held 6 none
-    ∷ both sending-start 6 sending-held 7 (calls 0 0 0 7 0 0)
-    ∷ both sending-start 6 sending-held 8 (calls 5 0 0 5 0 0)
-    ∷ both sending-ring 96 sending-start 7 none
-    ∷ both sending-ring 96 sending-start 8 (calls 5 0 0 5 0 0)
-    ∷ both sending-ring 96 sending-held 7 none
-    ∷ both sending-ring 96 sending-held 8 (calls 0 0 0 7 0 0)
-    ∷ both sending-ring 96 sending-held 9 (calls 5 0 0 5 0 0)
-    ∷ both sending-ring 576000 sending-start 47999 none
-    ∷ both sending-ring 576000 sending-start 48000 (calls 5 0 0 5 0 0)
-    ∷ both sending-ring 576000 sending-held 47999 none
-    ∷ both sending-ring 576000 sending-held 48000 (calls 0 0 0 7 0 0)
-    ∷ both sending-ring 576000 sending-held 48001 (calls 5 0 0 5 0 0)
+    at received_start 47999 none
+    ∷ at received_start 48000 (calls 5 0 0 0 5 0)
+    ∷ at received_held 48000 none
+    ∷ at received_held 48001 (calls 5 0 0 0 5 0)
+    ∷ both received_start 47999 received_held 48000 none
+    ∷ at sending_start 6 none
+    ∷ at sending_start 7 (calls 5 0 0 5 0 0)
+    ∷ at sending_start (2 ^ 64 - 1) (calls 5 0 0 5 0 0)
+    ∷ at sending_held 6 none
+    ∷ at sending_held 7 (calls 0 0 0 7 0 0)
+    ∷ at sending_held 8 (calls 5 0 0 5 0 0)
+    ∷ both sending_start 6 sending_held 6 none
+    ∷ both sending_start 6 sending_held 7 (calls 0 0 0 7 0 0)
+    ∷ both sending_start 6 sending_held 8 (calls 5 0 0 5 0 0)
+    ∷ both sending_ring 96 sending_start 7 none
+    ∷ both sending_ring 96 sending_start 8 (calls 5 0 0 5 0 0)
+    ∷ both sending_ring 96 sending_held 7 none
+    ∷ both sending_ring 96 sending_held 8 (calls 0 0 0 7 0 0)
+    ∷ both sending_ring 96 sending_held 9 (calls 5 0 0 5 0 0)
+    ∷ both sending_ring 576000 sending_start 47999 none
+    ∷ both sending_ring 576000 sending_start 48000 (calls 5 0 0 5 0 0)
+    ∷ both sending_ring 576000 sending_held 47999 none
+    ∷ both sending_ring 576000 sending_held 48000 (calls 0 0 0 7 0 0)
+    ∷ both sending_ring 576000 sending_held 48001 (calls 5 0 0 5 0 0)
     ∷ []
 
 -- ---- 5: the stream
@@ -252,12 +252,12 @@ counts =
     ∷ at microframes 2 (all 5)
     ∷ at microframes 4 (all 5)
     ∷ after (2 ^ 40) microframes (2 ^ 40 + 1) (all 5)
-    ∷ after 0 phase-start 0 none
-    ∷ after 0 phase-start 1 (all 5)
-    ∷ at phase-start 3 none
-    ∷ at phase-start 4 (all 5)
-    ∷ after (2 ^ 40) phase-start (2 ^ 40) (calls 6 0 0 0 0 0)
-    ∷ after (2 ^ 40) phase-start (2 ^ 40 + 1) (all 5)
+    ∷ after 0 phase_start 0 none
+    ∷ after 0 phase_start 1 (all 5)
+    ∷ at phase_start 3 none
+    ∷ at phase_start 4 (all 5)
+    ∷ after (2 ^ 40) phase_start (2 ^ 40) (calls 6 0 0 0 0 0)
+    ∷ after (2 ^ 40) phase_start (2 ^ 40 + 1) (all 5)
     ∷ []
 
 -- ---- 5: timers, of which `set` says whether one counts
@@ -277,7 +277,7 @@ timer on count =
     ∷ []
 
 unfoldable pub timers : List Row
-timers = timer zero-set zero-count ++ timer one_set one-count
+timers = timer zero_set zero_count ++ timer one_set one_count
 
 -- ---- 5: the twelve other counters
 
@@ -294,8 +294,8 @@ counter f =
 unfoldable pub counters : List Row
 counters =
     flat_map counter
-    (in-transfers ∷ out-transfers ∷ in-frames ∷ out-frames ∷ bad-blocks ∷ midi-dtds ∷ midi-asleep ∷ out-underruns ∷ midi-packets-out
-    ∷ vendor-in-bytes ∷ restarts ∷ enumerations ∷ [])
+    (in_transfers_count ∷ out_transfers_count ∷ in_frames_count ∷ out_frames_count ∷ bad_blocks_count ∷ midi_dtds_count ∷ midi_asleep_count ∷ out_underruns_count ∷ midi_packets_out_count
+    ∷ vendor_in_bytes_count ∷ restarts ∷ enumerations ∷ [])
 
 -- ---- 5: setups, each of eight bytes (USB 2.0, 9.3)
 
@@ -428,7 +428,7 @@ wordless = (phase, 3) ∷ (running, 1) ∷ (first, little configuration 0) ∷ (
 
 -- a request that began at x runs after 2^40 microframes
 abbrev pub begun : ℕ → List ℕ → Row
-begun x = with ((request-start, x) ∷ (uf, 2 ^ 40) ∷ (microframes, 2 ^ 40) ∷ (phase, 3) ∷ (running, 1) ∷ (first, little address 0) ∷ (second, little address 4) ∷ [])
+begun x = with ((request_start, x) ∷ (uf, 2 ^ 40) ∷ (microframes, 2 ^ 40) ∷ (phase, 3) ∷ (running, 1) ∷ (first, little address 0) ∷ (second, little address 4) ∷ [])
 
 -- a reply no longer than its request asks, and in its area; a request that began no later than now
 unfoldable pub requests : List Row
@@ -446,11 +446,11 @@ requests =
     ∷ runs address 0 [] reply 0 none
     ∷ runs address 0 [] reply 1 (all 5)
     ∷ with ((reply, 65536) ∷ wordless) (calls 5 0 0 0 0 0)
-    ∷ with ((reply, 65536) ∷ (reply-area, 65536) ∷ wordless) none
+    ∷ with ((reply, 65536) ∷ (reply_area, 65536) ∷ wordless) none
     ∷ at reply 65536 none
-    ∷ runs address 0 [] request-start 3 none
-    ∷ runs address 0 [] request-start 4 (all 5)
-    ∷ at request-start 4 none
+    ∷ runs address 0 [] request_start 3 none
+    ∷ runs address 0 [] request_start 4 (all 5)
+    ∷ at request_start 4 none
     ∷ begun (2 ^ 40) (calls 6 0 0 0 0 0)
     ∷ begun (2 ^ 40 + 1) (all 5)
     ∷ []
@@ -478,17 +478,17 @@ packers =
 -- of each cable's packer, where the send is on cable 0
 abbrev pub of_cable : ℕ → List Row
 of_cable n =
-    with ((packer-cable, n) ∷ (held, 2) ∷ (status, 0x90) ∷ []) none
-    ∷ with ((packer-cable, n) ∷ (held, 3) ∷ (status, 0x90) ∷ []) (all 5)
-    ∷ with ((packer-cable, n) ∷ (held, 2) ∷ (status, 0xC0) ∷ []) (all 5)
+    with ((packer_cable, n) ∷ (held, 2) ∷ (status, 0x90) ∷ []) none
+    ∷ with ((packer_cable, n) ∷ (held, 3) ∷ (status, 0x90) ∷ []) (all 5)
+    ∷ with ((packer_cable, n) ∷ (held, 2) ∷ (status, 0xC0) ∷ []) (all 5)
     ∷ []
 
 -- and where it is on the packer's own cable, or on another
 unfoldable pub every_packer : List Row
 every_packer =
     flat_map of_cable every_cable
-    ++ (with ((packer-cable, 15) ∷ (held, 3) ∷ (cable, 15) ∷ []) (all 5)
-    ∷ with ((packer-cable, 0) ∷ (held, 3) ∷ (cable, 15) ∷ []) (all 5)
+    ++ (with ((packer_cable, 15) ∷ (held, 3) ∷ (cable, 15) ∷ []) (all 5)
+    ∷ with ((packer_cable, 0) ∷ (held, 3) ∷ (cable, 15) ∷ []) (all 5)
     ∷ [])
 
 -- ---- 7: sends at the limits of their queues
@@ -507,17 +507,17 @@ space =
     ∷ sends (replicate 1024 0xF8) 0 none
     ∷ sends (replicate 1024 0xF8) 4 (calls 0 7 0 0 0 0)
     ∷ sends (replicate 1025 0xF8) 0 (calls 0 7 0 0 0 0)
-    ∷ both serial 4094 serial-bytes 2 none
-    ∷ both serial 4095 serial-bytes 2 (calls 0 0 7 0 0 0)
-    ∷ both serial 4096 serial-bytes 0 none
-    ∷ at serial-bytes 4096 none
-    ∷ both serial 1 serial-bytes 4096 (calls 0 0 7 0 0 0)
-    ∷ at serial-bytes 4097 (calls 0 0 7 0 0 0)
+    ∷ both serial 4094 serial_bytes 2 none
+    ∷ both serial 4095 serial_bytes 2 (calls 0 0 7 0 0 0)
+    ∷ both serial 4096 serial_bytes 0 none
+    ∷ at serial_bytes 4096 none
+    ∷ both serial 1 serial_bytes 4096 (calls 0 0 7 0 0 0)
+    ∷ at serial_bytes 4097 (calls 0 0 7 0 0 0)
     ∷ []
 
 -- a packer has two bytes of three, and the third is sent on a cable behind so many
 abbrev pub ends : ℕ → ℕ → ℕ → List ℕ → Row
-ends p n queued = sending (0x40 ∷ []) ((packer-cable, p) ∷ (status, 0x90) ∷ (held, 2) ∷ (cable, n) ∷ (midi, queued) ∷ [])
+ends p n queued = sending (0x40 ∷ []) ((packer_cable, p) ∷ (status, 0x90) ∷ (held, 2) ∷ (cable, n) ∷ (midi, queued) ∷ [])
 
 -- the packets are those of the send's own cable: on another the third byte makes none
 unfoldable pub room : List Row
@@ -535,14 +535,14 @@ room =
 
 unfoldable pub order : List Row
 order =
-    both static 65535 reply-area 65534 (calls 1 0 0 0 0 0)
+    both static 65535 reply_area 65534 (calls 1 0 0 0 0 0)
     ∷ both static 65535 cables_area 196607 (calls 1 0 0 0 0 0)
     ∷ both page 4095 spans 17 (calls 1 3 3 3 3 1)
-    ∷ both config-area 65534 spans 17 (calls 2 3 3 3 3 3)
+    ∷ both config_area 65534 spans 17 (calls 2 3 3 3 3 3)
     ∷ both cables_area 196607 spans 17 (calls 2 3 3 3 3 3)
-    ∷ both received-ring 575999 spans 17 (calls 2 3 3 3 2 3)
-    ∷ both sending-ring 83 spans 17 (calls 2 3 3 2 3 3)
-    ∷ both frame-words 11 spans 17 (calls 3 3 3 2 3 3)
+    ∷ both received_ring 575999 spans 17 (calls 2 3 3 3 2 3)
+    ∷ both sending_ring 83 spans 17 (calls 2 3 3 2 3 3)
+    ∷ both frame_words 11 spans 17 (calls 3 3 3 2 3 3)
     ∷ both spans 17 size 3 (all 3)
     ∷ both spans 17 device 65 (all 3)
     ∷ both size 3 device 65 (calls 5 5 5 5 5 4)
@@ -552,11 +552,11 @@ order =
     ∷ both cable 16 midi 4096 (calls 0 8 0 0 0 0)
     ∷ sending [] ((cable, 16) ∷ (device, 65) ∷ (midi, 4096) ∷ []) (calls 5 8 5 5 5 5)
     ∷ after (2 ^ 40) device 65 (all 5)
-    ∷ after (2 ^ 40) received-start 48000 (calls 5 0 0 0 5 0)
+    ∷ after (2 ^ 40) received_start 48000 (calls 5 0 0 0 5 0)
     ∷ both device 65 midi 4096 (all 5)
     ∷ both device 65 serial 4096 (all 5)
-    ∷ both device 65 sending-held 7 (all 5)
-    ∷ with ((dynamic, 6144) ∷ (page, 4097) ∷ (receive-area, 0) ∷ (cables_area, 0) ∷ (received-ring, 84) ∷ (sending-ring, 85) ∷ (spans, 17) ∷ (size, 3) ∷ (cable, 16) ∷ (device, 65) ∷ (uf, 2 ^ 40) ∷ (microframes, 2 ^ 40) ∷ (midi, 4096) ∷ (serial, 4096) ∷ []) (calls 1 3 3 2 2 1)
+    ∷ both device 65 sending_held 7 (all 5)
+    ∷ with ((dynamic, 6144) ∷ (page, 4097) ∷ (receive_area, 0) ∷ (cables_area, 0) ∷ (received_ring, 84) ∷ (sending_ring, 85) ∷ (spans, 17) ∷ (size, 3) ∷ (cable, 16) ∷ (device, 65) ∷ (uf, 2 ^ 40) ∷ (microframes, 2 ^ 40) ∷ (midi, 4096) ∷ (serial, 4096) ∷ []) (calls 1 3 3 2 2 1)
     ∷ []
 
 -- ---- what the table says, and 3 of `new`
