@@ -1,2 +1,1 @@
-pub mod Bytewise
 pub mod Clearing

@@ -1,27 +1,19 @@
 // FNV-1a hashes of 64 bits.
-ghost use Rattle.std.specs.Prelude.{◌≡◌, ◌*◌, ◌%◌, ◌^◌, ◌≤◌, length, take};
+ghost use Rattle.std.specs.Prelude.{◌≡◌, ◌≤◌, length, take};
 ghost use Rattle.script.specs.Fnv as F;
 
 // The hash of no bytes.
 pub const START: u64 = 0xCBF2_9CE4_8422_2325;
 
-// `h` times 100000001b3, modulo 2^64: bits 40, 8, 7, 5, 4, 1 and 0 are set.
-fn times_prime(h: u64) -> u64
-    ensures { result ≡ (h * F.PRIME) % 2 ^ 64 }
-{
-    let mut r = std::num::wrapping_add_u64(h, h << 40);
-    r = std::num::wrapping_add_u64(r, h << 8);
-    r = std::num::wrapping_add_u64(r, h << 7);
-    r = std::num::wrapping_add_u64(r, h << 5);
-    r = std::num::wrapping_add_u64(r, h << 4);
-    std::num::wrapping_add_u64(r, h << 1)
-}
+// The prime of 64 bits.
+const PRIME: u64 = 0x0100_0000_01B3;
 
 // The hash `h` with one more byte.
+#[tactic(auto, unfolding(crate::specs::Fnv::mixed))]
 pub fn mixed(h: u64, b: u8) -> u64
     ensures { result ≡ F.mixed h b }
 {
-    times_prime(h ^ bits::widest(b))
+    (h ^ u64::from(b)).wrapping_mul(PRIME)
 }
 
 // The hash of all bytes of a slice.
@@ -29,10 +21,8 @@ pub fn hash_all(bytes: &[u8]) -> u64
     ensures { result ≡ F.mixed_all F.START bytes.now }
 {
     let mut h = START;
-    let mut i = 0;
-    while i < bytes.len() {
-        h = mixed(h, bytes[i]);
-        i += 1;
+    for b in bytes {
+        h = mixed(h, *b);
     }
     h
 }

@@ -3,6 +3,11 @@
 
 ghost use Rattle.std.specs.Prelude.{◌≡◌, ◌-◌, ◌≤◌, length};
 
+mod input;
+mod output;
+
+pub use input::Input;
+pub use output::Output;
 use std::io::{Read, Write};
 
 // Where reading stands: the line from `from` to `end`, what is not taken yet from `next` to `held`, whether there may be more, and whether a

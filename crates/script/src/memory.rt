@@ -1,0 +1,150 @@
+// The lines of a run script that go through the three memory windows: stores, fills and looks. A bad line has no answer, and stores nothing.
+ghost use Rattle.std.specs.Prelude.{◌≡◌, ◌+◌, ◌*◌, ◌≤◌, ◌/◌, length, IfSome};
+ghost use Rattle.bus.specs.Memory.{shown};
+ghost use Rattle.bus.specs.Sized.{Sized};
+
+use crate::answers;
+use crate::words::{self, Words};
+use stdio::Output;
+
+// The byte of two digits that were looked at.
+fn byte(high: u8, low: u8) -> u8 {
+    words::byte(high, low).unwrap_or(0)
+}
+
+// The bytes of some digits at the start of a part of a window.
+fn put_digits(part: &mut [u8], digits: &[u8])
+    requires { length part.old ≤ length digits.now / 2 }
+{
+    for (i, b) in part.iter_mut().enumerate() {
+        *b = byte(digits[2 * i], digits[2 * i + 1]);
+    }
+}
+
+// The same at the address `a`, byte by byte; those outside the windows are dropped.
+fn poke_digits(dynamic: &mut [u8], sram: &mut [u8], page: &mut [u8], a: u32, digits: &[u8])
+    requires { Sized (shown dynamic.old sram.old page.old) }
+    ensures { Sized (shown dynamic.new sram.new page.new) }
+{
+    let mut address = a;
+    for i in 0..digits.len() / 2 {
+        let value = byte(digits[2 * i], digits[2 * i + 1]);
+        bus::poke8(dynamic, sram, page, address, value);
+        address = address.wrapping_add(1);
+    }
+}
+
+// Where `count` bytes from the address `a` on stand in a window of `length` bytes that begins at `base`, if they all do.
+fn place_in(length: usize, base: u32, a: u32, count: usize) -> Option<usize>
+    ensures { IfSome result (λ place. place + count ≤ length) }
+{
+    let place = a.checked_sub(base)? as usize;
+    if place <= length && count <= length - place {
+        Some(place)
+    } else {
+        None
+    }
+}
+
+// The same; bytes that lie together in dynamic memory or on the page are put there at once.
+fn store(dynamic: &mut [u8], sram: &mut [u8], page: &mut [u8], a: u32, digits: &[u8])
+    requires { Sized (shown dynamic.old sram.old page.old) }
+{
+    let count = digits.len() / 2;
+    if let Some(place) = place_in(dynamic.len(), 0x4000_0000, a, count) {
+        put_digits(&mut dynamic[place..place + count], digits);
+        return;
+    }
+    if let Some(place) = place_in(page.len(), 0xFC0B_0000, a, count) {
+        put_digits(&mut page[place..place + count], digits);
+        return;
+    }
+    poke_digits(dynamic, sram, page, a, digits);
+}
+
+// `w ADDR BYTES`; windows of wrong lengths keep theirs.
+pub fn store_line(line: &[u8], dynamic: &mut [u8], sram: &mut [u8], page: &mut [u8]) -> Option<()> {
+    let mut words = Words::new(line);
+    let a = words.word()?;
+    let digits = words.digits()?;
+    if bus::sized(&*dynamic, &*sram, &*page) {
+        store(dynamic, sram, page, a, digits);
+    }
+    Some(())
+}
+
+// `count` bytes of one value from the address `a` on.
+fn fill(dynamic: &mut [u8], sram: &mut [u8], page: &mut [u8], a: u32, count: u32, value: u8)
+    requires { Sized (shown dynamic.old sram.old page.old) }
+{
+    for i in 0..count {
+        bus::poke8(dynamic, sram, page, a.wrapping_add(i), value);
+    }
+}
+
+// `f ADDR COUNT VALUE`; the same.
+pub fn fill_line(line: &[u8], dynamic: &mut [u8], sram: &mut [u8], page: &mut [u8]) -> Option<()> {
+    let mut words = Words::new(line);
+    let a = words.word()?;
+    let count = words.word()?;
+    let value = u8::try_from(words.word()?).ok()?;
+    words.end()?;
+    if bus::sized(&*dynamic, &*sram, &*page) {
+        fill(dynamic, sram, page, a, count, value);
+    }
+    Some(())
+}
+
+// `count` bytes as they are seen from the address `a` on: 0 in windows of wrong lengths.
+fn show(dynamic: &[u8], sram: &[u8], page: &[u8], a: u32, count: u32, out: &mut Output) {
+    let sized = bus::sized(dynamic, sram, page);
+    for i in 0..count {
+        let mut seen = 0;
+        if sized {
+            seen = bus::peek8(dynamic, sram, page, a.wrapping_add(i));
+        }
+        answers::pair(out, seen);
+    }
+}
+
+// `p ADDR COUNT`: bytes as they are seen; at most 8,192 of them.
+pub fn look_line(
+    line: &[u8],
+    dynamic: &[u8],
+    sram: &[u8],
+    page: &[u8],
+    out: &mut Output,
+) -> Option<()> {
+    let mut words = Words::new(line);
+    let a = words.word()?;
+    let count = words.word()?;
+    words.end()?;
+    if 8192 < count {
+        return None;
+    }
+    if count == 0 {
+        out.append(b"p -");
+    } else {
+        out.append(b"p ");
+    }
+    show(dynamic, sram, page, a, count, out);
+    out.put(b'\n');
+    Some(())
+}
+
+// A line of one of these letters; any other is a bad one.
+pub fn line(
+    letter: u8,
+    line: &[u8],
+    dynamic: &mut [u8],
+    sram: &mut [u8],
+    page: &mut [u8],
+    out: &mut Output,
+) -> Option<()> {
+    match letter {
+        b'w' => store_line(line, dynamic, sram, page),
+        b'f' => fill_line(line, dynamic, sram, page),
+        b'p' => look_line(line, &*dynamic, &*sram, &*page, out),
+        _ => None,
+    }
+}
