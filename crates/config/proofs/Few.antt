@@ -10,7 +10,8 @@ use lib.Seq.{get_or-drop}
 use lib.Dec.{eqb, ltb}
 use Rattle.bits.specs.Pick.{pick, pick_both}
 use Rattle.config.specs.Config.{Walk, Interface, Bytes, Distinct, member, placed, interfaces, chosen, step, walked, cut, descriptors, start, parsed, whole, at, is_interface, interface_of, is_endpoint, counts, is_input, packet_size, slot}
-use Rattle.config.specs.Table.{Below, Valid}
+use Rattle.config.specs.Pairs.{Below, OneEach}
+use Rattle.config.specs.Table.{Valid}
 use Rattle.config.proofs.Cases.{by_test}
 
 -- a list without a number
@@ -77,6 +78,10 @@ few (suc k) l d b =
     let rest = few k (without k l) (distinct_without k l d) (below_without k l b) in
     omega (arith, length_without k l d)
 
+-- pairs whose interfaces are bytes, of which none stands twice, are at most 256
+pub one_each_few : (ps : List (ℕ × ℕ)) → OneEach ps → length ps ≤ 256
+one_each_few ps o = rw length-map at (few 256 (interfaces ps) o.distinct o.below)
+
 -- what is listed stays distinct as an interface takes an alternate
 module _ (i a : ℕ) where
   member_placed : (n : ℕ) (ps : List (ℕ × ℕ)) → (i ≡ n → ⊥) → member n (interfaces (placed i a ps)) ≡ member n (interfaces ps)
@@ -102,6 +107,9 @@ module _ (i a : ℕ) where
       by_test (eqb p.0 i)
       (λ e. rw e (h, b.1))
       (λ e. rw e (b.0, below_placed k ps h b.1))
+
+  pub one_each_placed : (ps : List (ℕ × ℕ)) → i < 256 → OneEach ps → OneEach (placed i a ps)
+  one_each_placed ps h o = record { distinct = distinct_placed ps o.distinct; below = below_placed 256 ps h o.below }
 
 -- a descriptor keeps what holds of the pairs before, and after the interface being read took its alternate
 step_keeps : (P : List (ℕ × ℕ) → Type 0) (x : List ℕ) (w : Walk) → P w.choice.pairs

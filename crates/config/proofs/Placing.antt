@@ -1,94 +1,97 @@
--- The pairs in two arrays: where an interface stands, and what a pair taken there leaves.
-use mathlib.Core.Path.{◌≡◌, refl, ap, ◌∙◌}
-use mathlib.Core.Bool.{Bool, true, false}
-use mathlib.Core.List.{List, [], ◌∷◌, ◌++◌, map}
-use Prim.Native.Nat.{ℕ, zero, suc, ◌+◌, ◌-◌, ◌≤◌, ◌<◌}
-use native.Mathlib.Omega.{arith}
-use native.Mathlib.Nat.{suc-sub-suc}
-use native.Mathlib.Numerals.{add-one, unary_clauses}
-use borrow.Author.Tests.{eq-eqb, ne_eqb, lt-ltb, ltb-true}
-use lib.ListN.{length, get_or, drop, set, replicate, length-append, length-replicate, length-map, get_or-append, get_or-map}
-use lib.Seq.{drop-cons}
-use lib.Dec.{eqb, ltb, leb-suc-suc}
-use Rattle.bits.specs.Pick.{pick}
-use Rattle.config.specs.Config.{member, placed, interfaces, Distinct}
-use Rattle.config.specs.Table.{position, padded, Below}
+-- Pairs in a list of structs: where an interface stands, and what a pair taken there leaves.
+use Rattle.std.specs.Prelude.{◌≡◌, ℕ, suc, ◌+◌, ◌≤◌, ◌<◌, Bool, true, false, List, [], ◌∷◌, ◌++◌, length, take, eqb, ltb, refl, Some, None, position, is_some}
+use Rattle.std.specs.List.{position_or_len}
+use Rattle.std.proofs.Common.{set, sym, ap, ◌∙◌, arith}
+use Rattle.std.proofs.lemmas.List.{map-set, map-append, take_more_set}
+use lib.ListN.{length-map, length-append}
+use lib.Seq.{length-take-le}
+use Rattle.std.proofs.Math.Seq.{take-set-lt}
+use borrow.Author.Tests.{lt-ltb, ltb-true}
+use lib.Dec.{leb-suc-suc}
+use Rattle.config.specs.Config.{member, placed, interfaces}
+use Rattle.config.specs.Pairs.{pair_of, listed, OneEach}
+use Rattle.config.specs.declared.Pair.{Pair}
 use Rattle.config.proofs.Cases.{by_test}
-use Rattle.config.proofs.Few.{few}
+use Rattle.config.proofs.Few.{one_each_placed, one_each_few}
 
--- the search goes on past what is not n, and stops at n
-module _ (n : ℕ) (l : List ℕ) (i : ℕ) (h : i < length l) where
-  pub position_here : get_or l i 0 ≡ n → position n (drop i l) ≡ 0
-  unfolding position
-  position_here e = rw (drop-cons l i 0) (simp (eq-eqb (get_or l i 0) n e))
+one_more : (n : ℕ) → 1 + n ≡ suc n
+one_more n = omega arith
 
-  pub position_past : (get_or l i 0 ≡ n → ⊥) → position n (drop i l) ≡ suc (position n (drop (i + 1) l))
-  unfolding position
-  position_past e = rw (add-one, drop-cons l i 0) (simp (ne_eqb (get_or l i 0) n e))
+module _ (i : ℕ) where
+  abbrev pub is_here : Pair → Bool
+  is_here p = eqb p.interface i
 
--- the place is before the end exactly for a member
-pub position_member : (n : ℕ) (l : List ℕ) → ltb (position n l) (length l) ≡ member n l
-unfolding position member
-position_member n [] = refl
-position_member n (x ∷ xs) =
-    by_test (eqb x n)
-    (λ e. rw e (lt-ltb 0 (suc (length xs)) (omega arith)))
-    (λ e. rw e (leb-suc-suc (suc (position n xs)) (length xs) ∙ position_member n xs))
+  -- the place is before the end exactly for a member
+  place_member : (ps : List Pair) → ltb (position_or_len is_here ps) (length ps) ≡ member i (interfaces (listed ps))
+  unfolding member
+  place_member [] = refl
+  place_member (p ∷ ps) =
+      by_test (eqb p.interface i)
+      (λ e. rw e (lt-ltb 0 (suc (length ps)) (omega arith)))
+      (λ e. rw (e, one_more) (leb-suc-suc (suc (position_or_len is_here ps)) (length ps) ∙ place_member ps))
 
-position_end : (n : ℕ) (l : List ℕ) → position n l ≤ length l
-unfolding position
-position_end n [] = omega arith
-position_end n (x ∷ xs) =
-    by_test (eqb x n)
-    (λ e. rw e (omega arith))
-    (λ e. rw e (omega (arith, position_end n xs)))
+  module _ (a : ℕ) where
+    placed_there : (ps : List Pair) → member i (interfaces (listed ps)) ≡ true → placed i a (listed ps) ≡ set (listed ps) (position_or_len is_here ps) (i, a)
+    unfolding placed member
+    placed_there [] e = cc
+    placed_there (p ∷ ps) e =
+        by_test (eqb p.interface i)
+        (λ h. rw h)
+        (λ h. rw (h, one_more) (ap (λ (l : List (ℕ × ℕ)). pair_of p ∷ l) (placed_there ps (rw h at e))))
 
--- there is room for a byte among distinct bytes
-pub room : (n : ℕ) (l : List ℕ) → n < 256 → Distinct l → Below 256 l → position n l < 256
-unfolding Distinct Below
-room n l h d b =
-    by_test (member n l)
-    (λ e. omega (arith, ltb-true (position n l) (length l) (position_member n l ∙ e), few 256 l d b))
-    (λ e. omega (arith, position_end n l, few 256 (n ∷ l) (e, d) (h, b)))
+    placed_nowhere : (ps : List Pair) → member i (interfaces (listed ps)) ≡ false → placed i a (listed ps) ≡ listed ps ++ (i, a) ∷ []
+    unfolding placed member
+    placed_nowhere [] e = refl
+    placed_nowhere (p ∷ ps) e =
+        by_test (eqb p.interface i)
+        (λ h. cc (rw h at e))
+        (λ h. rw h (ap (λ (l : List (ℕ × ℕ)). pair_of p ∷ l) (placed_nowhere ps (rw h at e))))
 
--- a list with zeros behind it, k in all
-pad : ℕ → List ℕ → List ℕ
-pad k l = l ++ replicate (k - length l) 0
+  -- what the search for the place says
+  module _ (ps : List Pair) where
+    pub found_member : {k : ℕ} → position is_here ps ≡ Some k → (member i (interfaces (listed ps)) ≡ true) × (position_or_len is_here ps ≡ k)
+    found_member f =
+        by_test (ltb (position_or_len is_here ps) (length ps))
+        (λ e. (sym (place_member ps) ∙ e, cc (rw e at f)))
+        (λ e. cc (rw e at f))
 
--- the pair of an interface, taken at its place
-module _ (i a : ℕ) where
-  pub length_placed : (ps : List (ℕ × ℕ)) → length (placed i a ps) ≡ pick (member i (interfaces ps)) (length ps) (suc (length ps))
-  unfolding placed member
-  length_placed [] = refl
-  length_placed (p ∷ ps) =
-      by_test (eqb p.0 i)
-      (λ e. rw e)
-      (λ e. rw e (ap suc (length_placed ps) ∙ inside (member i (interfaces ps)) (length ps)))
-    where
-      inside : (t : Bool) (n : ℕ) → suc (pick t n (suc n)) ≡ pick t (suc n) (suc (suc n))
-      inside true n = refl
-      inside false n = refl
+    pub not_member : position is_here ps ≡ None → member i (interfaces (listed ps)) ≡ false
+    not_member f =
+        by_test (ltb (position_or_len is_here ps) (length ps))
+        (λ e. cc (rw e at f))
+        (λ e. sym (place_member ps) ∙ e)
 
-  -- of either half of the pairs, f, an array holds after the pair was taken what it held, but for the place
-  pad_placed : (f : ℕ × ℕ → ℕ) (k : ℕ) (ps : List (ℕ × ℕ)) → position i (interfaces ps) < k
-      → pad k (map f (placed i a ps)) ≡ set (pad k (map f ps)) (position i (interfaces ps)) (f (i, a))
-  unfolding placed position pad
-  pad_placed f zero ps h = absurd (omega arith)
-  pad_placed f (suc k) [] h = simp unary_clauses
-  pad_placed f (suc k) (p ∷ ps) h =
-      by_test (eqb p.0 i)
-      (λ e. rw e)
-      (λ e. rw e (simp suc-sub-suc (ap (λ l. f p ∷ l) (pad_placed f k ps (omega (arith, rw e at h))))))
+    pub found_is : is_some (position is_here ps) ≡ member i (interfaces (listed ps))
+    found_is =
+        by_test (ltb (position_or_len is_here ps) (length ps))
+        (λ e. rw e (sym e ∙ place_member ps))
+        (λ e. rw e (sym e ∙ place_member ps))
 
-  pub padded_placed : (f : ℕ × ℕ → ℕ) (ps : List (ℕ × ℕ)) → position i (interfaces ps) < 256
-      → padded (map f (placed i a ps)) ≡ set (padded (map f ps)) (position i (interfaces ps)) (f (i, a))
-  unfolding pad
-  padded_placed f = pad_placed f 256
+    pub placed_new : (a : ℕ) → position is_here ps ≡ None → placed i a (listed ps) ≡ listed ps ++ (i, a) ∷ []
+    placed_new a f = placed_nowhere a ps (not_member f)
 
-pub length_padded : (l : List ℕ) → length l ≤ 256 → length (padded l) ≡ 256
-length_padded l h = simp (length-append, length-replicate) (omega arith)
+  -- the first pairs of a table, n of them, after the pair of the interface was taken
+  module _ (a : ℕ) (ps table : List Pair) (n : ℕ) (same : listed ps ≡ listed (take n table)) (long : n ≤ length table) where
+    size : length ps ≡ n
+    size = sym (length-map ps pair_of) ∙ ap length same ∙ length-map (take n table) pair_of ∙ length-take-le n table long
 
--- an entry below the number of pairs is that pair's half
-pub padded_entry : (f : ℕ × ℕ → ℕ) (ps : List (ℕ × ℕ)) (k : ℕ) → k < length ps → get_or (padded (map f ps)) k (f (0, 0)) ≡ f (get_or ps k (0, 0))
-padded_entry f ps k h =
-    get_or-append (map f ps) (replicate (256 - length (map f ps)) 0) (f (0, 0)) k (rw length-map h) ∙ get_or-map f ps k (0, 0)
+    pub taken_there : {k : ℕ} → position is_here ps ≡ Some k → listed (take n (set table k (record { interface = i; alternate = a }))) ≡ placed i a (listed (take n table))
+    taken_there {k} f =
+        let m = found_member ps f in
+        let inside : k < n = omega (arith, size, ltb-true (position_or_len is_here ps) (length ps) (place_member ps ∙ m.0), m.1) in
+        ap listed (take-set-lt n table k _ inside) ∙ map-set pair_of (take n table) k _
+        ∙ rw (← same, ← m.1) (sym (placed_there a ps m.0))
+
+    -- there is room for the pair of another interface
+    pub room : i < 256 → OneEach (listed (take n table)) → position is_here ps ≡ None → n < 256
+    room h o f =
+        let more = one_each_few (placed i a (listed (take n table))) (one_each_placed i a (listed (take n table)) h o) in
+        let size-of : length (placed i a (listed (take n table))) ≡ length ps + 1 =
+        rw (← same) (ap length (placed_new ps a f) ∙ length-append (listed ps) _ ∙ ap (λ (k : ℕ). k + 1) (length-map ps pair_of)) in
+        omega (arith, size)
+
+    pub taken_new : i < 256 → OneEach (listed (take n table)) → length table ≡ 256 → position is_here ps ≡ None
+        → listed (take (n + 1) (set table n (record { interface = i; alternate = a }))) ≡ placed i a (listed (take n table))
+    taken_new h o all f =
+        let inside : n < length table = omega (arith, room h o f) in
+        ap listed (take_more_set table n _ inside) ∙ map-append pair_of (take n table) _ ∙ rw (← same) (sym (placed_new ps a f))

@@ -1,2 +1,3 @@
 pub mod Config
+pub mod Pairs
 pub mod Table

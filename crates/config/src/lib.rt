@@ -1,30 +1,228 @@
 // The interface choice of a configuration descriptor.
 #![tactic(auto)]
 
-ghost use Rattle.std.specs.Prelude.{◌≡◌, ◌&&◌, ◌+◌, ◌≤◌, ◌<◌, length, take, replicate, ltb};
+ghost use Rattle.std.specs.Prelude.{◌≡◌, ◌&&◌, ◌≤◌, [], length, position, eqb};
 ghost use Rattle.bits.specs.Pick.{pick};
-ghost use Rattle.config.specs.Config.{at as Config·at, step, walked, descriptors, start, parsed};
-ghost use Rattle.config.specs.Table.{position, taken_at, choosing, Held, Holds, Moves, table_of};
+ghost use Rattle.config.specs.Config.{member, interfaces, is_endpoint, counts, packet_size, placed, chosen, step, parsed};
+ghost use Rattle.config.specs.Pairs.{listed};
+ghost use Rattle.config.specs.Table.{info_of, choice_of, reading_of, walk_of, endpoint_read, SplitsWhole};
 
-// The pairs of interface and alternate by first appearance, zero past the last, and the packet size of each direction.
+use std::marker::Model;
+
+// An interface, and the alternate that was taken for it.
 #[derive(Clone, Copy)]
+pub struct Pair {
+    pub interface: u8,
+    pub alternate: u8,
+}
+
+// The pairs by first appearance of their interfaces, of which no two are the same.
+#[derive(Drop)]
+pub struct Pairs {
+    places: [Pair; 256],
+    count: usize,
+}
+
+impl Model for Pairs {
+    ghost use Rattle.std.specs.Prelude.{ℕ, ◌≤◌, List, take};
+    ghost use Rattle.config.specs.Pairs.{listed, OneEach};
+
+    ghost Value = { List (ℕ × ℕ) };
+
+    ghost view = { λ p. listed (take p.count p.places) };
+
+    ghost invariant = { λ p. (p.count ≤ 256) × OneEach (listed (take p.count p.places)) };
+}
+
+impl Pairs {
+    // No pair.
+    fn none() -> Self
+        ensures { result ≡ [] }
+    {
+        let zero = Pair {
+            interface: 0,
+            alternate: 0,
+        };
+        Pairs {
+            places: [zero; 256],
+            count: 0,
+        }
+    }
+
+    // The pairs, in their order.
+    pub fn as_slice(&self) -> &[Pair]
+        ensures pairs { listed result.now ≡ self.now }
+        ensures few { length result.now ≤ 256 }
+    {
+        &self.places[..self.count]
+    }
+
+    // Whether an interface has a pair.
+    fn has(&self, interface: u8) -> bool
+        ensures { result ≡ member interface (interfaces self.now) }
+    {
+        find(self.as_slice(), interface).is_some()
+    }
+
+    // The pair of an interface takes the alternate; an interface that has no pair yet gets one, at the end.
+    fn place(&mut self, interface: u8, alternate: u8)
+        ensures { self.new ≡ placed interface alternate self.old }
+    {
+        let pair = Pair {
+            interface,
+            alternate,
+        };
+        match find(self.as_slice(), interface) {
+            Some(k) => {
+                self.places[k] = pair;
+            }
+            None => {
+                self.places[self.count] = pair;
+                self.count += 1;
+            }
+        }
+    }
+}
+
+// The place of an interface's pair.
+fn find(pairs: &[Pair], interface: u8) -> Option<usize>
+    ensures { result ≡ position (λ p. eqb p.interface interface) pairs.now }
+{
+    pairs.iter().position(|pair| pair.interface == interface)
+}
+
+// The pairs, and the packet size of each direction.
+#[derive(Drop)]
 pub struct ConfigInfo {
-    pub interfaces: [u8; 256],
-    pub alternates: [u8; 256],
-    pub count: usize,
+    pub pairs: Pairs,
     pub ob_in_packet: u32,
     pub ob_out_packet: u32,
 }
 
-// What the walk keeps beside the pairs: the interface being read, how many pairs there are, and the sizes.
+impl ConfigInfo {
+    // The size slot of a direction.
+    fn size(&self, input: bool) -> u32
+        ensures { result ≡ pick input self.now.ob_in_packet self.now.ob_out_packet }
+    {
+        if input {
+            self.ob_in_packet
+        } else {
+            self.ob_out_packet
+        }
+    }
+
+    // An endpoint that counts: its alternate and size are taken, unless its interface has a pair and the size is below the slot's.
+    fn choose(&mut self, reading: Interface, input: bool, size: u32)
+        ensures { choice_of self.new ≡ chosen (reading_of reading) input size (choice_of self.old) }
+    {
+        let known = self.pairs.has(reading.number);
+        if known & (size < self.size(input)) {
+            return;
+        }
+        self.pairs.place(reading.number, reading.alternate);
+        if input {
+            self.ob_in_packet = size;
+        } else {
+            self.ob_out_packet = size;
+        }
+    }
+}
+
+// The interface that the endpoints which follow belong to.
 #[derive(Clone, Copy)]
-struct Progress {
-    interface: u8,
+struct Interface {
+    number: u8,
     alternate: u8,
     class: u8,
-    count: usize,
-    input: u32,
-    output: u32,
+}
+
+impl Interface {
+    // Whether a descriptor is an endpoint's that counts in this interface.
+    fn counts(self, x: &[u8]) -> bool
+        requires { 2 ≤ length x.now }
+        ensures { result ≡ (is_endpoint x.now && counts (reading_of self) x.now) }
+    {
+        x[1] == 5 && 7 <= x.len() && self.class == 0xFF && self.alternate != 0 && x[3] & 3 == 3
+    }
+}
+
+// The packet size of an endpoint.
+fn packet_size(x: &[u8]) -> u32
+    requires { 7 ≤ length x.now }
+    ensures { result ≡ packet_size x.now }
+{
+    (u32::from(x[4]) + u32::from(x[5]) * 256) & 0x7FF
+}
+
+// The walk over the descriptors: the interface being read, and the choice so far.
+#[derive(Drop)]
+struct Walk {
+    reading: Interface,
+    choice: ConfigInfo,
+}
+
+impl Walk {
+    // An endpoint that counts may be chosen.
+    fn endpoint(&mut self, x: &[u8])
+        requires { 2 ≤ length x.now }
+        ensures { walk_of self.new ≡ endpoint_read x.now (walk_of self.old) }
+    {
+        if !self.reading.counts(x) {
+            return;
+        }
+        let input = x[2] & 0x80 != 0;
+        self.choice.choose(self.reading, input, packet_size(x));
+    }
+
+    // One descriptor: an endpoint's, an interface's, or one that is passed over.
+    fn step(&mut self, x: &[u8])
+        requires { 2 ≤ length x.now }
+        ensures { walk_of self.new ≡ step x.now (walk_of self.old) }
+    {
+        self.endpoint(x);
+        if (x[1] == 4) & (9 <= x.len()) {
+            self.reading = Interface {
+                number: x[2],
+                alternate: x[3],
+                class: x[5],
+            };
+        }
+    }
+}
+
+// The first descriptor of some bytes, where it is whole, and the bytes behind it.
+fn split_whole(d: &[u8]) -> Option<(&[u8], &[u8])>
+    ensures { SplitsWhole d.now result }
+{
+    let n = usize::from(*d.first()?);
+    if n < 2 || d.len() < n {
+        return None;
+    }
+    Some(d.split_at(n))
+}
+
+// What the bytes of a configuration descriptor ask for.
+pub fn parse_config(d: &[u8]) -> ConfigInfo
+    ensures { result ≡ info_of (parsed d.now) }
+{
+    let mut walk = Walk {
+        reading: Interface {
+            number: 0,
+            alternate: 0,
+            class: 0,
+        },
+        choice: ConfigInfo {
+            pairs: Pairs::none(),
+            ob_in_packet: 0,
+            ob_out_packet: 0,
+        },
+    };
+    let mut rest = d;
+    while let Some((descriptor, behind)) = split_whole(rest) {
+        walk.step(descriptor);
+        rest = behind;
+    }
+    walk.choice
 }
 
 // The block length and the channels that the host sends.
@@ -32,186 +230,4 @@ struct Progress {
 pub struct OutBlock {
     pub block: u32,
     pub channels: u32,
-}
-
-// What the bytes of a configuration descriptor ask for.
-pub fn parse_config(d: &[u8]) -> ConfigInfo
-    ensures { result ≡ table_of (parsed d.now) }
-{
-    let mut interfaces = [0u8; 256];
-    let mut alternates = [0u8; 256];
-    let p = walk(d, &mut interfaces, &mut alternates);
-    ConfigInfo {
-        interfaces,
-        alternates,
-        count: p.count,
-        ob_in_packet: p.input,
-        ob_out_packet: p.output,
-    }
-}
-
-// All whole descriptors, one after another.
-fn walk(d: &[u8], interfaces: &mut [u8; 256], alternates: &mut [u8; 256]) -> Progress
-    requires { (interfaces.old ≡ replicate 256 0) × (alternates.old ≡ replicate 256 0) }
-    ensures { Holds (walked (descriptors d.now) start) result interfaces.new alternates.new }
-{
-    let mut p = Progress {
-        interface: 0,
-        alternate: 0,
-        class: 0,
-        count: 0,
-        input: 0,
-        output: 0,
-    };
-    let mut o = 0;
-    while o + 2 <= d.len() {
-        let n = place(d[o]);
-        if n < 2 {
-            return p;
-        }
-        if d.len() - o < n {
-            return p;
-        }
-        p = descriptor(p, interfaces, alternates, &d[o..o + n]);
-        o += n;
-    }
-    p
-}
-
-// One descriptor.
-fn descriptor(
-    p: Progress,
-    interfaces: &mut [u8; 256],
-    alternates: &mut [u8; 256],
-    x: &[u8],
-) -> Progress
-    requires held { Held p interfaces.old alternates.old }
-    requires in_bounds { 2 ≤ length x.now }
-    ensures { Moves (step x.now) p interfaces.old alternates.old result interfaces.new alternates.new }
-{
-    let kind = x[1];
-    if kind == 5 {
-        return endpoint(p, interfaces, alternates, x);
-    }
-    if kind != 4 {
-        return p;
-    }
-    if x.len() < 9 {
-        return p;
-    }
-    Progress {
-        interface: x[2],
-        alternate: x[3],
-        class: x[5],
-        count: p.count,
-        input: p.input,
-        output: p.output,
-    }
-}
-
-// An endpoint descriptor.
-fn endpoint(
-    p: Progress,
-    interfaces: &mut [u8; 256],
-    alternates: &mut [u8; 256],
-    x: &[u8],
-) -> Progress
-    requires held { Held p interfaces.old alternates.old }
-    requires x_value { Config·at x.now 1 ≡ 5 }
-    ensures { Moves (step x.now) p interfaces.old alternates.old result interfaces.new alternates.new }
-{
-    if x.len() < 7 {
-        return p;
-    }
-    let counts = (p.class == 0xFF) & ((p.alternate != 0) & (x[3] & 3 == 3));
-    if !counts {
-        return p;
-    }
-    let input = x[2] & 0x80 != 0;
-    let size = (bits::wide(x[4]) + bits::wide(x[5]) * 256) & 0x7FF;
-    choose(p, interfaces, alternates, input, size)
-}
-
-// An endpoint that counts: the pair at its interface's place takes the alternate, unless the size is below its slot's.
-fn choose(
-    p: Progress,
-    interfaces: &mut [u8; 256],
-    alternates: &mut [u8; 256],
-    input: bool,
-    size: u32,
-) -> Progress
-    requires { Held p interfaces.old alternates.old }
-    ensures { Moves (choosing input size) p interfaces.old alternates.old result interfaces.new alternates.new }
-{
-    let interface = p.interface;
-    let at = find(interfaces, p.count, interface);
-    if smaller(p, at, input, size) {
-        return p;
-    }
-    interfaces[at] = interface;
-    alternates[at] = p.alternate;
-    taken(p, at, input, size)
-}
-
-// The place of `x` among the first `n` of a table, or `n`.
-fn find(table: &[u8; 256], n: usize, x: u8) -> usize
-    requires { (n ≤ 256) × (length table.now ≡ 256) }
-    ensures { result ≡ position x (take n table.now) }
-{
-    let mut i = 0;
-    while i < n {
-        if table[i] == x {
-            return i;
-        }
-        i += 1;
-    }
-    n
-}
-
-// Whether the interface at a place has a pair, and the size is below its direction's slot.
-fn smaller(p: Progress, at: usize, input: bool, size: u32) -> bool
-    ensures { result ≡ (ltb at p.count && ltb size (pick input p.input p.output)) }
-{
-    (at < p.count) & (size < select(input, p.input, p.output))
-}
-
-// The pair at a place is taken, with the size of its direction.
-fn taken(p: Progress, at: usize, input: bool, size: u32) -> Progress
-    requires { p.count ≤ 256 }
-    ensures { result ≡ taken_at p at input size }
-{
-    Progress {
-        interface: p.interface,
-        alternate: p.alternate,
-        class: p.class,
-        count: counted(at, p.count),
-        input: select(input, size, p.input),
-        output: select(input, p.output, size),
-    }
-}
-
-// How many pairs there are after the one at a place was taken.
-fn counted(at: usize, n: usize) -> usize
-    requires { n ≤ 256 }
-    ensures { result ≡ pick (ltb at n) n (n + 1) }
-{
-    if at < n {
-        return n;
-    }
-    n + 1
-}
-
-fn select(first: bool, a: u32, b: u32) -> u32
-    ensures { result ≡ pick first a b }
-{
-    if first {
-        return a;
-    }
-    b
-}
-
-fn place(b: u8) -> usize
-    ensures { (result ≡ b) × (result < 256) }
-{
-    b as usize
 }
