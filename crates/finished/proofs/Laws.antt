@@ -1,20 +1,21 @@
--- Facts on replies that are kept, on the bytes of the setups that are made here, and on pairs in a table.
+-- Facts on replies that are kept, on the bytes of the setups that are made here, and on those of pairs.
 use mathlib.Core.Bool.{Bool, true, false, ◌&&◌}
 use lib.Dec.{eqb, ltb}
 use borrow.Author.Tests.{eq-eqb, ne_eqb, eqb-true}
 use Rattle.bits.specs.Pick.{pick}
-use Rattle.config.specs.Config.{Bytes, parsed, out_block, interfaces, alternates}
-use Rattle.config.specs.Table.{table_of}
+use Rattle.config.specs.Config.{parsed, out_block}
+use Rattle.config.specs.Pairs.{pair_of, listed}
+use Rattle.config.specs.Table.{info_of}
+use Rattle.config.specs.declared.Pair.{Pair}
 use Rattle.config.specs.declared.ConfigInfo.{ConfigInfo}
 use Rattle.config.specs.declared.OutBlock.{OutBlock}
-use Rattle.config.proofs.Few.{pairs_few, bytes_take}
-use Prim.Native.Nat.{ℕ, zero, suc, ◌+◌, ◌-◌, ◌*◌, ◌/◌, ◌%◌, ◌≤◌, ◌<◌}
-use native.Mathlib.Numerals.{add-one}
+use Prim.Native.Nat.{ℕ, ◌+◌, ◌-◌, ◌*◌, ◌/◌, ◌%◌, ◌≤◌, ◌<◌}
 use native.Mathlib.Omega.{arith}
 use mathlib.Core.List.{List, [], ◌∷◌, ◌++◌, flat_map}
 use mathlib.Core.Path.{◌≡◌, refl, sym, ap, ap₂, subst, ◌∙◌}
-use lib.ListN.{length, get_or, take, length-append}
+use lib.ListN.{length, get_or, take, length-append, length-map}
 use lib.Seq.{sets, length-take-le}
+use Rattle.std.proofs.lemmas.List.{take_more, map-append}
 use Rattle.bits.proofs.Lists.{sets_append}
 use Rattle.record.specs.declared.State.{State}
 use Rattle.record.specs.Record.{with_block, with_on, with_setups, with_device, with_config, with_audio, with_control, with_lengths}
@@ -25,7 +26,7 @@ use Rattle.record.specs.Did.{Leads}
 use Rattle.record.proofs.Laws.{in_turn, by_true, by_false, unchanged, once, from_here, leads_as}
 use Rattle.model.specs.Phases.{drops_request}
 use Rattle.model.specs.Control.{request_type, request, descriptor_type, asks_for, replied, sets_interface, interface_setups, asks_whole, sets_configuration, chooses, fixed_setups, configures, finishes}
-use Rattle.finished.specs.Promises.{at_request, Brings, pairs_from}
+use Rattle.finished.specs.Promises.{at_request, Brings}
 use Rattle.model.specs.Control.{keeps_device, keeps_config, chooses_by_reply, queues_fixed, takes_configuration}
 
 -- a reply that is kept
@@ -111,64 +112,36 @@ fixed_queued s q {q₁} {q₂} {q₃} none e₁ e₂ e₃ d p c =
           ∙ ap (λ (n : ℕ). at_request w (with_lengths s (with_setups s.lengths (n + 3))) (sets q (8 * n) fixed_setups) d p c) (sym none));
     }
 
--- ---- pairs in a table
+-- ---- pairs
 
--- what a loop over n pairs has stored in q before pair i, and what is left from there, make the whole
-pub record Pushing (is al : List ℕ) (n : ℕ) (q₀ q : List ℕ) (i : ℕ) : Type 0 where
-  pub inside : i ≤ n
-  pub whole : sets q (8 * (i + 1)) (interface_setups (pairs_from is al i (n - i))) ≡ sets q₀ 8 (interface_setups (pairs_from is al 0 n))
+setups_more : (ps : List (ℕ × ℕ)) (p : ℕ × ℕ) → interface_setups (ps ++ p ∷ []) ≡ interface_setups ps ++ sets_interface p.0 p.1
+unfolding interface_setups flat_map
+setups_more [] p = refl
+setups_more (x ∷ ps) p = ap (λ (l : List ℕ). sets_interface x.0 x.1 ++ l) (setups_more ps p)
 
-module _ (is al : List ℕ) where
-  pub pushing_first : (n : ℕ) (q : List ℕ) → Pushing is al n q q 0
-  pushing_first n q =
-      let all : n - 0 ≡ n = omega arith in
-      record { inside = omega arith; whole = ap (λ (k : ℕ). sets q 8 (interface_setups (pairs_from is al 0 k))) all }
+-- a place that no pair was taken to
+abbrev pub none : Pair
+none = record { interface = 0; alternate = 0 }
 
-  -- the first of k pairs more, stored behind i pairs and the first setup
-  pushed_more : (q : List ℕ) (i k : ℕ) → get_or is i 0 < 256 → get_or al i 0 < 256
-      → sets (sets q (8 * (i + 1)) (setup_bytes (0xB01 + get_or al i 0 * 0x10000) (get_or is i 0))) (8 * (i + 1 + 1)) (interface_setups (pairs_from is al (i + 1) k))
-      ≡ sets q (8 * (i + 1)) (interface_setups (pairs_from is al i (suc k)))
-  unfolding interface_setups pairs_from flat_map
-  pushed_more q i k hi ha =
-      let rest = interface_setups (pairs_from is al (suc i) k) in
-      let at : 8 * (i + 1) + 8 ≡ 8 * (i + 1 + 1) = omega arith in
-      sym
-      (sets_append q (8 * (i + 1)) (sets_interface (get_or is i 0) (get_or al i 0)) rest
-      ∙ ap₂ (λ (x : List ℕ) (n : ℕ). sets (sets q (8 * (i + 1)) x) n rest) (sym (interface_bytes (get_or is i 0) (get_or al i 0) hi ha)) at
-      ∙ ap (λ (n : ℕ). sets (sets q (8 * (i + 1)) (setup_bytes (0xB01 + get_or al i 0 * 0x10000) (get_or is i 0))) (8 * (i + 1 + 1)) (interface_setups (pairs_from is al n k))) (sym (add-one i)))
+pub pushed_none : (q : List ℕ) → q ≡ sets q 8 (interface_setups [])
+unfolding interface_setups flat_map
+pushed_none q = refl
 
-  module _ {n : ℕ} {q₀ q : List ℕ} {i : ℕ} (inv : Pushing is al n q₀ q i) where
-    pub pushing_more : {q' : List ℕ} {x y : ℕ} → i < n → x ≡ get_or is i 0 → y ≡ get_or al i 0 → x < 256 → y < 256 → q' ≡ sets q (8 * (i + 1)) (setup_bytes (0xB01 + y * 0x10000) x) → Pushing is al n q₀ q' (i + 1)
-    pushing_more {q'} {x} {y} h ex ey hx hy e =
-        let k : suc (n - (i + 1)) ≡ n - i = omega arith in
-        record {
-          inside = omega arith;
-          whole =
-              ap (λ (r : List ℕ). sets r (8 * (i + 1 + 1)) (interface_setups (pairs_from is al (i + 1) (n - (i + 1)))))
-              (e ∙ ap₂ (λ (a b : ℕ). sets q (8 * (i + 1)) (setup_bytes (0xB01 + b * 0x10000) a)) ex ey)
-              ∙ pushed_more q i (n - (i + 1)) (omega arith) (omega arith)
-              ∙ ap (λ (m : ℕ). sets q (8 * (i + 1)) (interface_setups (pairs_from is al i m))) k
-              ∙ inv.whole;
-        }
-
-    pub pushing_end : n ≤ i → q ≡ sets q₀ 8 (interface_setups (pairs_from is al 0 n))
-    unfolding interface_setups pairs_from flat_map
-    pushing_end h =
-        let none : 0 ≡ n - i = omega arith in
-        ap (λ (k : ℕ). sets q (8 * (i + 1)) (interface_setups (pairs_from is al i k))) none ∙ inv.whole
-
--- the pairs behind the first are those of the tables without their first
-pairs_behind : (x y : ℕ) (is al : List ℕ) (i k : ℕ) → pairs_from (x ∷ is) (y ∷ al) (suc i) k ≡ pairs_from is al i k
-unfolding pairs_from
-pairs_behind x y is al i zero = refl
-pairs_behind x y is al i (suc k) = ap (λ (ps : List (ℕ × ℕ)). (get_or is i 0, get_or al i 0) ∷ ps) (pairs_behind x y is al (suc i) k)
-
--- a table that begins with the pairs has them
-pub pairs_of : (ps : List (ℕ × ℕ)) (t u : List ℕ) → pairs_from (interfaces ps ++ t) (alternates ps ++ u) 0 (length ps) ≡ ps
-unfolding pairs_from
-pairs_of [] t u = refl
-pairs_of (p ∷ ps) t u =
-    ap (λ (qs : List (ℕ × ℕ)). p ∷ qs) (pairs_behind p.0 p.1 (interfaces ps ++ t) (alternates ps ++ u) 0 (length ps) ∙ pairs_of ps t u)
+-- set interface for one pair more, behind those of the pairs before it
+pub pushed_more : (q : List ℕ) (ps : List Pair) (i : ℕ) (p : Pair) → i < length ps → p ≡ get_or ps i none → p.interface < 256 → p.alternate < 256
+    → sets (sets q 8 (interface_setups (listed (take i ps)))) (8 * (i + 1)) (setup_bytes (0xB01 + p.alternate * 0x10000) p.interface)
+    ≡ sets q 8 (interface_setups (listed (take (i + 1) ps)))
+pushed_more q ps i p h is hi ha =
+    let done = interface_setups (listed (take i ps)) in
+    let one = sets_interface p.interface p.alternate in
+    let place : 8 * (i + 1) ≡ 8 + length done =
+    omega (arith, setups_size (listed (take i ps)), length-map (take i ps) pair_of, length-take-le i ps) in
+    let all : interface_setups (listed (take (i + 1) ps)) ≡ done ++ one =
+    ap (λ (l : List Pair). interface_setups (listed l)) (take_more ps i none h ∙ ap (λ (x : Pair). take i ps ++ x ∷ []) (sym is))
+    ∙ ap interface_setups (map-append pair_of (take i ps) (p ∷ []))
+    ∙ setups_more (listed (take i ps)) (pair_of p) in
+    ap₂ (λ (at : ℕ) (x : List ℕ). sets (sets q 8 done) at x) place (interface_bytes p.interface p.alternate hi ha)
+    ∙ sym (sets_append q 8 done one) ∙ ap (λ (x : List ℕ). sets q 8 x) (sym all)
 
 -- ---- a configuration's choice
 
@@ -202,20 +175,17 @@ module _ (w : World) (s : State) (q d p c : List ℕ) where
       (ap₂ (λ (n : ℕ) (x : List ℕ). at_request w (with_lengths s (with_setups s.lengths n)) x d p c) count (e₂ ∙ ap (λ (x : List ℕ). sets x 8 (interface_setups ps)) e₁ ∙ sym (sets_append q 0 sets_configuration (interface_setups ps)))
       ∙ ap (λ (n : ℕ). at_request w (with_lengths s (with_setups s.lengths (n + length bs / 8))) (sets q (8 * n) bs) d p c) (sym none))
 
-module _ (s : State) (q p : List ℕ) {info : ConfigInfo} (is : info ≡ table_of (parsed (take s.control.got p))) where
-  -- what is parsed has few pairs
-  pub choice_few : Bytes p → info.count ≤ 256
-  choice_few b = omega (arith, ap (λ (x : ConfigInfo). x.count) is, pairs_few (take s.control.got p) (bytes_take s.control.got p b))
-
+module _ (s : State) (q p : List ℕ) {info : ConfigInfo} (is : info ≡ info_of (parsed (take s.control.got p))) where
   pub choice_made : {out : OutBlock} {q₁ q₂ : List ℕ} → s.lengths.setups ≡ 0 → out ≡ out_block info.ob_out_packet (block_of s) → q₁ ≡ sets q 0 (setup_bytes 0x10900 0)
-      → q₂ ≡ sets q₁ 8 (interface_setups (pairs_from info.interfaces info.alternates 0 info.count)) → (d c : List ℕ)
-      → Brings chooses_by_reply s q d p c (with_lengths (with_out s out) (with_setups s.lengths (1 + info.count))) q₂ d c
+      → (ps : List Pair) → listed ps ≡ info.pairs → q₂ ≡ sets q₁ 8 (interface_setups (listed ps)) → (d c : List ℕ)
+      → Brings chooses_by_reply s q d p c (with_lengths (with_out s out) (with_setups s.lengths (1 + length ps))) q₂ d c
   unfolding chooses
-  choice_made {out} {q₁} {q₂} none eo e₁ e₂ d c =
+  choice_made {out} {q₁} {q₂} none eo e₁ ps ep e₂ d c =
       let ch = parsed (take s.control.got p) in
       let eo' : out ≡ out_block ch.output (block_of s) = eo ∙ ap (λ (x : ConfigInfo). out_block x.ob_out_packet (block_of s)) is in
-      let ec : info.count ≡ length ch.pairs = ap (λ (x : ConfigInfo). x.count) is in
-      let e₂' : q₂ ≡ sets q₁ 8 (interface_setups ch.pairs) = e₂ ∙ ap (λ (x : ConfigInfo). sets q₁ 8 (interface_setups (pairs_from x.interfaces x.alternates 0 x.count))) is ∙ ap (λ (ps : List (ℕ × ℕ)). sets q₁ 8 (interface_setups ps)) (pairs_of ch.pairs _ _) in
+      let same : listed ps ≡ ch.pairs = ep ∙ ap (λ (x : ConfigInfo). x.pairs) is in
+      let ec : length ps ≡ length ch.pairs = sym (length-map ps pair_of) ∙ ap length same in
+      let e₂' : q₂ ≡ sets q₁ 8 (interface_setups ch.pairs) = e₂ ∙ ap (λ (x : List (ℕ × ℕ)). sets q₁ 8 (interface_setups x)) same in
       record {
         leads = λ w.
             from_here (λ v. chooses (parsed (take v.state.control.got v.lent.reply))) (at_request w s q d p c)

@@ -1,5 +1,5 @@
 -- What the functions of a finished request promise, and what the record's bounds grant them (document 01, "Control record" and refusal 5).
-use Rattle.std.specs.Prelude.{ℕ, zero, suc, ◌≤◌, true, List, [], ◌∷◌, ◌≡◌, get_or}
+use Rattle.std.specs.Prelude.{ℕ, ◌≤◌, true, List, ◌≡◌}
 use Rattle.record.specs.declared.State.{State}
 use Rattle.record.specs.World.{World, with_state, with_setup_queue, with_device_area, with_reply_area, with_config_area}
 use Rattle.record.specs.Change.{Step}
@@ -20,8 +20,3 @@ at_request r s q d p c = with_config_area (with_reply_area (with_device_area (wi
 -- a step on these, which leaves the reply
 pub record Brings (f : Step) (s : State) (q d p c : List ℕ) (s' : State) (q' d' c' : List ℕ) : Type 0 where
   pub leads : (w : World) → Leads f (at_request w s q d p c) (at_request w s' q' d' p c')
-
--- k pairs of a table in two arrays, from index i on
-unfoldable pub pairs_from : List ℕ → List ℕ → ℕ → ℕ → List (ℕ × ℕ)
-pairs_from is al i zero = []
-pairs_from is al i (suc k) = (get_or is i 0, get_or al i 0) ∷ pairs_from is al (suc i) k

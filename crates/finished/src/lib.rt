@@ -4,12 +4,13 @@
 ghost use Rattle.std.specs.Prelude.{◌≡◌, false, List, ℕ, ◌+◌, ◌*◌, ◌<◌, ◌≤◌, length, take};
 ghost use Rattle.std.proofs.lemmas.List.Edits.{sets};
 ghost use Rattle.config.specs.Config.{out_block};
-ghost use Rattle.record.specs.Record.{with_on, with_device, with_config, with_control, with_lengths};
+ghost use Rattle.config.specs.Pairs.{listed};
+ghost use Rattle.record.specs.Record.{with_on, with_control};
 ghost use Rattle.model.specs.Control as C;
 ghost use Rattle.record.specs.Sizes as Sizes;
 ghost use Rattle.finished.specs.Promises as P;
 
-use config::OutBlock;
+use config::{OutBlock, Pair};
 use record::{Audio, Control, DEVICE, SETUP_BYTES, State};
 
 // The first words of the setups that are made here: a configuration request, set configuration 1, and set interface without its alternate.
@@ -38,28 +39,12 @@ pub fn ended(s: State) -> State
     next
 }
 
-// The reply becomes the device descriptor.
-fn keep_device(s: State, device: &mut [u8; DEVICE], reply: &[u8]) -> State
-    requires { (s.control.got ≤ Sizes.DEVICE) × (Sizes.DEVICE ≤ length reply.now) }
-    ensures { (result ≡ with_lengths s (with_device s.lengths s.control.got)) × (device.new ≡ sets device.old 0 (take s.control.got reply.now)) }
+// The first bytes of a reply, `count` of them, become a descriptor.
+fn keep(descriptor: &mut [u8], reply: &[u8], count: usize)
+    requires { (count ≤ length reply.now) × (count ≤ length descriptor.old) }
+    ensures { descriptor.new ≡ sets descriptor.old 0 (take count reply.now) }
 {
-    let count = s.control.got;
-    bus::put_bytes(device, 0, &reply[..count]);
-    let mut next = s;
-    next.lengths.device = count;
-    next
-}
-
-// The reply becomes the configuration descriptor.
-fn keep_config(s: State, reply: &[u8], config: &mut [u8]) -> State
-    requires { (s.control.got ≤ length reply.now) × (s.control.got ≤ length config.old) }
-    ensures { (result ≡ with_lengths s (with_config s.lengths s.control.got)) × (config.new ≡ sets config.old 0 (take s.control.got reply.now)) }
-{
-    let count = s.control.got;
-    bus::put_bytes(config, 0, &reply[..count]);
-    let mut next = s;
-    next.lengths.config = count;
-    next
+    bus::put_bytes(descriptor, 0, &reply[..count]);
 }
 
 // A header's total length is asked for; no setup waits.
@@ -67,29 +52,22 @@ fn ask_whole(s: State, setups: &mut [u8; SETUP_BYTES], reply: &[u8]) -> State
     requires { (s.lengths.setups ≡ 0) × (4 ≤ length reply.now) }
     ensures { (d c : List ℕ) → P.Brings C.asks_whole s setups.old d reply.now c result setups.new d c }
 {
-    let total = bits::wide(reply[2]) + bits::wide(reply[3]) * 256;
+    let total = u32::from(reply[2]) + u32::from(reply[3]) * 256;
     record::put_setup(setups, 0, GET_CONFIGURATION, total * 0x1_0000);
     let mut next = s;
     next.lengths.setups = 1;
     next
 }
 
-// Set interface for each of the first `pairs` pairs, behind the first setup.
-fn push_pairs(
-    setups: &mut [u8; SETUP_BYTES],
-    interfaces: &[u8; 256],
-    alternates: &[u8; 256],
-    pairs: usize,
-)
-    requires { pairs ≤ 256 }
-    ensures { setups.new ≡ sets setups.old 8 (C.interface_setups (P.pairs_from interfaces.now alternates.now 0 pairs)) }
+// Set interface for each pair, behind the first setup.
+fn push_pairs(setups: &mut [u8; SETUP_BYTES], pairs: &[Pair])
+    requires { length pairs.now ≤ 256 }
+    ensures { setups.new ≡ sets setups.old 8 (C.interface_setups (listed pairs.now)) }
 {
-    let mut i = 0;
-    while i < pairs {
-        let alternate = bits::wide(alternates[i]) * 0x1_0000;
-        let interface = bits::wide(interfaces[i]);
+    for (i, pair) in pairs.iter().enumerate() {
+        let interface = pair.interface as u32;
+        let alternate = pair.alternate as u32 * 0x1_0000;
         record::put_setup(setups, i + 1, SET_INTERFACE + alternate, interface);
-        i += 1;
     }
 }
 
@@ -118,13 +96,11 @@ fn choose(s: State, setups: &mut [u8; SETUP_BYTES], reply: &[u8]) -> State
         channels: s.audio.channels,
     };
     let out = out_block(info.ob_out_packet, old);
-    let interfaces = info.interfaces;
-    let alternates = info.alternates;
+    let pairs = info.pairs.as_slice();
     record::put_setup(setups, 0, SET_CONFIGURATION, 0);
-    push_pairs(setups, &interfaces, &alternates, info.count);
-    let count = 1 + info.count;
+    push_pairs(setups, pairs);
     let mut next = s;
-    next.lengths.setups = count;
+    next.lengths.setups = 1 + pairs.len();
     next.audio.block = out.block;
     next.audio.channels = out.channels;
     next
@@ -158,7 +134,10 @@ fn configuration(
     if s.control.got == HEADER {
         return ask_whole(s, setups, reply);
     }
-    let next = keep_config(s, reply, config);
+    let count = s.control.got;
+    keep(config, reply, count);
+    let mut next = s;
+    next.lengths.config = count;
     if device_stack {
         return choose(next, setups, reply);
     }
@@ -178,10 +157,12 @@ pub fn finished(
     requires in_bounds { (Sizes.REPLY ≤ length reply.now) × (Sizes.REPLY ≤ length config.old) }
     ensures { P.Brings (C.finishes device_stack) s setups.old device.old reply.now config.old result setups.new device.new config.new }
 {
-    let next = ended(s);
+    let mut next = ended(s);
     let request = s.control;
     if asks_for(request, 1) {
-        return keep_device(next, device, reply);
+        keep(device, reply, request.got);
+        next.lengths.device = request.got;
+        return next;
     }
     if asks_for(request, 2) {
         return configuration(next, device_stack, setups, reply, config);

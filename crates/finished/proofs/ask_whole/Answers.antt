@@ -8,4 +8,5 @@ use Rattle.finished.proofs.Laws.{whole_asked}
 use Rattle.finished.proofs.ask_whole.Goals as goal
 
 pub returns : goal.returns
-returns c = whole_asked c.args.s c.args.setups.now c.args.reply.now c.requires.0 (omega (arith, c.wide.ensures)) (omega (arith, c.wide-2.ensures)) (c.put_setup.ensures ∙ ap₂ (λ (a b : ℕ). sets c.args.setups.now 0 (setup_bytes 0x2000680 ((a + b * 256) * 0x10000))) c.wide.ensures.0 c.wide-2.ensures.0)
+returns c =
+    let fits = c.type_inv in whole_asked c.args.s c.args.setups.now c.args.reply.now c.requires.0 (omega arith) (omega arith) (c.put_setup.ensures ∙ ap₂ (λ (a b : ℕ). sets c.args.setups.now 0 (setup_bytes 0x2000680 ((a + b * 256) * 0x10000))) c.from.ensures c.from-2.ensures)

@@ -1,5 +1,6 @@
 -- `finished::configuration` meets its contract.
 use native.Mathlib.Omega.{arith}
+use mathlib.Core.Path.{refl}
 use Rattle.finished.proofs.Laws.{config_kept, by_header, by_whole, with_stack_lem, without_stack}
 use Rattle.finished.proofs.configuration.Goals as goal
 
@@ -9,11 +10,11 @@ returns-then-s-eq-HEADER c d = by_header c.args.device_stack c.if-s-eq-HEADER.tr
 pub returns-then-device_stack : goal.returns-then-device_stack
 returns-then-device_stack c d =
     by_whole c.args.device_stack c.if-s-eq-HEADER.false
-    (config_kept c.args.s c.args.setups.now d c.args.reply.now c.args.config.now (omega (arith, c.requires)) c.keep_config-next.ensures)
-    (with_stack_lem c.args.device_stack c.if-device_stack.true (c.choose.ensures d c.keep_config-next.new.config))
+    (config_kept c.args.s c.args.setups.now d c.args.reply.now c.args.config.now (omega (arith, c.requires)) (refl, c.keep.ensures))
+    (with_stack_lem c.args.device_stack c.if-device_stack.true (c.choose.ensures d c.keep.new.descriptor))
 
 pub returns : goal.returns
 returns c d =
     by_whole c.args.device_stack c.if-s-eq-HEADER.false
-    (config_kept c.args.s c.args.setups.now d c.args.reply.now c.args.config.now (omega (arith, c.requires)) c.keep_config-next.ensures)
-    (without_stack c.args.device_stack c.if-device_stack.false (c.fixed_setups.ensures d c.args.reply.now c.keep_config-next.new.config))
+    (config_kept c.args.s c.args.setups.now d c.args.reply.now c.args.config.now (omega (arith, c.requires)) (refl, c.keep.ensures))
+    (without_stack c.args.device_stack c.if-device_stack.false (c.fixed_setups.ensures d c.args.reply.now c.keep.new.descriptor))

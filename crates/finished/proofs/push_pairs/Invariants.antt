@@ -1,12 +1,11 @@
--- What each loop of `finished::push_pairs` keeps, and its measure.
-use Prim.Native.Nat.{◌-◌}
-use Rattle.finished.proofs.Laws.{Pushing}
+-- What the loop of `finished::push_pairs` keeps.
+use mathlib.Core.Path.{◌≡◌}
+use lib.ListN.{take}
+use lib.Seq.{sets}
+use Rattle.model.specs.Control.{interface_setups}
+use Rattle.config.specs.Pairs.{listed}
 use Rattle.finished.proofs.push_pairs.Given as goal
 
--- `finished::push_pairs` meets its contract: what is left from here makes the whole.
+-- the setups of the pairs before i stand behind the first
 abbrev pub invariant-loop-i : goal.invariant-loop-i
-invariant-loop-i l =
-    Pushing l.interfaces l.alternates l.pairs l.initial.setups l.setups l.i
-
-abbrev pub decreases-loop-i : goal.decreases-loop-i
-decreases-loop-i l = l.pairs - l.i
+invariant-loop-i l = l.setups ≡ sets l.initial.setups 8 (interface_setups (listed (take l.i l.pairs)))
