@@ -5,7 +5,7 @@ use Rattle.bus.specs.declared.Peeked.{Peeked}
 use Rattle.bus.specs.declared.Poked.{Poked}
 use Rattle.usbdev.specs.declared.Value.{Value}
 use Rattle.usbdev.specs.declared.Written.{Written}
-use Rattle.config.specs.declared.ConfigInfo.{ConfigInfo}
+use Rattle.config.specs.Table.{Table}
 use Rattle.midi.specs.declared.Packer.{Packer}
 use Rattle.midi.specs.declared.Sent.{Sent}
 
@@ -32,7 +32,7 @@ of_poked p = above p.refusal p.dropped
 abbrev pub of_sizes : ℕ → ℕ → ℕ → ℕ
 of_sizes count output input = count * 2 ^ 32 + output * 2 ^ 16 + input
 
-abbrev pub of_config : ConfigInfo → ℕ
+abbrev pub of_config : Table → ℕ
 of_config c = of_sizes c.count c.ob_out_packet c.ob_in_packet
 
 -- a packer's five bytes, from the lowest: status, first, second, held, whether inside SysEx

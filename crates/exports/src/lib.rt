@@ -96,11 +96,14 @@ pub extern "C" fn usb_parse_config(
     ensures { (result ≡ Answers.of_config (table_of (parsed bytes.now))) × ((interfaces.new ≡ (table_of (parsed bytes.now)).interfaces) × (alternates.new ≡ (table_of (parsed bytes.now)).alternates)) }
 {
     let info = config::parse_config(bytes);
-    let firsts = info.interfaces;
-    let seconds = info.alternates;
-    *interfaces = firsts;
-    *alternates = seconds;
-    of_sizes(info.count, info.ob_out_packet, info.ob_in_packet)
+    let pairs = info.pairs.as_slice();
+    interfaces.fill(0);
+    alternates.fill(0);
+    for (i, pair) in pairs.iter().enumerate() {
+        interfaces[i] = pair.interface;
+        alternates[i] = pair.alternate;
+    }
+    of_sizes(pairs.len(), info.ob_out_packet, info.ob_in_packet)
 }
 
 fn of_packer(p: Packer) -> u64
