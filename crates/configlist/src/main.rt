@@ -3,7 +3,7 @@
 
 ghost use Rattle.std.specs.Prelude.{◌+◌, ◌*◌, ◌≤◌, ◌<◌, length};
 
-use config::ConfigInfo;
+use config::{ConfigInfo, Pair};
 use script::text;
 use std::io::Read;
 
@@ -107,38 +107,28 @@ fn number(out: &mut [u8; 65536], at: usize, n: u64, after: u8) -> usize
 }
 
 // A line for each pair.
-fn pairs(
-    out: &mut [u8; 65536],
-    at: usize,
-    interfaces: &[u8; 256],
-    alternates: &[u8; 256],
-    count: usize,
-) -> usize
-    requires { (at ≤ 50000) × (count ≤ 256) }
+fn pairs(out: &mut [u8; 65536], at: usize, pairs: &[Pair]) -> usize
+    requires { (at ≤ 50000) × (length pairs.now ≤ 256) }
     ensures { result ≤ 65536 }
 {
     let mut end = at;
-    let mut i = 0;
-    while i < count {
-        end = number(out, end, bits::widest(interfaces[i]), b' ');
-        end = number(out, end, bits::widest(alternates[i]), b'\n');
-        i += 1;
+    for pair in pairs {
+        end = number(out, end, u64::from(pair.interface), b' ');
+        end = number(out, end, u64::from(pair.alternate), b'\n');
     }
     end
 }
 
 // The answer to a set: the two sizes and the number of pairs, then the pairs.
 fn show_info(info: ConfigInfo, out: &mut [u8; 65536], at: usize) -> usize
-    requires { (at ≤ 40000) × (info.count ≤ 256) }
+    requires { at ≤ 40000 }
     ensures { result ≤ 65536 }
 {
-    let count = info.count;
-    let interfaces = info.interfaces;
-    let alternates = info.alternates;
+    let list = info.pairs.as_slice();
     let mut end = number(out, at, info.ob_in_packet as u64, b' ');
     end = number(out, end, info.ob_out_packet as u64, b' ');
-    end = number(out, end, count as u64, b'\n');
-    pairs(out, end, &interfaces, &alternates, count)
+    end = number(out, end, list.len() as u64, b'\n');
+    pairs(out, end, list)
 }
 
 // The answer to a whole line.

@@ -1,10 +1,7 @@
--- What each loop of `configlist::pairs` keeps, and its measure.
-use Prim.Native.Nat.{◌+◌, ◌*◌, ◌-◌, ◌≤◌}
+-- What the loop of `configlist::pairs` keeps.
+use Prim.Native.Nat.{◌+◌, ◌*◌, ◌≤◌}
 use Rattle.configlist.proofs.pairs.Given as goal
 
--- The loop keeps: so many pairs have at most so many bytes.
-abbrev pub invariant-loop-i : goal.invariant-loop-i
-invariant-loop-i l = (l.i ≤ l.count) × (l.end ≤ l.at + 42 * l.i)
-
-abbrev pub decreases-loop-i : goal.decreases-loop-i
-decreases-loop-i l = l.count - l.i
+-- so many pairs have at most so many bytes
+abbrev pub invariant-loop-pair : goal.invariant-loop-pair
+invariant-loop-pair l = l.end ≤ l.at + 42 * l.pair-index

@@ -6,11 +6,11 @@ use lib.Seq.{take_all}
 use Prim.Native.Nat.{ℕ}
 use Rattle.config.specs.Config.{parsed, interfaces, alternates}
 use Rattle.config.specs.Pairs.{pair_of, listed}
-use Rattle.config.specs.Table.{padded, info_of, choice_of, table_of}
+use Rattle.config.specs.Table.{padded}
 use Rattle.config.specs.declared.ConfigInfo.{ConfigInfo}
 use Rattle.config.specs.declared.Pair.{Pair}
 use Rattle.config.proofs.Padding.{padded_more}
-use Rattle.exports.specs.Answers.{of_sizes, of_config}
+use Rattle.exports.specs.Answers.{of_sizes}
 use Rattle.exports.proofs.usb_parse_config.Goals as goal
 
 pub loop-i-init : goal.loop-i-init
@@ -32,8 +32,8 @@ returns c =
     let all : listed (take c.loop-i.i ps) ≡ (parsed c.args.bytes.now).pairs = ap listed (take_all c.loop-i.i ps c.loop-i-test.false) ∙ pairs in
     let count : length ps ≡ length (parsed c.args.bytes.now).pairs = sym (length-map ps pair_of) ∙ ap length pairs in (
       c.of_sizes.ensures
-      ∙ ap (λ (n : ℕ). of_sizes n c.parse_config-info.result.ob_out_packet c.parse_config-info.result.ob_in_packet) count
-      ∙ ap (λ (x : ConfigInfo). of_sizes (length (parsed c.args.bytes.now).pairs) x.ob_out_packet x.ob_in_packet) is,
+          ∙ ap (λ (n : ℕ). of_sizes n c.parse_config-info.result.ob_out_packet c.parse_config-info.result.ob_in_packet) count
+          ∙ ap (λ (x : ConfigInfo). of_sizes (length (parsed c.args.bytes.now).pairs) x.ob_out_packet x.ob_in_packet) is,
       (
         c.loop-i.invariant.0 ∙ ap (λ (l : List (ℕ × ℕ)). padded (interfaces l)) all,
         c.loop-i.invariant.1 ∙ ap (λ (l : List (ℕ × ℕ)). padded (alternates l)) all,
