@@ -11,7 +11,7 @@ pub fn letter(line: &[u8]) -> Option<u8> {
 }
 
 // The value of a digit.
-fn digit(b: u8) -> Option<u8>
+pub fn digit(b: u8) -> Option<u8>
     ensures { IfSome result (λ d. d < 16) }
 {
     match b {

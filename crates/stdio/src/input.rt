@@ -122,4 +122,16 @@ impl Input {
         let input = &*self;
         Some(&input.text[from..end])
     }
+
+    // All that is held, taken, or what one read gives where nothing is left.
+    pub fn next_piece(&mut self) -> Option<&[u8]> {
+        if self.next == self.held && !self.read_on() {
+            return None;
+        }
+        let from = self.next;
+        let end = self.held;
+        self.next = end;
+        let input = &*self;
+        Some(&input.text[from..end])
+    }
 }
