@@ -6,14 +6,16 @@ ghost use Rattle.std.proofs.lemmas.List.Edits.{sets};
 ghost use Rattle.midilist.specs.Listing.{digit_of, byte_text, line, Lists};
 
 use midi::{Event, Packer};
-use std::io::{Read, Write};
+use std::fmt::Write;
+use stdio::{Input, Output};
 
 // A hexadecimal digit, in upper case.
+#[tactic(auto, unfolding(crate::specs::Listing::digit_of))]
 fn digit(n: u8) -> u8
     requires { n < 16 }
     ensures { result ≡ digit_of n }
 {
-    if n < 10 { 0x30 + n } else { 0x37 + n }
+    b"0123456789ABCDEF"[n as usize]
 }
 
 // The two digits of `b`, and `after`, from the place `at` on.
@@ -53,9 +55,8 @@ fn list_piece(p: Packer, bytes: &[u8], out: &mut [u8]) -> Piece
     let mut packer = p;
     let mut packets: usize = 0;
     let mut end: usize = 0;
-    let mut i = 0;
-    while i < bytes.len() {
-        let fed = packer.feed(bytes[i]);
+    for b in bytes {
+        let fed = packer.feed(*b);
         let event = fed.event;
         if let Event::Packet(code, x, y, z) = event {
             put_line(out, end, code, x, y, z);
@@ -63,7 +64,6 @@ fn list_piece(p: Packer, bytes: &[u8], out: &mut [u8]) -> Piece
             packets += 1;
         }
         packer = fed.next;
-        i += 1;
     }
     Piece {
         packer,
@@ -72,98 +72,59 @@ fn list_piece(p: Packer, bytes: &[u8], out: &mut [u8]) -> Piece
     }
 }
 
-// Where the listing stands: the packer, the packets so far, whether to go on, and whether a read or a write failed.
+// The packer behind all that was fed, and how many packets there were.
 #[derive(Clone, Copy)]
 struct Listing {
     packer: Packer,
     packets: u64,
-    more: bool,
-    unread: bool,
-    unwritten: bool,
 }
 
-// Writes all of a text, and says whether it could be written.
-fn print(rt: HostRuntime, text: &[u8]) -> bool {
-    let mut output = rt.stdout();
-    output.write_all(text).is_ok()
-}
-
-// Reads a piece and writes its lines at once. The end of the input, an error in reading and one in writing end the listing.
-fn list_some(rt: HostRuntime, s: Listing, text: &mut [u8]) -> Listing
-    requires { 12 * 4096 ≤ length text.old }
-{
-    let mut buffer = [0u8; 4096];
-    let mut input = rt.stdin();
-    let packer = s.packer;
-    match input.read(&mut buffer) {
-        Err(_) => Listing {
-            packer,
-            packets: s.packets,
-            more: false,
-            unread: true,
-            unwritten: false,
-        },
-        Ok(0) => Listing {
-            packer,
-            packets: s.packets,
-            more: false,
-            unread: false,
-            unwritten: false,
-        },
-        Ok(n) => {
-            let piece = list_piece(packer, &buffer[..n], text);
-            let end = piece.end;
-            let more = print(rt, &text[..end]);
-            let next = piece.packer;
-            Listing {
-                packer: next,
-                packets: std::num::wrapping_add_u64(s.packets, piece.packets as u64),
-                more,
-                unread: false,
-                unwritten: !more,
-            }
-        }
+impl Listing {
+    // Feeds some bytes, and puts out the lines of their packets.
+    fn feed(&mut self, bytes: &[u8], text: &mut [u8], out: &mut Output)
+        requires { 12 * length bytes.now ≤ length text.old }
+    {
+        let piece = list_piece(self.packer, bytes, text);
+        let packer = piece.packer;
+        self.packer = packer;
+        self.packets = self.packets.wrapping_add(piece.packets as u64);
+        out.append(&text[..piece.end]);
     }
 }
 
-// The heading, and then every piece.
-fn list_all(rt: HostRuntime) -> Listing {
-    let mut text = [0u8; 65536];
-    let more = print(rt, b"usb-midi\n");
-    let mut s = Listing {
+// Every piece, whose lines are written at once, up to a write that fails.
+fn list(input: &mut Input, out: &mut Output) -> Listing {
+    let mut text = [0u8; 49152];
+    let mut listing = Listing {
         packer: Packer::new(),
         packets: 0,
-        more,
-        unread: false,
-        unwritten: !more,
     };
-    let mut turns = u64::MAX;
-    while turns > 0 && s.more {
-        s = list_some(rt, s, &mut text);
-        turns -= 1;
+    for _ in 0..u64::MAX {
+        if out.failed() {
+            break;
+        }
+        let Some(piece) = input.next_piece() else {
+            break;
+        };
+        for bytes in piece.chunks(4096) {
+            listing.feed(bytes, &mut text, out);
+        }
+        out.flush();
     }
-    s
+    listing
 }
 
-// The last line, of the packets and of the bytes held in the packer; whether it could be written.
-fn count(rt: HostRuntime, packets: u64, held: u8) -> bool {
-    println!(rt; "{packets} packets, {held} held").is_ok()
-}
-
+// The heading, the list, and a last line of the packets and of the bytes held in the packer.
 fn main(rt: HostRuntime) {
-    let s = list_all(rt);
-    if s.unread {
-        let _ = eprintln!(rt; "midilist: standard input could not be read; the list is not whole");
-        return;
+    let mut input = Input::new(rt);
+    let mut out = Output::new(rt);
+    out.append(b"usb-midi\n");
+    out.flush();
+    let listing = list(&mut input, &mut out);
+    if !input.failed() {
+        let packets = listing.packets;
+        let held = listing.packer.held;
+        let _ = writeln!(out, "{packets} packets, {held} held");
     }
-    let packer = s.packer;
-    let mut written = !s.unwritten;
-    if written {
-        written = count(rt, s.packets, packer.held);
-    }
-    if !written {
-        let _ = eprintln!(rt;
-            "midilist: standard output could not be written; the list is not whole"
-        );
-    }
+    out.finish("midilist", "the list is", input.failed());
 }

@@ -9,9 +9,9 @@ use Rattle.midilist.proofs.Laws.{text_le}
 use Rattle.midilist.proofs.list_piece.Goals as goal
 use Rattle.midilist.proofs.list_piece.Goals.{in-Packet, in_default}
 
-pub loop-i-init : goal.loop-i-init
+pub loop-b-init : goal.loop-b-init
 unfolding text_of
-loop-i-init c =
+loop-b-init c =
     let a = c.args in (
       record { inside = omega arith; same = refl; room = omega (arith, text_le a.p a.bytes.now); end = refl; queue = refl; fed = refl },
       omega arith,
@@ -21,21 +21,21 @@ pub put_line-requires : goal.put_line-requires
 unfolding flat_map
 put_line-requires c =
     let fed = c.feed-fed in
-    let loop = c.loop-i in
+    let loop = c.loop-b in
     let a = c.args in
     let event = c.in-Packet.is in
-    let step = written_size_at line_of loop.packer a.bytes.now loop.i (omega arith) fed.result fed.ensures.value in
+    let step = written_size_at line_of loop.packer a.bytes.now loop.b-index (omega arith) fed.result fed.ensures.value in
     let twelve = ap (λ e. length (flat_map line_of (made e))) event in
     (omega (arith, step, twelve, loop.invariant.0.room), omega (arith, fed.ensures.event_bound, ap code_of event))
 
-pub loop-i-preserved : goal.loop-i-preserved
+pub loop-b-preserved : goal.loop-b-preserved
 unfolding flat_map
-loop-i-preserved c =
-    let loop = c.loop-i in
+loop-b-preserved c =
+    let loop = c.loop-b in
     let a = c.args in
     let fed = c.feed-fed in
-    let more = writing_more loop.invariant.0 c.loop-i-test.true fed.result fed.ensures.value in
-    let step = count_at loop.packer a.bytes.now loop.i (omega arith) fed.result fed.ensures.value in
+    let more = writing_more loop.invariant.0 c.loop-b-test.true fed.result fed.ensures.value in
+    let step = count_at loop.packer a.bytes.now loop.b-index (omega arith) fed.result fed.ensures.value in
     elim c.match-event.branch [
       | in-Packet w ↦
           let event = sym w.in-Packet.is in
@@ -57,14 +57,14 @@ pub returns : goal.returns
 unfolding text_of
 returns c =
     let a = c.args in
-    let loop = c.loop-i in
-    let past = c.loop-i-test.false in
+    let loop = c.loop-b in
+    let past = c.loop-b-test.false in
     let text = text_of a.p a.bytes.now in
     let size : loop.end ≡ length text = omega (arith, writing_end loop.invariant.0 past) in
     let stored = sets-eq text a.out.now 0 (omega (arith, text_le a.p a.bytes.now)) in
     record {
       packer = writing_packer loop.invariant.0 past;
-      count = omega (arith, count_past loop.packer a.bytes.now loop.i past);
+      count = omega (arith, count_past loop.packer a.bytes.now loop.b-index past);
       size = size;
       text = writing_queue loop.invariant.0 past ∙ stored ∙ ap (λ n. text ++ drop n a.out.now) (zero-add (length text) ∙ sym size);
     }
