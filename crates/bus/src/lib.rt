@@ -1,14 +1,17 @@
 // The three windows of memory: reads and writes of bytes and of big-endian words; bytes stored in an area.
 #![tactic(auto)]
 
-ghost use Rattle.std.specs.Prelude.{◌≡◌, ℕ, ◌+◌, ◌≤◌, length};
+ghost use Rattle.std.specs.Prelude.{◌≡◌, ℕ, ◌+◌, ◌≤◌, length, OnOk};
+ghost use Rattle.bits.specs.Pick.{pick};
+ghost use Rattle.refusal.specs.declared.Refusal.TheVariants.{Windows};
 ghost use Rattle.std.proofs.lemmas.List.Edits.{sets};
 ghost use Rattle.bus.specs.Memory as M;
 ghost use Rattle.bus.specs.Memory.{shown};
 ghost use Rattle.bus.specs.Sized.{Power, Sized, Left, is_power, is_sized};
 ghost use Rattle.bus.specs.Words as W;
-ghost use Rattle.bus.specs.Checked.{peeked, poked, kept};
+ghost use Rattle.bus.specs.Checked.{peeked, poked, peeked_of, poked_of, kept};
 
+use refusal::Refusal;
 use std::num::wrapping_add_u32;
 
 // Bytes of static memory and of the register page.
@@ -217,80 +220,59 @@ pub fn sized(dynamic: &[u8], sram: &[u8], page: &[u8]) -> bool
     power(dynamic.len())
 }
 
-// A read's answer: 0 and the value, or the number of its refusal.
-#[derive(Clone, Copy)]
-pub struct Peeked {
-    pub refusal: u8,
-    pub value: u32,
-}
-
-// A write's answer: 0 and how many bytes were dropped, or the number of its refusal.
-#[derive(Clone, Copy)]
-pub struct Poked {
-    pub refusal: u8,
-    pub dropped: u32,
+// Accepts windows that are as long as they must be.
+fn accept(dynamic: &[u8], sram: &[u8], page: &[u8]) -> Result<(), Refusal>
+    ensures tested { result ≡ pick (is_sized (shown dynamic.now sram.now page.now)) (Ok tt) (Err Windows) }
+    ensures sized { OnOk result (Sized (shown dynamic.now sram.now page.now)) }
+{
+    if sized(dynamic, sram, page) {
+        return Ok(());
+    }
+    Err(Refusal::Windows)
 }
 
 // The byte at address a of windows of any lengths.
-pub fn checked_peek8(dynamic: &[u8], sram: &[u8], page: &[u8], a: u32) -> Peeked
-    ensures { result ≡ peeked (shown dynamic.now sram.now page.now) (M.peek8 (shown dynamic.now sram.now page.now) a) }
+pub fn checked_peek8(dynamic: &[u8], sram: &[u8], page: &[u8], a: u32) -> Result<u8, Refusal>
+    ensures { peeked_of result ≡ peeked (shown dynamic.now sram.now page.now) (M.peek8 (shown dynamic.now sram.now page.now) a) }
 {
-    if sized(dynamic, sram, page) {
-        let value = peek8(dynamic, sram, page, a) as u32;
-        return Peeked { refusal: 0, value };
-    }
-    Peeked {
-        refusal: 1,
-        value: 0,
-    }
+    accept(dynamic, sram, page)?;
+    Ok(peek8(dynamic, sram, page, a))
 }
 
 // The word at address a of windows of any lengths.
-pub fn checked_peek32(dynamic: &[u8], sram: &[u8], page: &[u8], a: u32) -> Peeked
-    ensures { result ≡ peeked (shown dynamic.now sram.now page.now) (M.peek32 (shown dynamic.now sram.now page.now) a) }
+pub fn checked_peek32(dynamic: &[u8], sram: &[u8], page: &[u8], a: u32) -> Result<u32, Refusal>
+    ensures { peeked_of result ≡ peeked (shown dynamic.now sram.now page.now) (M.peek32 (shown dynamic.now sram.now page.now) a) }
 {
-    if sized(dynamic, sram, page) {
-        let value = peek32(dynamic, sram, page, a);
-        return Peeked { refusal: 0, value };
-    }
-    Peeked {
-        refusal: 1,
-        value: 0,
-    }
+    accept(dynamic, sram, page)?;
+    Ok(peek32(dynamic, sram, page, a))
 }
 
-// Stores the byte v at address a of windows of any lengths.
-pub fn checked_poke8(dynamic: &mut [u8], sram: &mut [u8], page: &mut [u8], a: u32, v: u8) -> Poked
-    ensures { (result ≡ poked (shown dynamic.old sram.old page.old) (M.dropped8 a)) × (shown dynamic.new sram.new page.new ≡ kept (shown dynamic.old sram.old page.old) (M.poke8 (shown dynamic.old sram.old page.old) a v)) }
+// Stores the byte v at address a of windows of any lengths, and answers how many bytes were dropped.
+pub fn checked_poke8(
+    dynamic: &mut [u8],
+    sram: &mut [u8],
+    page: &mut [u8],
+    a: u32,
+    v: u8,
+) -> Result<u32, Refusal>
+    ensures { (poked_of result ≡ poked (shown dynamic.old sram.old page.old) (M.dropped8 a)) × (shown dynamic.new sram.new page.new ≡ kept (shown dynamic.old sram.old page.old) (M.poke8 (shown dynamic.old sram.old page.old) a v)) }
 {
-    if sized(&*dynamic, &*sram, &*page) {
-        let dropped = poke8(dynamic, sram, page, a, v);
-        return Poked {
-            refusal: 0,
-            dropped,
-        };
-    }
-    Poked {
-        refusal: 1,
-        dropped: 0,
-    }
+    accept(&*dynamic, &*sram, &*page)?;
+    Ok(poke8(dynamic, sram, page, a, v))
 }
 
-// Stores the word v at address a of windows of any lengths.
-pub fn checked_poke32(dynamic: &mut [u8], sram: &mut [u8], page: &mut [u8], a: u32, v: u32) -> Poked
-    ensures { (result ≡ poked (shown dynamic.old sram.old page.old) (M.dropped32 a)) × (shown dynamic.new sram.new page.new ≡ kept (shown dynamic.old sram.old page.old) (M.poke32 (shown dynamic.old sram.old page.old) a v)) }
+// Stores the word v at address a of windows of any lengths, and answers how many bytes were dropped.
+pub fn checked_poke32(
+    dynamic: &mut [u8],
+    sram: &mut [u8],
+    page: &mut [u8],
+    a: u32,
+    v: u32,
+) -> Result<u32, Refusal>
+    ensures { (poked_of result ≡ poked (shown dynamic.old sram.old page.old) (M.dropped32 a)) × (shown dynamic.new sram.new page.new ≡ kept (shown dynamic.old sram.old page.old) (M.poke32 (shown dynamic.old sram.old page.old) a v)) }
 {
-    if sized(&*dynamic, &*sram, &*page) {
-        let dropped = poke32(dynamic, sram, page, a, v);
-        return Poked {
-            refusal: 0,
-            dropped,
-        };
-    }
-    Poked {
-        refusal: 1,
-        dropped: 0,
-    }
+    accept(&*dynamic, &*sram, &*page)?;
+    Ok(poke32(dynamic, sram, page, a, v))
 }
 
 // Stores bytes in an area, from a place on.

@@ -31,7 +31,11 @@ fn two_pages(out: &mut [u8; 65536], at: usize) -> usize
     dynamic[0x3002] = 99;
     let pointers = [0x4000_0FFEu32, 0x4000_3000, 0, 0, 0, 0, 0, 0, 0];
     let mut bytes = [0u8; 4];
-    let refusal = transfer::checked_copy_in(&dynamic, &sram, &page, &pointers, 4, &mut bytes, 0);
+    let moved = transfer::checked_copy_in(&dynamic, &sram, &page, &pointers, 4, &mut bytes, 0);
+    let refusal = match moved {
+        Ok(()) => 0,
+        Err(refusal) => refusal.number(),
+    };
     let mut end = text::append(out, at, b"two pages: refusal and bytes\n");
     end = show_line(out, end, bits::widest(refusal));
     end = show_line(out, end, bits::widest(bytes[0]));

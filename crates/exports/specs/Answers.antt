@@ -1,10 +1,10 @@
 -- How the entries for C lay out an answer in a number of 64 bits, and the packer of a MIDI cable in its low five bytes.
-use Rattle.std.specs.Prelude.{ℕ, ◌+◌, ◌*◌, ◌/◌, ◌%◌, ◌^◌, Bool, eqb}
+use Rattle.std.specs.Prelude.{ℕ, ◌+◌, ◌*◌, ◌/◌, ◌%◌, ◌^◌, Bool, eqb, Result, Ok, Err}
 use Rattle.bits.specs.Pick.{pick}
-use Rattle.bus.specs.declared.Peeked.{Peeked}
-use Rattle.bus.specs.declared.Poked.{Poked}
-use Rattle.usbdev.specs.declared.Value.{Value}
-use Rattle.usbdev.specs.declared.Written.{Written}
+use Rattle.refusal.specs.declared.Refusal.{Refusal}
+use Rattle.refusal.specs.Number.{number}
+use Rattle.bus.specs.Checked.{Peeked, Poked}
+use Rattle.usbdev.specs.Answers.{Value, Written}
 use Rattle.config.specs.Table.{Table}
 use Rattle.midi.specs.declared.Packer.{Packer}
 use Rattle.midi.specs.declared.Sent.{Sent}
@@ -12,6 +12,11 @@ use Rattle.midi.specs.declared.Sent.{Sent}
 -- a refusal's number above the 32 bits of what is answered
 abbrev pub above : ℕ → ℕ → ℕ
 above refusal answer = refusal * 2 ^ 32 + answer
+
+-- what is answered, or 0 under the number of the refusal
+abbrev pub answered : Result ℕ Refusal → ℕ
+answered (Ok answer) = above 0 answer
+answered (Err r) = above (number r) 0
 
 abbrev pub flag : Bool → ℕ
 flag b = pick b 1 0

@@ -13,12 +13,23 @@ ghost use Rattle.exports.specs.Answers as Answers;
 ghost use Rattle.exports.specs.Send as Send;
 
 use midi::{Packer, Sent};
+use refusal::Refusal;
 
 // A refusal's number above what is answered.
 fn above(refusal: u8, low: u32) -> u64
     ensures { result ≡ Answers.above refusal low }
 {
-    (refusal as u64) * 0x1_0000_0000 + (low as u64)
+    u64::from(refusal) * 0x1_0000_0000 + u64::from(low)
+}
+
+// What is answered, or 0 under the number of the refusal.
+fn answered(answer: Result<u32, Refusal>) -> u64
+    ensures { result ≡ Answers.answered answer }
+{
+    match answer {
+        Ok(low) => u64::from(low),
+        Err(refusal) => above(refusal.number(), 0),
+    }
 }
 
 fn flag(b: bool) -> u32
@@ -35,8 +46,7 @@ fn flag(b: bool) -> u32
 pub extern "C" fn usb_device_read(page: &[u8], offset: u32, size: u32) -> u64
     ensures { result ≡ Answers.of_value (Access.reading page.now offset size) }
 {
-    let seen = usbdev::read(page, offset, size);
-    above(seen.refusal, seen.value)
+    answered(usbdev::read(page, offset, size))
 }
 
 // A device write; the line's flag goes in and comes out: refusal * 2^32 + flag.
@@ -50,8 +60,10 @@ pub extern "C" fn usb_device_write(
 ) -> u64
     ensures { (result ≡ Answers.of_written (Access.writing (registers page.old line) offset size value)) × (page.new ≡ Access.written (registers page.old line) offset size value) }
 {
-    let written = usbdev::write(page, offset, size, value, line);
-    above(written.refusal, flag(written.line))
+    match usbdev::write(page, offset, size, value, line) {
+        Ok(next) => above(0, flag(next)),
+        Err(refusal) => above(refusal.number(), flag(line)),
+    }
 }
 
 // The word at an address of the three windows: refusal * 2^32 + word.
@@ -59,8 +71,7 @@ pub extern "C" fn usb_device_write(
 pub extern "C" fn usb_peek32(dynamic: &[u8], sram: &[u8], page: &[u8], address: u32) -> u64
     ensures { result ≡ Answers.of_peeked (peeked (shown dynamic.now sram.now page.now) (M.peek32 (shown dynamic.now sram.now page.now) address)) }
 {
-    let seen = bus::checked_peek32(dynamic, sram, page, address);
-    above(seen.refusal, seen.value)
+    answered(bus::checked_peek32(dynamic, sram, page, address))
 }
 
 // Stores a word at an address of the three windows: refusal * 2^32 + bytes dropped.
@@ -74,8 +85,7 @@ pub extern "C" fn usb_poke32(
 ) -> u64
     ensures { (result ≡ Answers.of_poked (poked (shown dynamic.old sram.old page.old) (M.dropped32 address))) × (shown dynamic.new sram.new page.new ≡ kept (shown dynamic.old sram.old page.old) (M.poke32 (shown dynamic.old sram.old page.old) address value)) }
 {
-    let stored = bus::checked_poke32(dynamic, sram, page, address, value);
-    above(stored.refusal, stored.dropped)
+    answered(bus::checked_poke32(dynamic, sram, page, address, value))
 }
 
 // The number of pairs above the two sizes.

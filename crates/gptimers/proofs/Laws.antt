@@ -6,7 +6,10 @@ use mathlib.Core.Path.{◌≡◌, refl, sym, ap, subst, ◌∙◌}
 use native.Mathlib.Omega.{arith}
 use borrow.Author.Tests.{eqb-true, leb-true, lt-ltb, le-ltb}
 use lib.Dec.{eqb, leb, ltb}
+use Rattle.std.specs.Prelude.{Result, Ok, Err, OnOk}
 use Rattle.bits.specs.Pick.{pick, pick_both}
+use Rattle.refusal.specs.declared.Refusal.{Refusal}
+use Rattle.refusal.specs.Number.{number_of}
 use Rattle.bits.specs.Word.{any}
 use Rattle.bus.specs.Words.{word_at}
 use Rattle.bus.proofs.Sizes.{and_true}
@@ -129,20 +132,17 @@ module _ (step k c : ℕ) (t : Timer) (p : List ℕ) (flag : Bool) (stands : any
   unfolding counted_timer
   idle_stands = simp stands
 
--- a call that is not refused: the page has its length, and both counts are in their bounds
-pub record Accepted (ts : Timers) (len : ℕ) : Type 0 where
-  pub whole : len ≡ 4096
-  pub zero_range : in_range ts.zero ≡ true
-  pub one_range : in_range ts.one ≡ true
-
 zero_means : (a b c : Bool) → pick {A = ℕ} a (pick (b && c) 0 5) 1 ≡ 0 → (a ≡ true) × (b ≡ true) × (c ≡ true)
 zero_means true true true e = (refl, refl, refl)
 zero_means true true false e = absurd (omega arith)
 zero_means true false c e = absurd (omega arith)
 zero_means false b c e = absurd (omega arith)
 
-pub accepted : (ts : Timers) (len : ℕ) → refusal ts len ≡ 0 → Accepted ts len
+-- a call that is accepted: the page has its length, and both counts are in their bounds
+pub accepted : (ts : Timers) (len : ℕ) (r : Result (Unit {0}) Refusal) → number_of r ≡ refusal ts len
+    → OnOk r ((len ≡ 4096) × ((in_range ts.zero ≡ true) × (in_range ts.one ≡ true)))
 unfolding refusal
-accepted ts len e =
-    let z = zero_means (eqb len 4096) (in_range ts.zero) (in_range ts.one) e in
-    record { whole = eqb-true len 4096 z.0; zero_range = z.1; one_range = z.2 }
+accepted ts len (Ok t) e =
+    let z = zero_means (eqb len 4096) (in_range ts.zero) (in_range ts.one) (sym e) in
+    (eqb-true len 4096 z.0, (z.1, z.2))
+accepted ts len (Err r) e = tt

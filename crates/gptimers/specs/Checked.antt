@@ -1,15 +1,28 @@
 -- Both timers on a page of any length, with any counts: refused with number 1 or 5, or what the definitions say.
-use Rattle.std.specs.Prelude.{◌&&◌, List, ℕ, eqb, length}
+use Rattle.std.specs.Prelude.{◌&&◌, List, ℕ, Bool, eqb, length, Result, Ok, Err}
 use Rattle.bits.specs.Pick.{pick}
+use Rattle.refusal.specs.declared.Refusal.{Refusal}
+use Rattle.refusal.specs.Number.{number}
 use Rattle.bus.specs.Sized.{PAGE}
 use Rattle.usbdev.specs.Registers.{Registers, done}
 use Rattle.gptimers.specs.declared.Timers.{Timers}
-use Rattle.gptimers.specs.declared.Ticked.{Ticked}
+use Rattle.gptimers.specs.declared.TimedBoth.{TimedBoth}
 use Rattle.gptimers.specs.Timer.{STEP, in_range, ticking_both, ticked_both}
 
 -- 1 for a page of another length, 5 for a count outside its bounds, 0 for neither
 unfoldable pub refusal : Timers → ℕ → ℕ
 refusal ts len = pick (eqb len PAGE) (pick (in_range ts.zero && in_range ts.one) 0 5) 1
+
+-- an answer in numbers: 0 or the number of its refusal, the timers and the line's flag
+pub record Ticked : Type 0 where
+  pub refusal : ℕ
+  pub timers : Timers
+  pub line : Bool
+
+-- a refusal leaves the timers and the flag that went in
+abbrev pub ticked_of : Timers → Bool → Result TimedBoth Refusal → Ticked
+ticked_of ts flag (Ok both) = record { refusal = 0; timers = both.timers; line = both.line }
+ticked_of ts flag (Err r) = record { refusal = number r; timers = ts; line = flag }
 
 -- the answer: a refusal with timers and flag as they were, or both after the microframe
 unfoldable pub ticked_answer : Timers → Registers → Ticked

@@ -1,13 +1,16 @@
 // The general-purpose timers of the USB controller.
 #![tactic(auto)]
 
-ghost use Rattle.std.specs.Prelude.{◌≡◌, Bool, true, ◌+◌, ◌-◌, ◌<◌, ◌≤◌, ◌^◌, length};
+ghost use Rattle.std.specs.Prelude.{◌≡◌, Bool, true, ◌+◌, ◌-◌, ◌<◌, ◌≤◌, ◌^◌, length, OnOk};
+ghost use Rattle.refusal.specs.Number.{number_of};
 ghost use Rattle.usbdev.specs.Registers.{registers, done};
 ghost use Rattle.gptimers.specs.Timer as T;
 ghost use Rattle.gptimers.specs.Checked as C;
+ghost use Rattle.gptimers.specs.Checked.{ticked_of};
 ghost use Rattle.bus.specs.Sized.{PAGE};
 
 use bus::{put_at, word_at};
+use refusal::{Refusal, unless};
 
 // The count that stands for 0; lower ones are below zero.
 pub const ZERO: u64 = 0x4_0000_0000_0000;
@@ -45,14 +48,6 @@ pub struct Timed {
 // Both timers after a microframe, and the line's flag.
 #[derive(Clone, Copy)]
 pub struct TimedBoth {
-    pub timers: Timers,
-    pub line: bool,
-}
-
-// The answer of the checked call: 0 or the number of its refusal, the timers and the line's flag.
-#[derive(Clone, Copy)]
-pub struct Ticked {
-    pub refusal: u8,
     pub timers: Timers,
     pub line: bool,
 }
@@ -209,38 +204,23 @@ pub fn gptimers(page: &mut [u8], ts: Timers, step: u64, flag: bool) -> TimedBoth
     }
 }
 
-// The number of a call's refusal, or 0.
-fn refusal(ts: Timers, len: usize) -> u8
-    ensures { result ≡ C.refusal ts len }
+// Accepts a page of the right length, and counts that are within their bounds.
+#[tactic(auto, using(crate::proofs::Laws::accepted), unfolding(crate::specs::Checked::refusal))]
+fn accept(ts: Timers, len: usize) -> Result<(), Refusal>
+    ensures number { number_of result ≡ C.refusal ts len }
+    ensures inside { OnOk result ((len ≡ PAGE) × ((T.in_range ts.zero ≡ true) × (T.in_range ts.one ≡ true))) }
 {
-    if len != bus::PAGE {
-        return 1;
-    }
+    unless(len == bus::PAGE, Refusal::Windows)?;
     let zero = ts.zero;
     let one = ts.one;
-    if zero.in_range() & one.in_range() {
-        return 0;
-    }
-    5
+    unless(zero.in_range() & one.in_range(), Refusal::Bounds)
 }
 
-// Both timers in one microframe at high speed, on a page of any length and with any counts.
-pub fn checked_gptimers(page: &mut [u8], ts: Timers, flag: bool) -> Ticked
-    ensures { (result ≡ C.ticked_answer ts (registers page.old flag)) × (page.new ≡ C.ticked_page ts (registers page.old flag)) }
+// Both timers in one microframe at high speed, on a page of any length and with any counts. A refusal leaves timers, flag and page.
+#[tactic(auto, unfolding(crate::specs::Checked::ticked_answer, crate::specs::Checked::ticked_page))]
+pub fn checked_gptimers(page: &mut [u8], ts: Timers, flag: bool) -> Result<TimedBoth, Refusal>
+    ensures { (ticked_of ts flag result ≡ C.ticked_answer ts (registers page.old flag)) × (page.new ≡ C.ticked_page ts (registers page.old flag)) }
 {
-    let number = refusal(ts, page.len());
-    if number != 0 {
-        return Ticked {
-            refusal: number,
-            timers: ts,
-            line: flag,
-        };
-    }
-    let both = gptimers(page, ts, STEP, flag);
-    let timers = both.timers;
-    Ticked {
-        refusal: 0,
-        timers,
-        line: both.line,
-    }
+    accept(ts, page.len())?;
+    Ok(gptimers(page, ts, STEP, flag))
 }

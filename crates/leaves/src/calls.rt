@@ -100,11 +100,10 @@ fn device_read(line: &[u8], page: &[u8; 4096], out: &mut [u8; 65536], at: usize)
     let size = parse::read_word(line, 1);
     let off = parse::read_word(line, size.next);
     if size.good & (off.good & (off.next == line.len())) {
-        let read = usbdev::read(page, off.value, size.value);
-        if read.refusal != 0 {
-            return text::refused(out, at, read.refusal);
-        }
-        return text::single(out, at, b'r', read.value as u64);
+        return match usbdev::read(page, off.value, size.value) {
+            Ok(value) => text::single(out, at, b'r', u64::from(value)),
+            Err(refusal) => text::refused(out, at, refusal.number()),
+        };
     }
     text::bad_line(out, at)
 }
@@ -139,8 +138,12 @@ fn write_sized(
     ensures { ((result.state.queued ≤ 4096) × (result.state.length ≤ 65536)) × (result.at ≤ 65536) }
 {
     let written = usbdev::write(page, off, size, value, state.line);
-    let next = with_line(state, written.line);
-    let end = text::outcome(out, at, written.refusal);
+    let (line, number) = match written {
+        Ok(line) => (line, 0),
+        Err(refusal) => (state.line, refusal.number()),
+    };
+    let next = with_line(state, line);
+    let end = text::outcome(out, at, number);
     Next {
         state: next,
         at: end,
@@ -247,7 +250,13 @@ fn tick(state: State, page: &mut [u8; 4096], out: &mut [u8; 65536], at: usize) -
     requires { (at ≤ 40000) × ((state.queued ≤ 4096) × (state.length ≤ 65536)) }
     ensures { ((result.state.queued ≤ 4096) × (result.state.length ≤ 65536)) × (result.at ≤ 65536) }
 {
-    let ticked = gptimers::checked_gptimers(page, state.timers, state.line);
+    let ticked = match gptimers::checked_gptimers(page, state.timers, state.line) {
+        Ok(ticked) => ticked,
+        Err(refusal) => {
+            let end = text::refused(out, at, refusal.number());
+            return Next { state, at: end };
+        }
+    };
     let timers = ticked.timers;
     let packer = state.packer;
     let next = State {
@@ -258,13 +267,6 @@ fn tick(state: State, page: &mut [u8; 4096], out: &mut [u8; 65536], at: usize) -
         packer,
         queued: state.queued,
     };
-    if ticked.refusal != 0 {
-        let end = text::refused(out, at, ticked.refusal);
-        return Next {
-            state: next,
-            at: end,
-        };
-    }
     let end = show_timers(timers, ticked.line, out, at);
     Next {
         state: next,

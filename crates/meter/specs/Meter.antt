@@ -1,6 +1,6 @@
 -- What the entries for C answer and leave: the moves of transfer with the page pointers that the total needs.
 use Rattle.std.specs.Prelude.{ℕ, ◌+◌, ◌*◌, List}
-use Rattle.bus.specs.declared.Poked.{Poked}
+use Rattle.bus.specs.Checked.{Poked}
 use Rattle.bus.specs.Memory.{Memory}
 use Rattle.bus.specs.Stores.{BusStep, reading}
 use Rattle.transfer.specs.Transfer.{pointers_for}

@@ -8,9 +8,10 @@ ghost use Rattle.bus.specs.Stores.{bus, store};
 ghost use Rattle.transfer.specs.Checked as C;
 ghost use Rattle.meter.specs.Meter.{metered, metering, answered};
 
-use transfer::{copy_in, copy_out, pointers_for, refusal};
+use transfer::{accept, copy_in, copy_out, pointers_for};
 
 // Copies the first total bytes of the dTD at td to the start of out; answers 0 or the number of its refusal.
+#[tactic(auto, unfolding(crate::specs::Meter::metered, transfer::specs::Checked::checked_received))]
 #[unsafe(no_mangle)]
 pub extern "C" fn meter_in(
     dynamic: &[u8],
@@ -22,9 +23,8 @@ pub extern "C" fn meter_in(
 ) -> u8
     ensures { (result ≡ C.refusal (shown dynamic.now sram.now page.now) 0 total (length out.old)) × (out.new ≡ metered (shown dynamic.now sram.now page.now) td total out.old) }
 {
-    let number = refusal(dynamic, sram, page, 0, total, out.len());
-    if number != 0 {
-        return number;
+    if let Err(refusal) = accept(dynamic, sram, page, 0, total, out.len()) {
+        return refusal.number();
     }
     let pointers = pointers_for(dynamic, sram, page, td, total);
     copy_in(dynamic, sram, page, &pointers, total, out, 0);
@@ -32,6 +32,7 @@ pub extern "C" fn meter_in(
 }
 
 // Writes the first total bytes of source to the dTD at td; answers how many were dropped, or 65,536 times the number of its refusal.
+#[tactic(auto, unfolding(crate::specs::Meter::metering, crate::specs::Meter::answered, crate::specs::Meter::packed, transfer::specs::Checked::checked_sending, transfer::specs::Checked::sent, bus::specs::Stores::when))]
 #[unsafe(no_mangle)]
 pub extern "C" fn meter_out(
     dynamic: &mut [u8],
@@ -43,9 +44,8 @@ pub extern "C" fn meter_out(
 ) -> u32
     ensures { (result ≡ answered (shown dynamic.old sram.old page.old) td source.now total) × ((l : Bool) → bus (shown dynamic.new sram.new page.new) l ≡ exec store (metering td source.now total) (bus (shown dynamic.old sram.old page.old) l)) }
 {
-    let number = refusal(&*dynamic, &*sram, &*page, 0, total, source.len());
-    if number != 0 {
-        return 0x1_0000 * (number as u32);
+    if let Err(refusal) = accept(&*dynamic, &*sram, &*page, 0, total, source.len()) {
+        return 0x1_0000 * u32::from(refusal.number());
     }
     let pointers = pointers_for(&*dynamic, &*sram, &*page, td, total);
     copy_out(dynamic, sram, page, &pointers, source, total)

@@ -55,7 +55,7 @@ fn poke_pairs(
     let mut address = a;
     let mut i = 0;
     while i < count {
-        bus::checked_poke8(
+        let _ = bus::checked_poke8(
             dynamic,
             sram,
             page,
@@ -108,7 +108,7 @@ fn fill(dynamic: &mut [u8], sram: &mut [u8], page: &mut [u8], a: u32, count: u32
     let mut address = a;
     let mut left = count;
     while left > 0 {
-        bus::checked_poke8(dynamic, sram, page, address, value);
+        let _ = bus::checked_poke8(dynamic, sram, page, address, value);
         address = wrapping_add_u32(address, 1);
         left -= 1;
     }
@@ -116,8 +116,7 @@ fn fill(dynamic: &mut [u8], sram: &mut [u8], page: &mut [u8], a: u32, count: u32
 
 // The byte seen at an address: 0 outside the windows.
 fn seen(dynamic: &[u8], sram: &[u8], page: &[u8], a: u32) -> u8 {
-    let peeked = bus::checked_peek8(dynamic, sram, page, a);
-    (peeked.value % 256) as u8
+    bus::checked_peek8(dynamic, sram, page, a).unwrap_or(0)
 }
 
 // `count` bytes as they are seen from the address `a` on.

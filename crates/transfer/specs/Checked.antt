@@ -1,7 +1,7 @@
 -- Moves of a transfer's data with windows and areas of any lengths: refused with a number, and then nothing is changed, or what the definitions say.
 use Rattle.std.specs.Prelude.{ℕ, ◌+◌, Bool, ◌&&◌, List, length, ◌==◌, nat_le}
 use Rattle.bits.specs.Pick.{pick}
-use Rattle.bus.specs.declared.Poked.{Poked}
+use Rattle.bus.specs.Checked.{Poked}
 use Rattle.bus.specs.Memory.{Memory}
 use Rattle.bus.specs.Sized.{is_sized}
 use Rattle.bus.specs.Stores.{BusStep, dropped_by, when}

@@ -1,7 +1,9 @@
 // The data of one transfer descriptor (dTD): its page pointers, the address of each byte, and the moves in and out, page by page.
 #![tactic(auto)]
 
-ghost use Rattle.std.specs.Prelude.{◌≡◌, ℕ, ◌+◌, ◌*◌, ◌/◌, ◌%◌, ◌<◌, ◌≤◌, Bool, length};
+ghost use Rattle.std.specs.Prelude.{◌≡◌, ℕ, ◌+◌, ◌*◌, ◌/◌, ◌%◌, ◌<◌, ◌≤◌, Bool, length, OnOk};
+ghost use Rattle.refusal.specs.Number.{number_of};
+ghost use Rattle.bus.specs.Checked.{poked_of};
 ghost use Rattle.bus.specs.Memory.{shown};
 ghost use Rattle.bus.specs.Memory as M;
 ghost use Rattle.bus.specs.Sized.{Sized, Left};
@@ -11,7 +13,8 @@ ghost use Rattle.transfer.specs.Transfer as T;
 ghost use Rattle.transfer.specs.Pages as P;
 ghost use Rattle.transfer.specs.Checked as C;
 
-use bus::{Place, Poked, locate, peek32, sized};
+use bus::{Place, locate, peek32, sized};
+use refusal::{Refusal, unless};
 use std::num::wrapping_add_u32;
 
 // The nine page pointers of the dTD at td.
@@ -205,26 +208,27 @@ pub fn copy_out(
     lost
 }
 
-// The number that refuses a move of n bytes from index at on of an area of size bytes, 0 where it is accepted.
-pub fn refusal(dynamic: &[u8], sram: &[u8], page: &[u8], at: usize, n: usize, size: usize) -> u8
-    ensures { result ≡ C.refusal (shown dynamic.now sram.now page.now) at n size }
+// Accepts a move of n bytes from index at on of an area of size bytes.
+#[tactic(auto, using(crate::proofs::Checked::accepted), unfolding(crate::specs::Checked::refusal))]
+pub fn accept(
+    dynamic: &[u8],
+    sram: &[u8],
+    page: &[u8],
+    at: usize,
+    n: usize,
+    size: usize,
+) -> Result<(), Refusal>
+    ensures number { number_of result ≡ C.refusal (shown dynamic.now sram.now page.now) at n size }
+    ensures inside { OnOk result (Sized (shown dynamic.now sram.now page.now) × ((n ≤ 32767) × (at + n ≤ size))) }
 {
-    if !sized(dynamic, sram, page) {
-        return 1;
-    }
-    if 32767 < n {
-        return 2;
-    }
-    if size < n {
-        return 2;
-    }
-    if size - n < at {
-        return 2;
-    }
-    0
+    unless(sized(dynamic, sram, page), Refusal::Windows)?;
+    unless(n <= 32767, Refusal::Areas)?;
+    unless(n <= size, Refusal::Areas)?;
+    unless(at <= size - n, Refusal::Areas)
 }
 
-// Copies the first n bytes of a transfer to out, from index at on, for windows and an area of any lengths; answers 0 or the number of its refusal.
+// Copies the first n bytes of a transfer to out, from index at on, for windows and an area of any lengths. A refusal leaves out as it was.
+#[tactic(auto, unfolding(crate::specs::Checked::checked_received))]
 pub fn checked_copy_in(
     dynamic: &[u8],
     sram: &[u8],
@@ -233,18 +237,16 @@ pub fn checked_copy_in(
     n: usize,
     out: &mut [u8],
     at: usize,
-) -> u8
-    ensures { (result ≡ C.refusal (shown dynamic.now sram.now page.now) at n (length out.old)) × (out.new ≡ C.checked_received (shown dynamic.now sram.now page.now) pointers.now n out.old at) }
+) -> Result<(), Refusal>
+    ensures { (number_of result ≡ C.refusal (shown dynamic.now sram.now page.now) at n (length out.old)) × (out.new ≡ C.checked_received (shown dynamic.now sram.now page.now) pointers.now n out.old at) }
 {
-    let number = refusal(dynamic, sram, page, at, n, out.len());
-    if number != 0 {
-        return number;
-    }
+    accept(dynamic, sram, page, at, n, out.len())?;
     copy_in(dynamic, sram, page, pointers, n, out, at);
-    0
+    Ok(())
 }
 
-// Fills out with the bytes of a transfer from byte start on, for windows and an area of any lengths; answers 0 or the number of its refusal.
+// Fills out with the bytes of a transfer from byte start on, for windows and an area of any lengths. A refusal leaves out as it was.
+#[tactic(auto, unfolding(crate::specs::Checked::checked_from))]
 pub fn checked_copy_part(
     dynamic: &[u8],
     sram: &[u8],
@@ -252,18 +254,16 @@ pub fn checked_copy_part(
     pointers: &[u32; 9],
     start: usize,
     out: &mut [u8],
-) -> u8
-    ensures { (result ≡ C.refusal (shown dynamic.now sram.now page.now) start (length out.old) 32767) × (out.new ≡ C.checked_from (shown dynamic.now sram.now page.now) pointers.now start out.old) }
+) -> Result<(), Refusal>
+    ensures { (number_of result ≡ C.refusal (shown dynamic.now sram.now page.now) start (length out.old) 32767) × (out.new ≡ C.checked_from (shown dynamic.now sram.now page.now) pointers.now start out.old) }
 {
-    let number = refusal(dynamic, sram, page, start, out.len(), 32767);
-    if number != 0 {
-        return number;
-    }
+    accept(dynamic, sram, page, start, out.len(), 32767)?;
     copy_part(dynamic, sram, page, pointers, start, out);
-    0
+    Ok(())
 }
 
-// Writes the first n bytes of source to windows of any lengths; answers how many were dropped, or the number of its refusal.
+// Writes the first n bytes of source to windows of any lengths, and answers how many were dropped. A refusal leaves the windows as they were.
+#[tactic(auto, unfolding(crate::specs::Checked::checked_sending, crate::specs::Checked::sent, bus::specs::Stores::when, crate::specs::Transfer::sending))]
 pub fn checked_copy_out(
     dynamic: &mut [u8],
     sram: &mut [u8],
@@ -271,19 +271,9 @@ pub fn checked_copy_out(
     pointers: &[u32; 9],
     source: &[u8],
     n: usize,
-) -> Poked
-    ensures { (result ≡ C.sent (shown dynamic.old sram.old page.old) pointers.now source.now n) × ((l : Bool) → bus (shown dynamic.new sram.new page.new) l ≡ exec store (C.checked_sending pointers.now source.now n) (bus (shown dynamic.old sram.old page.old) l)) }
+) -> Result<u32, Refusal>
+    ensures { (poked_of result ≡ C.sent (shown dynamic.old sram.old page.old) pointers.now source.now n) × ((l : Bool) → bus (shown dynamic.new sram.new page.new) l ≡ exec store (C.checked_sending pointers.now source.now n) (bus (shown dynamic.old sram.old page.old) l)) }
 {
-    let number = refusal(&*dynamic, &*sram, &*page, 0, n, source.len());
-    if number != 0 {
-        return Poked {
-            refusal: number,
-            dropped: 0,
-        };
-    }
-    let dropped = copy_out(dynamic, sram, page, pointers, source, n);
-    Poked {
-        refusal: 0,
-        dropped,
-    }
+    accept(&*dynamic, &*sram, &*page, 0, n, source.len())?;
+    Ok(copy_out(dynamic, sram, page, pointers, source, n))
 }

@@ -1,7 +1,10 @@
 -- Facts on device accesses that their proofs cite.
 use Rattle.std.proofs.Common.{◌≡◌, ℕ, zero, suc, ◌+◌, ◌%◌, ◌≤◌, Bool, true, false, ◌&&◌, ◌||◌, eqb, leb, ◌⊎◌, List, [], ◌∷◌, map, sym, refl, ap, ◌∙◌, subst, inl, inr, ⊎_elim, arith, ne_eqb, eqb-true, le-leb, leb-false, leb-true}
 use borrow.Author.Tests.{lt-leb}
+use Rattle.std.specs.Prelude.{Result, Ok, Err, OnOk}
 use Rattle.bits.specs.Pick.{pick}
+use Rattle.refusal.specs.declared.Refusal.{Refusal}
+use Rattle.refusal.specs.Number.{number_of}
 use Rattle.bus.specs.Memory.{Memory, memory}
 use Rattle.bus.specs.Steps.{replay, exec_then}
 use Rattle.bus.specs.Stores as S
@@ -21,12 +24,6 @@ within off size last e = by_test (leb off last) refl
     by_test true h = le-leb (off + size) 4096 (omega (arith, leb-true off last h))
     by_test false h = lt-leb (off + size) 4096 (omega (arith, leb-false off last h))
 
--- an access that is not refused lies in a page of 4,096 bytes, and has a size
-pub record Accepted (len off size : ℕ) : Type 0 where
-  pub whole : len ≡ 4096
-  pub inside : off + size ≤ 4096
-  pub some : 1 ≤ size
-
 zero_means : (t u v w : Bool) → pick {A = ℕ} t (pick (u && (v && w)) 0 4) 1 ≡ 0 → (t ≡ true) × (u ≡ true) × (w ≡ true)
 zero_means true true true true e = (refl, refl, refl)
 zero_means true true true false e = absurd (omega arith)
@@ -38,11 +35,14 @@ some_size : (size : ℕ) → eqb size 1 || (eqb size 2 || eqb size 4) ≡ true �
 some_size zero e = let z : ◌≡◌ {A = ℕ} 0 1 = cc in omega arith
 some_size (suc n) e = omega arith
 
-pub accepted : (len off size : ℕ) → refusal len off size ≡ 0 → Accepted len off size
+-- an answer with the number of its refusal: one that is accepted lies in a page of 4,096 bytes, and has a size
+pub accepted : (len off size : ℕ) (r : Result (Unit {0}) Refusal) → number_of r ≡ refusal len off size
+    → OnOk r ((len ≡ 4096) × ((off + size ≤ 4096) × (1 ≤ size)))
 unfolding refusal fits
-accepted len off size e =
-    let z = zero_means (eqb len 4096) (eqb size 1 || (eqb size 2 || eqb size 4)) (eqb (off % size) 0) (leb (off + size) 4096) e in
-    record { whole = eqb-true len 4096 z.0; inside = leb-true (off + size) 4096 z.2; some = some_size size z.1 }
+accepted len off size (Ok t) e =
+    let z = zero_means (eqb len 4096) (eqb size 1 || (eqb size 2 || eqb size 4)) (eqb (off % size) 0) (leb (off + size) 4096) (sym e) in
+    (eqb-true len 4096 z.0, (leb-true (off + size) 4096 z.2, some_size size z.1))
+accepted len off size (Err r) e = tt
 
 -- a register whose bits a one clears is one of four, and any other is none of them
 pub clears : (off : ℕ) → (off ≡ 0x144) ⊎ ((off ≡ 0x178) ⊎ ((off ≡ 0x1AC) ⊎ (off ≡ 0x1BC))) → clears_by_one off ≡ true

@@ -5,8 +5,7 @@ use Rattle.bits.specs.Pick.{pick}
 use Rattle.bits.specs.Word.{clear, set}
 use Rattle.bus.specs.Sized.{PAGE}
 use Rattle.bus.specs.Words.{word_at}
-use Rattle.usbdev.specs.declared.Value.{Value}
-use Rattle.usbdev.specs.declared.Written.{Written}
+use Rattle.usbdev.specs.Answers.{Value, Written}
 use Rattle.usbdev.specs.Offsets.{USBCMD, USBSTS, EPNAK, OTGSC, EPSETUPSR, EPPRIME, EPFLUSH, EPSR, EPCOMPLETE}
 use Rattle.usbdev.specs.Registers.{Registers, registers, put, PageStep, done, ◌then◌, following}
 

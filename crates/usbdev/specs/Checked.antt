@@ -2,7 +2,7 @@
 use Rattle.std.specs.Prelude.{ℕ, false, List, length, ◌==◌}
 use Rattle.bits.specs.Pick.{pick}
 use Rattle.bus.specs.Sized.{PAGE}
-use Rattle.usbdev.specs.declared.Written.{Written}
+use Rattle.usbdev.specs.Answers.{Written}
 use Rattle.usbdev.specs.Registers.{Registers, line_of, raising, done}
 
 abbrev pub lined : List ℕ → Written

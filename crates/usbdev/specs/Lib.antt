@@ -1,3 +1,4 @@
+pub mod Answers
 pub mod Offsets
 pub mod Registers
 pub mod Access

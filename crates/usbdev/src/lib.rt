@@ -1,8 +1,10 @@
 // The register page of the USB controller: what the device reads and writes, the interrupt line, and `raise`.
 #![tactic(auto)]
 
-ghost use Rattle.std.specs.Prelude.{◌≡◌, ◌+◌, ◌-◌, ◌≤◌, Bool, length};
+ghost use Rattle.std.specs.Prelude.{◌≡◌, ◌+◌, ◌≤◌, Bool, false, length, OnOk};
 ghost use Rattle.bits.specs.Pick.{pick};
+ghost use Rattle.refusal.specs.Number.{number_of};
+ghost use Rattle.usbdev.specs.Answers.{value_of, written_of};
 ghost use Rattle.usbdev.specs.Registers as R;
 ghost use Rattle.usbdev.specs.Registers.{registers};
 ghost use Rattle.usbdev.specs.Access as Access;
@@ -11,6 +13,7 @@ ghost use Rattle.usbdev.specs.Checked as C;
 ghost use Rattle.bus.specs.Sized.{PAGE};
 
 use bus::{put_at, word_at};
+use refusal::{Refusal, unless};
 
 pub const USBCMD: usize = 0x140;
 
@@ -39,20 +42,6 @@ pub const EPSR: usize = 0x1B8;
 pub const EPCOMPLETE: usize = 0x1BC;
 
 pub const EPCR0: usize = 0x1C0;
-
-// A read's answer: 0 and the value, or the number of its refusal.
-#[derive(Clone, Copy)]
-pub struct Value {
-    pub refusal: u8,
-    pub value: u32,
-}
-
-// A write's answer: 0 or the number of its refusal, and the line's flag.
-#[derive(Clone, Copy)]
-pub struct Written {
-    pub refusal: u8,
-    pub line: bool,
-}
 
 // The interrupt line: an enabled USBSTS bit, or an enabled OTGSC status bit.
 pub fn line(page: &[u8]) -> bool
@@ -88,24 +77,22 @@ fn fits(off: u32, size: u32) -> bool
     }
 }
 
-// The number of an access's refusal, or 0.
-fn refusal(len: usize, off: u32, size: u32) -> u8
-    ensures { result ≡ Access.refusal len off size }
+// Accepts an access that lies aligned and whole in a page of the right length.
+#[tactic(auto, using(crate::proofs::Laws::accepted), unfolding(crate::specs::Access::refusal))]
+fn accept(len: usize, off: u32, size: u32) -> Result<(), Refusal>
+    ensures number { number_of result ≡ Access.refusal len off size }
+    ensures inside { OnOk result ((len ≡ PAGE) × ((off + size ≤ PAGE) × (1 ≤ size))) }
 {
-    if len != bus::PAGE {
-        return 1;
-    }
-    if fits(off, size) {
-        return 0;
-    }
-    4
+    unless(len == bus::PAGE, Refusal::Windows)?;
+    unless(fits(off, size), Refusal::Access)
 }
 
+#[tactic(auto, unfolding(crate::specs::Access::half_at))]
 fn half_at(page: &[u8], off: usize) -> u32
     requires { off + 2 ≤ length page.now }
     ensures { result ≡ Access.half_at page.now off }
 {
-    (page[off] as u32) * 256 + (page[off + 1] as u32)
+    u32::from(page[off]) * 256 + u32::from(page[off + 1])
 }
 
 // A four-byte read.
@@ -129,25 +116,17 @@ fn read_sized(page: &[u8], off: usize, size: u32) -> u32
     match size {
         4 => read_word(page, off),
         2 => half_at(page, off),
-        _ => bits::wide(page[off]),
+        _ => u32::from(page[off]),
     }
 }
 
 // What a device read of `size` bytes at `off` gives.
-pub fn read(page: &[u8], off: u32, size: u32) -> Value
-    ensures { result ≡ Access.reading page.now off size }
+#[tactic(auto, unfolding(crate::specs::Access::reading))]
+pub fn read(page: &[u8], off: u32, size: u32) -> Result<u32, Refusal>
+    ensures { value_of result ≡ Access.reading page.now off size }
 {
-    let number = refusal(page.len(), off, size);
-    if number != 0 {
-        return Value {
-            refusal: number,
-            value: 0,
-        };
-    }
-    Value {
-        refusal: 0,
-        value: read_sized(page, off as usize, size),
-    }
+    accept(page.len(), off, size)?;
+    Ok(read_sized(page, off as usize, size))
 }
 
 // Stores what a four-byte write lists, or the word as it is; whether it was listed.
@@ -234,19 +213,13 @@ fn write_sized(page: &mut [u8], off: usize, size: u32, v: u32, flag: bool) -> bo
     }
 }
 
-// A device write of `size` bytes at `off`; the line's flag goes in and comes out.
-pub fn write(page: &mut [u8], off: u32, size: u32, v: u32, flag: bool) -> Written
-    ensures { (result ≡ Access.writing (registers page.old flag) off size v) × (page.new ≡ Access.written (registers page.old flag) off size v) }
+// A device write of `size` bytes at `off`; the line's flag goes in and comes out. A refusal leaves the flag and the page.
+#[tactic(auto, unfolding(crate::specs::Access::writing, crate::specs::Access::written))]
+pub fn write(page: &mut [u8], off: u32, size: u32, v: u32, flag: bool) -> Result<bool, Refusal>
+    ensures { (written_of flag result ≡ Access.writing (registers page.old flag) off size v) × (page.new ≡ Access.written (registers page.old flag) off size v) }
 {
-    let number = refusal(page.len(), off, size);
-    if number != 0 {
-        return Written {
-            refusal: number,
-            line: flag,
-        };
-    }
-    let line = write_sized(page, off as usize, size, v, flag);
-    Written { refusal: 0, line }
+    accept(page.len(), off, size)?;
+    Ok(write_sized(page, off as usize, size, v, flag))
 }
 
 // FRINDEX after one more call at a step of the bus speed.
@@ -263,50 +236,26 @@ pub fn total(tok: u32) -> u32
     (tok >> 16) & 0x7FFF
 }
 
-// `a - b`, or 0 where that is below zero.
-fn saturating_sub(a: u32, b: u32) -> u32
-    ensures { result ≡ a - b }
-{
-    if b < a {
-        return a - b;
-    }
-    0
-}
-
 // A token once `n` bytes of its total have moved; more than the total leave none.
 pub fn token_after(tok: u32, n: u32) -> u32
     ensures { result ≡ T.token_after tok n }
 {
-    let left = saturating_sub(total(tok), n);
+    let left = total(tok).saturating_sub(n);
     (tok & !0x7FFF_0000 & !0xFF) | (left << 16)
 }
 
 // The interrupt line of a page of any length.
-pub fn checked_line(page: &[u8]) -> Written
-    ensures { result ≡ C.lined page.now }
+pub fn checked_line(page: &[u8]) -> Result<bool, Refusal>
+    ensures { written_of false result ≡ C.lined page.now }
 {
-    if page.len() != bus::PAGE {
-        return Written {
-            refusal: 1,
-            line: false,
-        };
-    }
-    Written {
-        refusal: 0,
-        line: line(page),
-    }
+    unless(page.len() == bus::PAGE, Refusal::Windows)?;
+    Ok(line(page))
 }
 
-// Sets bits of USBSTS on a page of any length.
-pub fn checked_raise(page: &mut [u8], sts: u32, flag: bool) -> Written
-    ensures { (result ≡ C.raised sts (registers page.old flag)) × (page.new ≡ C.raised_page sts (registers page.old flag)) }
+// Sets bits of USBSTS on a page of any length; the line's flag goes in and follows the line. A refusal leaves the flag and the page.
+pub fn checked_raise(page: &mut [u8], sts: u32, flag: bool) -> Result<bool, Refusal>
+    ensures { (written_of flag result ≡ C.raised sts (registers page.old flag)) × (page.new ≡ C.raised_page sts (registers page.old flag)) }
 {
-    if page.len() != bus::PAGE {
-        return Written {
-            refusal: 1,
-            line: flag,
-        };
-    }
-    let line = raise(page, sts, flag);
-    Written { refusal: 0, line }
+    unless(page.len() == bus::PAGE, Refusal::Windows)?;
+    Ok(raise(page, sts, flag))
 }

@@ -2,7 +2,6 @@
 use mathlib.Core.Path.{◌≡◌, ap, ◌∙◌}
 use mathlib.Core.List.{List}
 use Prim.Native.Nat.{ℕ}
-use Rattle.usbdev.specs.declared.Value.{Value}
 use Rattle.record.specs.declared.State.{State}
 use Rattle.record.specs.World.{own_midi, own_serial}
 use Rattle.usbhost.specs.declared.Host.{Host}
@@ -11,6 +10,7 @@ use Rattle.usbhost.specs.declared.Read.{Read}
 use Rattle.usbhost.specs.declared.MidiSent.{MidiSent}
 use Rattle.usbhost.specs.declared.Stored.{Stored}
 use Rattle.usbhost.specs.declared.TakenFrame.{TakenFrame}
+use Rattle.usbhost.specs.declared.Value.{Value}
 use Rattle.usbhost.specs.Host.{state_of, host_of, own_of, host_with}
 use Rattle.usbhost.specs.Calls.{midi_sent, serial_sent, given, given_ring, taken_frame, device_read, device_written, written_page}
 use Rattle.usbhost.specs.Promises.{sent, MidiPromise, SerialPromise, GivePromise, TakePromise, ReadPromise, WritePromise}

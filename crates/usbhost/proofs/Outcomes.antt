@@ -14,8 +14,7 @@ use Rattle.bus.proofs.Sizes.{and_true}
 use Rattle.midi.specs.declared.Packer.{Packer}
 use Rattle.midi.specs.declared.Sent as Midi
 use Rattle.midi.specs.Packer.{is_cable, packer_at, fresh, Sends, room_for, sent_of, queue_after, sent_on, queue_on}
-use Rattle.usbdev.specs.declared.Value.{Value}
-use Rattle.usbdev.specs.declared.Written.{Written}
+use Rattle.usbdev.specs.Answers.{Value, Written}
 use Rattle.usbdev.specs.Registers.{registers}
 use Rattle.usbdev.specs.Access.{fits, refusal, reading, writing, written}
 use Rattle.record.specs.declared.Lengths.{Lengths}
@@ -292,7 +291,7 @@ module _ (s : State) (spans : ℕ) (packers : List Packer) (setups page : List �
   unfolding device_read
   read_stops m = record { done = λ k o. simp (accessed_number k o, ne_eqb n 0 m) }
 
-  pub read_goes : n ≡ 0 → (v : Value) → v ≡ reading page off size → ReadPromise s spans packers setups page off size v
+  pub read_goes : n ≡ 0 → (v : Value) → v ≡ reading page off size → ReadPromise s spans packers setups page off size (record { refusal = v.refusal; value = v.value })
   unfolding device_read reading
   read_goes z v d =
       let right = accepts z in

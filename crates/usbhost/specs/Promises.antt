@@ -2,7 +2,6 @@
 -- goes as Calls says, and the state's answer, which is no part of the record, stays but in a microframe.
 use Rattle.std.specs.Prelude.{ℕ, ◌≡◌, List, []}
 use Rattle.midi.specs.declared.Packer.{Packer}
-use Rattle.usbdev.specs.declared.Value.{Value}
 use Rattle.record.specs.declared.Settings.{Settings}
 use Rattle.record.specs.declared.State.{State}
 use Rattle.record.specs.World.{Own, Lent, world, own, own_setups, own_midi, own_serial}
@@ -13,6 +12,7 @@ use Rattle.usbhost.specs.declared.Read.{Read}
 use Rattle.usbhost.specs.declared.MidiSent.{MidiSent}
 use Rattle.usbhost.specs.declared.Stored.{Stored}
 use Rattle.usbhost.specs.declared.TakenFrame.{TakenFrame}
+use Rattle.usbhost.specs.declared.Value.{Value}
 use Rattle.usbhost.specs.Host.{host_of, with_gone_spans, no_settings}
 use Rattle.usbhost.specs.Calls.{midi_sent, serial_sent, given, given_ring, taken_frame, device_read, device_written, written_page}
 use Rattle.usbhost.specs.Frame.{frame_number, framed}

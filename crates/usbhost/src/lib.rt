@@ -22,7 +22,6 @@ use record::{
     Answer, Audio, Control, DEVICE, Lengths, Phase, Port, QUEUE, RECEIVE, REPLY, RING, RING_FRAMES,
     Ring, SETUP_BYTES, Settings, Span, Stage, State,
 };
-use usbdev::Value;
 
 // The host record (usbhost.rs 205-288). Its fields are read by calls and written by no one outside.
 #[derive(Clone, Copy)]
@@ -82,6 +81,13 @@ pub struct Framed {
     pub dropped: u64,
     pub retired: u64,
     pub host: Host,
+}
+
+// What a device read gives: 0 or the number of its refusal, and the value.
+#[derive(Clone, Copy)]
+pub struct Value {
+    pub refusal: u8,
+    pub value: u32,
 }
 
 // Whether the phase is that of streaming.
@@ -675,9 +681,9 @@ fn access_number(
 ) -> u8
     ensures { result ≡ access_number (bare s spans packers setups.now) (length page.now) off size }
 {
-    let seen = usbdev::read(page, off, size);
+    let seen = usbdev::read(page, off, size).is_ok();
     let five = first_of(bounds::in_bounds(s, packers, setups), 0, 5);
-    let four = first_of(seen.refusal == 0, five, 4);
+    let four = first_of(seen, five, 4);
     let three = first_of(spans <= 16, four, 3);
     first_of(page.len() == bus::PAGE, three, 1)
 }
@@ -701,7 +707,13 @@ pub fn read_device(
             value: 0,
         };
     }
-    usbdev::read(page, off, size)
+    match usbdev::read(page, off, size) {
+        Ok(value) => Value { refusal: 0, value },
+        Err(refusal) => Value {
+            refusal: refusal.number(),
+            value: 0,
+        },
+    }
 }
 
 // What the device writes on the register page.
@@ -727,7 +739,7 @@ pub fn write_device(
     let line = s.port.line;
     let written = usbdev::write(page, off, size, v, line);
     let mut next = s;
-    next.port.line = written.line;
+    next.port.line = written.unwrap_or(line);
     Stored {
         refusal: 0,
         state: next,

@@ -1,20 +1,12 @@
--- `transfer::checked_copy_out` meets its contract. Assumes nothing.
-use Rattle.std.proofs.Common.{false, sym, ◌∙◌, arith}
-use Rattle.transfer.proofs.Checked.{accepted, sending_not, sending_done, sent_not, sent_done}
+-- `transfer::checked_copy_out` meets its contract.
+use Rattle.std.proofs.Common.{false, sym}
+use Rattle.bus.specs.Stores.{when}
+use Rattle.transfer.specs.Transfer.{sending}
+use Rattle.transfer.specs.Checked.{checked_sending, sent}
 use Rattle.transfer.proofs.checked_copy_out.Goals as goal
 
-pub returns-then-number-ne0 : goal.returns-then-number-ne0
-returns-then-number-ne0 c =
-    let e = c.refusal-number.ensures in
-    (sent_not _ _ _ _ _ e c.if-number-ne0.true, λ l. sending_not _ _ _ _ (λ z. c.if-number-ne0.true (e ∙ z)) l)
-
-pub copy_out-dropped-requires : goal.copy_out-dropped-requires
-copy_out-dropped-requires c =
-    let a = accepted _ _ _ _ (sym c.refusal-number.ensures ∙ c.if-number-ne0.false) in
-    record { sized = a.sized; n_bound = a.count; n_in_bounds = omega (arith, a.room) }
-
 pub returns : goal.returns
+unfolding checked_sending sent when sending
 returns c =
-    let e = sym c.refusal-number.ensures ∙ c.if-number-ne0.false in
-    let done = c.copy_out-dropped.ensures in
-    (sent_done _ _ _ _ _ e (done false).counted, λ l. sending_done _ _ _ _ e l (done l))
+    let number = sym c.in_ok-accept.ensures.number in
+    (simp (number, (c.copy_out.ensures false).counted), λ l. simp number (c.copy_out.ensures l).is)

@@ -16,4 +16,4 @@ unfolding read_sized
 returns-in_default c =
     let s = c.args.size in
     let none = c.in_default.in_default-own.rest in
-    simp (ne_eqb s 4 none.0.1, ne_eqb s 2 none.1, c.wide.ensures.0)
+    simp (ne_eqb s 4 none.0.1, ne_eqb s 2 none.1, c.from.ensures)
