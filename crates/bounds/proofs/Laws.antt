@@ -14,28 +14,46 @@ use Rattle.bus.proofs.Sizes.{and_true}
 use Rattle.midi.specs.declared.Packer.{Packer}
 use Rattle.midi.specs.Packer.{CABLES, message_length, packer_at, fresh, PackerBound}
 use Rattle.record.specs.declared.Ring.{Ring}
+use Rattle.record.specs.declared.Phase.{Phase}
+use Rattle.record.specs.declared.Phase.TheVariants.{Idle, Vbus, Reset, Enumerate, Stream}
+use Rattle.model.specs.Control.{enumerating}
 use Rattle.record.specs.Record.{Stats, COUNTERS, counter_at, counter_of, microframes}
 use Rattle.record.proofs.Counters.{counter_element}
-use Rattle.bounds.specs.Bounds.{made_at, all_made, other, none_asks, times, none_above, counters_ok, packer_ok, holds_none, each_packer, packers_ok, ring_ok}
+use Rattle.bounds.specs.Bounds.{every, made_at, all_made, other, none_asks, times, none_above, counters_ok, packer_ok, holds_none, each_packer, packers_ok, ring_ok}
 
--- one setup more
-pub made_more : (q : List ℕ) (n : ℕ) → (all_made q n && made_at q n) ≡ all_made q (n + 1)
+-- a test of the numbers below n, by what it is at each
+pub every_more : (test : ℕ → Bool) (n : ℕ) → (every test n && test n) ≡ every test (n + 1)
+unfolding every
+every_more test n = rw add-one refl
+
+every_is : (test all : ℕ → Bool) → all 0 ≡ true → ((n : ℕ) → all (suc n) ≡ (all n && test n)) → (n : ℕ) → every test n ≡ all n
+unfolding every
+every_is test all none more zero = sym none
+every_is test all none more (suc n) = rw (every_is test all none more n) (sym (more n))
+
+pub every_made : (q : List ℕ) (n : ℕ) → every (made_at q) n ≡ all_made q n
 unfolding all_made
-made_more q n = rw add-one refl
+every_made q n = every_is (made_at q) (all_made q) refl (λ k. refl) n
 
-pub asks_more : (q : List ℕ) (n : ℕ) → (none_asks q n && other q n) ≡ none_asks q (n + 1)
+pub every_other : (q : List ℕ) (n : ℕ) → every (other q) n ≡ none_asks q n
 unfolding none_asks
-asks_more q n = rw add-one refl
+every_other q n = every_is (other q) (none_asks q) refl (λ k. refl) n
 
--- one packer more
-pub packers_more : (test : Packer → Bool) (ps : List Packer) (n : ℕ) → (each_packer test ps n && test (packer_at ps n)) ≡ each_packer test ps (n + 1)
+pub every_packer : (test : Packer → Bool) (ps : List Packer) (n : ℕ) → every (λ k. test (packer_at ps k)) n ≡ each_packer test ps n
 unfolding each_packer
-packers_more test ps n = rw add-one refl
+every_packer test ps n = every_is (λ k. test (packer_at ps k)) (each_packer test ps) refl (λ k. refl) n
 
--- one counter more
-pub above_more : (m : ℕ) (r : Stats) (n : ℕ) → (none_above m r n && leb (get_or r (n + 1) 0) m) ≡ none_above m r (n + 1)
+pub every_counter : (m : ℕ) (r : Stats) (n : ℕ) → every (λ k. leb (get_or r (k + 1) 0) m) n ≡ none_above m r n
 unfolding none_above
-above_more m r n = rw (← counter_element (n + 1) r, add-one) refl
+every_counter m r n = every_is (λ k. leb (get_or r (k + 1) 0) m) (none_above m r) refl (λ k. rw (← counter_element (k + 1) r, add-one) refl) n
+
+-- a phase that is not enumeration
+pub other_phase : (p : Phase) → (p ≡ Enumerate → ⊥) → enumerating p ≡ false
+other_phase Idle h = refl
+other_phase Vbus h = refl
+other_phase Reset h = refl
+other_phase Enumerate h = absurd (h refl)
+other_phase Stream h = refl
 
 -- each of them
 none_above_lem : (m : ℕ) (r : Stats) (n : ℕ) → none_above m r n ≡ true → (k : ℕ) → k < n → leb (counter_at (suc k) r) m ≡ true

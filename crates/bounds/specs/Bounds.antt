@@ -15,6 +15,11 @@ use Rattle.record.specs.Setups.{little}
 use Rattle.record.specs.Record.{Stats, COUNTERS, counter_at, counter_of, microframes}
 use Rattle.model.specs.Control.{w_length, enumerating}
 
+-- a test of the numbers 0 to n - 1
+unfoldable pub every : (ℕ → Bool) → ℕ → Bool
+every test zero = true
+every test (suc n) = every test n && test n
+
 -- ---- setups that the source makes (usbhost.rs 477-482, 713, 723-735)
 
 -- four bytes as the little-endian word that is kept for them

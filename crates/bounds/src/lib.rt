@@ -1,9 +1,7 @@
 // The bounds of a host record (number 5), decided: a test for each clause, and all of them.
 #![tactic(auto)]
 
-ghost use Rattle.std.specs.Prelude.{◌≡◌, Bool, ◌+◌, ◌-◌, ◌≤◌, ◌<◌, min};
-ghost use Rattle.model.specs.Control.{enumerating as Control·enumerating};
-ghost use Rattle.midi.specs.Packer.{CABLES as Packer-as-CABLES};
+ghost use Rattle.std.specs.Prelude.{◌≡◌, Bool, ℕ, ◌<◌};
 ghost use Rattle.record.specs.Sizes as Sizes;
 ghost use Rattle.bounds.specs.Bounds as B;
 
@@ -21,6 +19,18 @@ const MOST: u64 = 0x100_0000_0000;
 
 // The count that stands for 0 in a timer.
 const ZERO: u64 = 0x4_0000_0000_0000;
+
+// Whether a test holds of each number below n. Every number is tested, so that no branch waits for an answer.
+fn every<F: Fn(usize) -> bool>(n: usize, test: F) -> bool
+    requires { (k : ℕ) → k < n → F.pre test k }
+    ensures { (of : ℕ → Bool) → ((k : ℕ) (b : Bool) → k < n → F.post test k b → b ≡ of k) → result ≡ B.every of n }
+{
+    let mut ok = true;
+    for i in 0..n {
+        ok &= test(i);
+    }
+    ok
+}
 
 // Whether the source makes a setup with these two words.
 pub fn made(first: u32, second: u32) -> bool
@@ -46,55 +56,6 @@ fn made_at(setups: &[u8; SETUP_BYTES], i: usize) -> bool
     made(first, second)
 }
 
-// Whether the source makes each of the first n setups.
-fn all_made(setups: &[u8; SETUP_BYTES], n: usize) -> bool
-    requires { n ≤ Sizes.SETUPS }
-    ensures { result ≡ B.all_made setups.now n }
-{
-    let mut ok = true;
-    let mut i: usize = 0;
-    while i < n {
-        let one = made_at(setups, i);
-        ok = ok & one;
-        i += 1;
-    }
-    ok
-}
-
-// Whether setup i of the queue asks for something else than the configuration.
-fn other_at(setups: &[u8; SETUP_BYTES], i: usize) -> bool
-    requires { i < Sizes.SETUPS }
-    ensures { result ≡ B.other setups.now i }
-{
-    let first = word_from(setups, 8 * i);
-    !(first == ASKS_CONFIGURATION)
-}
-
-// Whether none of the first n setups is a configuration request.
-fn none_asks(setups: &[u8; SETUP_BYTES], n: usize) -> bool
-    requires { n ≤ Sizes.SETUPS }
-    ensures { result ≡ B.none_asks setups.now n }
-{
-    let mut ok = true;
-    let mut i: usize = 0;
-    while i < n {
-        let one = other_at(setups, i);
-        ok = ok & one;
-        i += 1;
-    }
-    ok
-}
-
-// The number before n, or 0.
-fn before(n: usize) -> usize
-    ensures { result ≡ n - 1 }
-{
-    if n == 0 {
-        return 0;
-    }
-    n - 1
-}
-
 // The setups that wait.
 pub fn setups_ok(n: usize, setups: &[u8; SETUP_BYTES]) -> bool
     ensures { result ≡ B.setups_ok n setups.now }
@@ -102,30 +63,18 @@ pub fn setups_ok(n: usize, setups: &[u8; SETUP_BYTES]) -> bool
     if SETUPS < n {
         return false;
     }
-    let each = all_made(setups, n);
-    let last = none_asks(setups, before(n));
+    let each = every(n, |i| made_at(setups, i));
+    let last = every(n.saturating_sub(1), |i| {
+        word_from(setups, 8 * i) != ASKS_CONFIGURATION
+    });
     each & last
-}
-
-// Whether the phase is enumeration.
-fn enumerating(p: Phase) -> bool
-    ensures { result ≡ Control·enumerating p }
-{
-    match p {
-        Phase::Idle => false,
-        Phase::Vbus => false,
-        Phase::Reset => false,
-        Phase::Enumerate => true,
-        Phase::Stream => false,
-    }
 }
 
 // No setup waits and none runs outside enumeration.
 pub fn enumerating_ok(s: State) -> bool
     ensures { result ≡ B.enumerating_ok s }
 {
-    let phase = s.phase;
-    let inside = enumerating(phase);
+    let inside = matches!(s.phase, Phase::Enumerate);
     inside | ((s.lengths.setups == 0) & !s.control.on)
 }
 
@@ -160,35 +109,14 @@ pub fn packer_ok(p: Packer) -> bool
     (p.held <= 2) & (p.sysex | !two)
 }
 
-// Whether no packer holds a byte.
-fn none_held(packers: [Packer; CABLES]) -> bool
-    ensures { result ≡ B.each_packer B.holds_none packers Packer-as-CABLES }
-{
-    let mut none = true;
-    let mut i = 0;
-    while i < CABLES {
-        let p = packers[i];
-        none = none & (p.held == 0);
-        i += 1;
-    }
-    none
-}
-
 // The bytes that the packers hold: of most records no packer holds any, which is seen at once.
 pub fn packers_ok(packers: [Packer; CABLES]) -> bool
     ensures { result ≡ B.packers_ok packers }
 {
-    if none_held(packers) {
+    if every(CABLES, |i| packers[i].held == 0) {
         return true;
     }
-    let mut ok = true;
-    let mut i = 0;
-    while i < CABLES {
-        let p = packers[i];
-        ok = ok & packer_ok(p);
-        i += 1;
-    }
-    ok
+    every(CABLES, |i| packer_ok(packers[i]))
 }
 
 // The two microframe counts and the phase's start.
@@ -199,35 +127,19 @@ pub fn counts_ok(s: State) -> bool
     (n == s.port.uf) & ((s.port.uf <= MOST) & (s.port.t <= s.port.uf))
 }
 
-// The smaller of n and the most microframes.
-fn at_most(n: u64) -> u64
-    ensures { (result ≡ min n B.MOST) × (result ≤ B.MOST) }
-{
-    if n < MOST {
-        return n;
-    }
-    MOST
-}
-
 // The counters but that of microframes.
 pub fn counters_ok(r: [u64; record::COUNTERS]) -> bool
     ensures { result ≡ B.counters_ok r }
 {
-    let most = 32767 * at_most(r[record::MICROFRAMES]);
-    let mut ok = true;
-    let mut k = 0;
-    while k < record::COUNTERS - 1 {
-        ok = ok & (r[k + 1] <= most);
-        k += 1;
-    }
-    ok
+    let most = 32767 * r[record::MICROFRAMES].min(MOST);
+    every(record::COUNTERS - 1, |k| r[k + 1] <= most)
 }
 
 // The credit after n microframes.
 pub fn credit_ok(credit: u64, n: u64) -> bool
     ensures { result ≡ B.credit_ok credit n }
 {
-    let most = 623 * at_most(n);
+    let most = 623 * n.min(MOST);
     (credit % (Audio::FRAMES_PER_BLOCK as u64) == 0) & (credit <= most)
 }
 
@@ -238,7 +150,7 @@ pub fn timer_ok(t: Timer, n: u64) -> bool
     if !t.set {
         return true;
     }
-    let least = ZERO - 125 * at_most(n);
+    let least = ZERO - 125 * n.min(MOST);
     (least <= t.count) & (t.count <= 0x4_0000_0100_0000)
 }
 

@@ -5,4 +5,4 @@ use Rattle.bounds.proofs.credit_ok.Goals as goal
 
 pub returns : goal.returns
 unfolding credit_ok
-returns c = rw c.at_most-most.ensures.0 refl
+returns c = rw c.min-most.ensures refl

@@ -9,4 +9,4 @@ returns-then-not-t c = rw c.if-not-t.true refl
 
 pub returns : goal.returns
 unfolding timer_ok
-returns c = rw (c.if-not-t.false, c.at_most.ensures.0) refl
+returns c = rw (c.if-not-t.false, c.min.ensures) refl
