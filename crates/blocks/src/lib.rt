@@ -12,7 +12,6 @@ ghost use Rattle.record.specs.Sizes as Sizes;
 ghost use Rattle.blocks.specs.Promises.{InRing, Keeps, KeepsFrames, one_bad, one_good};
 
 use record::{Audio, RING_FRAMES, Ring};
-use std::num::wrapping_add_u64;
 
 // The place `ahead` frames behind place `start` of a ring with this capacity.
 pub fn place(start: usize, ahead: usize, capacity: usize) -> usize
@@ -49,13 +48,11 @@ fn decode_frame(block: &[u8], f: usize, received: &mut [u32], at: usize)
     requires at_bound { (at < Sizes.FRAMES) × (length received.old ≡ Sizes.RING) }
     ensures { received.new ≡ sets received.old (at * 12) (words_of (take 48 (drop (48 * f) (drop 32 block.now)))) }
 {
-    let mut c = 0;
-    while c < Audio::CHANNELS {
+    for c in 0..Audio::CHANNELS {
         received[Audio::CHANNELS * at + c] = bus::word_at(
             block,
             32 + 4 * (Audio::CHANNELS * f + c),
         );
-        c += 1;
     }
 }
 
@@ -66,12 +63,10 @@ fn decode_frames(block: &[u8], received: &mut [u32], before: Ring) -> Ring
     ensures { KeepsFrames (drop 32 block.now) before received.old result received.new }
 {
     let mut ring = before;
-    let mut f = 0;
-    while f < Audio::FRAMES_PER_BLOCK {
+    for f in 0..Audio::FRAMES_PER_BLOCK {
         let at = place(ring.start, ring.len, RING_FRAMES);
         decode_frame(block, f, received, at);
         ring = pushed(ring);
-        f += 1;
     }
     ring
 }
@@ -89,9 +84,10 @@ pub struct Decoded {
 fn one_bad(d: Decoded) -> Decoded
     ensures { result ≡ one_bad d }
 {
-    let mut next = d;
-    next.bad = wrapping_add_u64(d.bad, 1);
-    next
+    Decoded {
+        bad: d.bad.wrapping_add(1),
+        ..d
+    }
 }
 
 // One more good block, whose frames are in the ring.
@@ -100,9 +96,9 @@ fn one_good(d: Decoded, ring: Ring) -> Decoded
 {
     Decoded {
         ring,
-        credit: wrapping_add_u64(d.credit, Audio::FRAMES_PER_BLOCK as u64),
-        frames: wrapping_add_u64(d.frames, Audio::FRAMES_PER_BLOCK as u64),
-        bad: d.bad,
+        credit: d.credit.wrapping_add(Audio::FRAMES_PER_BLOCK as u64),
+        frames: d.frames.wrapping_add(Audio::FRAMES_PER_BLOCK as u64),
+        ..d
     }
 }
 
@@ -147,11 +143,8 @@ pub fn decode_run(
     ensures { Keeps (keeps_blocks (blocks_of (bytes_in (shown dynamic.now sram.now page.now) pointers.now total))) before received.old result received.new }
 {
     let mut d = before;
-    let blocks = total / Audio::BLOCK;
-    let mut i = 0;
-    while i < blocks {
+    for i in 0..total / Audio::BLOCK {
         d = decode_block(dynamic, sram, page, pointers, Audio::BLOCK * i, received, d);
-        i += 1;
     }
     if total % Audio::BLOCK != 0 {
         return one_bad(d);

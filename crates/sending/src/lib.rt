@@ -26,11 +26,8 @@ fn encode_frame(block: &mut [u8], from: usize, channels: usize, sending: &[u32],
     requires at_in_bounds { (at * 12 + 12 ≤ length sending.now) × (at < Sizes.FRAMES) }
     ensures { (p : List ℕ) → length p ≡ from → Begun block.old p → Begun block.new (p ++ channel_bytes channels (take 12 (drop (at * 12) sending.now))) }
 {
-    let count = bits::least(channels, Audio::CHANNELS);
-    let mut c = 0;
-    while c < count {
+    for c in 0..channels.min(Audio::CHANNELS) {
         bus::put_at(block, from + 4 * c, sending[Audio::CHANNELS * at + c]);
-        c += 1;
     }
 }
 
@@ -40,12 +37,9 @@ fn encode_frames(block: &mut [u8], channels: usize, sending: &[u32], ring: Ring,
     requires sends { Sends ring capacity sending.now }
     ensures { (w : World) (p : List ℕ) → length p ≡ 32 → Begun block.old p → Begun block.new (p ++ frame_bytes 0 7 (at_sending w ring channels sending.now)) }
 {
-    let count = bits::least(ring.len, Audio::FRAMES_PER_BLOCK);
-    let mut f = 0;
-    while f < count {
+    for f in 0..ring.len.min(Audio::FRAMES_PER_BLOCK) {
         let at = blocks::place(ring.start, f, capacity);
         encode_frame(block, 32 + 4 * (f * channels), channels, sending, at);
-        f += 1;
     }
 }
 

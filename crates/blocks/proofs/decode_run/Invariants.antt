@@ -1,5 +1,4 @@
--- What each loop of `blocks::decode_run` keeps, and its measure.
-use Rattle.std.proofs.Common.{◌-◌, ◌/◌}
+-- What the loop of `blocks::decode_run` keeps.
 use Rattle.bus.specs.Memory.{memory}
 use Rattle.blocks.proofs.Laws.{Decoding}
 use Rattle.blocks.proofs.decode_run.Given as goal
@@ -7,6 +6,3 @@ use Rattle.blocks.proofs.decode_run.Given as goal
 -- What is left from here makes the whole.
 abbrev pub invariant-loop-i : goal.invariant-loop-i
 invariant-loop-i l = Decoding (memory l.dynamic l.sram l.page) l.pointers l.total l.initial.d l.initial.received l.d l.received l.i
-
-abbrev pub decreases-loop-i : goal.decreases-loop-i
-decreases-loop-i l = l.total / 368 - l.i

@@ -1,5 +1,5 @@
--- What each loop of `sending::encode_frame` keeps, and its measure.
-use Prim.Native.Nat.{◌-◌, ◌*◌, ◌≤◌, min}
+-- What the loop of `sending::encode_frame` keeps.
+use Prim.Native.Nat.{◌*◌, min}
 use mathlib.Core.Path.{◌≡◌}
 use lib.ListN.{take, drop}
 use Rattle.sending.proofs.Laws.{Channels}
@@ -7,7 +7,4 @@ use Rattle.sending.proofs.encode_frame.Given as goal
 
 abbrev pub invariant-loop-c : goal.invariant-loop-c
 invariant-loop-c l =
-    (l.c ≤ min l.channels 12) × (l.count ≡ min l.channels 12) × Channels l.from (take 12 (drop (l.at * 12) l.sending)) l.initial.block l.block l.c
-
-abbrev pub decreases-loop-c : goal.decreases-loop-c
-decreases-loop-c l = l.count - l.c
+    (l.c-end ≡ min l.channels 12) × Channels l.from (take 12 (drop (l.at * 12) l.sending)) l.initial.block l.block l.c
