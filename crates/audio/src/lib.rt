@@ -13,9 +13,8 @@ ghost use Rattle.audio.specs.Promises as P;
 
 use blocks::Decoded;
 use dtd::Found;
-use record::{Audio, State};
+use record::{Audio, Ring, State};
 use sending::encode;
-use std::num::{wrapping_add_u16, wrapping_add_u64};
 use usbdev::EPSR;
 
 // The bits of endpoint 3 in EPSR.
@@ -50,7 +49,7 @@ fn pace(dynamic: &[u8], sram: &[u8], page: &[u8], budget: u64) -> Paced
         };
     }
     let total = usbdev::total(dtd::token_of(dynamic, sram, page, td)) as u64;
-    let grown = wrapping_add_u64(budget, Audio::BLOCK as u64);
+    let grown = budget.wrapping_add(Audio::BLOCK as u64);
     if grown < total {
         return Paced {
             budget: grown,
@@ -68,9 +67,8 @@ fn decoded_of(s: State) -> Decoded
     ensures value { result ≡ P.decoded_of s }
     ensures result_value { with_decoded s result ≡ s }
 {
-    let ring = s.audio.received;
     Decoded {
-        ring,
+        ring: s.audio.received,
         credit: s.audio.credit,
         frames: record::counter(s, record::IN_FRAMES),
         bad: record::counter(s, record::BAD_BLOCKS),
@@ -81,11 +79,9 @@ fn decoded_of(s: State) -> Decoded
 fn with_decoded(s: State, d: Decoded) -> State
     ensures { result ≡ with_decoded s d }
 {
-    let ring = d.ring;
     let counted = record::with_counter(s, record::IN_FRAMES, d.frames);
     let mut next = record::with_counter(counted, record::BAD_BLOCKS, d.bad);
-    next.audio.received.start = ring.start;
-    next.audio.received.len = ring.len;
+    next.audio.received = d.ring;
     next.audio.credit = d.credit;
     next
 }
@@ -175,19 +171,20 @@ fn after_block(s: State, capacity: usize) -> State
     ensures { result ≡ P.sent_block s capacity }
 {
     let ring = s.audio.sending;
-    let count = bits::least(Audio::FRAMES_PER_BLOCK, ring.len);
+    let count = Audio::FRAMES_PER_BLOCK.min(ring.len);
     let missing = (Audio::FRAMES_PER_BLOCK - count) as u64;
     let start = blocks::place(ring.start, count, capacity);
-    let counter = wrapping_add_u16(s.audio.counter, Audio::FRAMES_PER_BLOCK as u16);
+    let counter = s.audio.counter.wrapping_add(Audio::FRAMES_PER_BLOCK as u16);
     let credit = s.audio.credit - Audio::FRAMES_PER_BLOCK as u64;
-    let len = ring.len - count;
     let lacks = record::count(s, record::OUT_UNDERRUNS, missing);
     let moved = record::count(lacks, record::OUT_TRANSFERS, 1);
     let mut next = record::count(moved, record::OUT_FRAMES, Audio::FRAMES_PER_BLOCK as u64);
     next.audio.counter = counter;
     next.audio.credit = credit;
-    next.audio.sending.start = start;
-    next.audio.sending.len = len;
+    next.audio.sending = Ring {
+        start,
+        len: ring.len - count,
+    };
     next
 }
 
