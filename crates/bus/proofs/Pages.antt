@@ -1,12 +1,13 @@
 -- Within a page of 4,096 bytes every address leads into the same window, one place after the other.
-use Rattle.std.proofs.Common.{◌≡◌, ℕ, zero, suc, ◌+◌, ◌-◌, ◌*◌, ◌/◌, ◌%◌, ◌^◌, ◌<◌, ◌≤◌, Bool, true, false, ltb, length, sym, refl, ap, ◌∙◌, subst, sub-add_cancel, arith, ltb-false, ltb-true, le-ltb, lt-ltb}
+use Rattle.std.proofs.Common.{◌≡◌, ℕ, zero, suc, ◌+◌, ◌-◌, ◌*◌, ◌/◌, ◌%◌, ◌^◌, ◌<◌, ◌≤◌, Bool, true, false, ltb, length, sym, refl, ap, ◌∙◌, subst, sub-add_cancel, mod-lt, arith, ltb-false, ltb-true, le-ltb, lt-ltb}
+use lib.Bits.{bit_and}
 use lib.Pow.{mod-pow-add}
 use Rattle.bits.specs.Pick.{pick}
 use Rattle.bus.specs.declared.Place.{Place}
 use Rattle.bus.specs.declared.Place.TheVariants.{Dynamic, Static, Page, Nowhere}
 use Rattle.bus.specs.Memory.{Memory, place, at}
 use Rattle.bus.specs.Sized.{Power, Sized}
-use Rattle.bus.proofs.Places.{Inside, inside}
+use Rattle.bus.proofs.Places.{Inside, inside, masked, power_pos}
 
 -- the k-th place after a place
 abbrev pub shift : Place → ℕ → Place
@@ -32,6 +33,12 @@ mod_shift {n} a k w h =
 
     omega_step : ((a + k) / 2 ^ 12 % 2 ^ j) * 2 ^ 12 + (a + k) % 2 ^ 12 ≡ (a / 2 ^ 12 % 2 ^ j) * 2 ^ 12 + a % 2 ^ 12 + k
     omega_step = omega (arith, ap (λ (x : ℕ). (x % 2 ^ j) * 4096) same)
+
+-- what is left of a page lies in dynamic memory
+pub dynamic_fits : {n : ℕ} → Power n → (a : ℕ) → bit_and a (n - 1) + 4096 ≤ n + a % 4096
+dynamic_fits {n} w a =
+    rw (masked w a)
+    (omega (arith, mod_shift a (4095 - a % 4096) w (omega arith), mod-lt (a + (4095 - a % 4096)) (power_pos w)))
 
 -- a test against a multiple of 4,096 gives the same answer in all of a page
 ltb_shift : (a k b : ℕ) → a % 4096 + k < 4096 → b % 4096 ≡ 0 → ltb (a + k) b ≡ ltb a b

@@ -87,9 +87,6 @@ module _ (m : Memory) (a : ℕ) (q : Place) (e : at m a ≡ q) where
   unfolding poke8
   poke_at v = ap (λ (p : Place). write m p v) e
 
-  pub inside_at : Sized m → Inside m q
-  inside_at s = subst (Inside m) e (inside s a)
-
 -- whether a byte is dropped does not depend on the length of dynamic memory
 lost_any : (n k a : ℕ) → lost (place n a) ≡ lost (place k a)
 unfolding place lost

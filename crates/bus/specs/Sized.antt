@@ -1,5 +1,7 @@
 -- The lengths of the three windows that are accepted (document 01, "Numbers of refusal", 1), and the test that decides them.
-use Rattle.std.specs.Prelude.{◌≡◌, ℕ, ◌-◌, ◌^◌, ◌≤◌, Bool, ◌&&◌, length, ◌==◌, bit_and, nat_le}
+use Rattle.std.specs.Prelude.{◌≡◌, ℕ, ◌+◌, ◌-◌, ◌%◌, ◌^◌, ◌≤◌, Bool, ◌&&◌, length, ◌==◌, bit_and, nat_le}
+use Rattle.bus.specs.declared.Place.{Place}
+use Rattle.bus.specs.declared.Place.TheVariants.{Dynamic, Static, Page, Nowhere}
 use Rattle.bus.specs.Memory.{Memory}
 
 -- bytes of static memory and of the register page
@@ -20,6 +22,13 @@ pub record Sized (m : Memory) : Type 0 where
   pub dynamic_length : Power (length m.dynamic)
   pub sram_length : length m.sram ≡ SRAM
   pub page_length : length m.page ≡ PAGE
+
+-- what is left of the page of 4,096 bytes that has address a lies in the window of its place; dynamic memory has n bytes
+abbrev pub PageFits : ℕ → ℕ → Place → Type 0
+PageFits n a (Dynamic i) = i + 4096 ≤ n + a % 4096
+PageFits n a (Static i) = i + 4096 ≤ SRAM + a % 4096
+PageFits n a (Page i) = i + 4096 ≤ PAGE + a % 4096
+PageFits n a Nowhere = Unit {0}
 
 -- what a function leaves in the windows: m, which is what a definition says, and is sized again
 pub record Left (m said : Memory) : Type 0 where

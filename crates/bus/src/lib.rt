@@ -7,7 +7,7 @@ ghost use Rattle.refusal.specs.declared.Refusal.TheVariants.{Windows};
 ghost use Rattle.std.proofs.lemmas.List.Edits.{sets};
 ghost use Rattle.bus.specs.Memory as M;
 ghost use Rattle.bus.specs.Memory.{shown};
-ghost use Rattle.bus.specs.Sized.{Power, Sized, Left, is_power, is_sized};
+ghost use Rattle.bus.specs.Sized.{Power, Sized, Left, PageFits, is_power, is_sized};
 ghost use Rattle.bus.specs.Words as W;
 ghost use Rattle.bus.specs.Checked.{peeked, poked, peeked_of, poked_of, kept};
 
@@ -29,9 +29,11 @@ pub enum Place {
 }
 
 // Where address a leads if dynamic memory has n bytes.
+#[tactic(auto, using(crate::proofs::Places::masked), unfolding(crate::specs::Memory::place))]
 pub fn locate(n: usize, a: u32) -> Place
     requires { Power n }
-    ensures { result ≡ M.place n a }
+    ensures place { result ≡ M.place n a }
+    ensures fits { PageFits n a result }
 {
     if a < 0x4000_0000 {
         return Place::Nowhere;
@@ -54,6 +56,7 @@ pub fn locate(n: usize, a: u32) -> Place
 }
 
 // The byte at address a.
+#[tactic(auto, using(crate::proofs::Places::peek_at), unfolding(crate::specs::Memory::at, crate::specs::Memory::read))]
 pub fn peek8(dynamic: &[u8], sram: &[u8], page: &[u8], a: u32) -> u8
     requires { Sized (shown dynamic.now sram.now page.now) }
     ensures { result ≡ M.peek8 (shown dynamic.now sram.now page.now) a }
@@ -90,13 +93,15 @@ pub fn poke8(dynamic: &mut [u8], sram: &mut [u8], page: &mut [u8], a: u32, v: u8
 }
 
 // Four bytes as a big-endian word.
+#[tactic(auto, unfolding(crate::specs::Memory::word))]
 pub fn word(b0: u8, b1: u8, b2: u8, b3: u8) -> u32
     ensures { result ≡ M.word b0 b1 b2 b3 }
 {
-    (b0 as u32) * 0x100_0000 + (b1 as u32) * 0x1_0000 + (b2 as u32) * 0x100 + (b3 as u32)
+    u32::from(b0) * 0x100_0000 + u32::from(b1) * 0x1_0000 + u32::from(b2) * 0x100 + u32::from(b3)
 }
 
 // The word at index i of one window; a register is one of the page.
+#[tactic(auto, unfolding(crate::specs::Words::word_at))]
 pub fn word_at(s: &[u8], i: usize) -> u32
     requires { i + 4 ≤ length s.now }
     ensures { result ≡ W.word_at s.now i }
@@ -105,6 +110,7 @@ pub fn word_at(s: &[u8], i: usize) -> u32
 }
 
 // Stores v at index i of one window.
+#[tactic(auto, unfolding(crate::specs::Words::word_put))]
 pub fn put_at(s: &mut [u8], i: usize, v: u32)
     requires { i + 4 ≤ length s.old }
     ensures { s.new ≡ W.word_put s.old i v }
@@ -116,6 +122,7 @@ pub fn put_at(s: &mut [u8], i: usize, v: u32)
 }
 
 // The word at address a, byte by byte.
+#[tactic(auto, unfolding(crate::specs::Memory::peek32, crate::specs::Memory::after))]
 fn peek32_bytes(dynamic: &[u8], sram: &[u8], page: &[u8], a: u32) -> u32
     requires { Sized (shown dynamic.now sram.now page.now) }
     ensures { result ≡ M.peek32 (shown dynamic.now sram.now page.now) a }
@@ -153,6 +160,7 @@ fn poke32_bytes(dynamic: &mut [u8], sram: &mut [u8], page: &mut [u8], a: u32, v:
 }
 
 // The word at address a: at once where it lies in one page of 4,096 bytes, since no window ends inside one.
+#[tactic(auto, using(crate::proofs::PageWords::peek_word), unfolding(crate::specs::Memory::at))]
 pub fn peek32(dynamic: &[u8], sram: &[u8], page: &[u8], a: u32) -> u32
     requires { Sized (shown dynamic.now sram.now page.now) }
     ensures { result ≡ M.peek32 (shown dynamic.now sram.now page.now) a }
@@ -195,6 +203,7 @@ pub fn poke32(dynamic: &mut [u8], sram: &mut [u8], page: &mut [u8], a: u32, v: u
 }
 
 // Whether n is a power of two from 4,096 to 67,108,864.
+#[tactic(auto, unfolding(crate::specs::Sized::is_power))]
 pub fn power(n: usize) -> bool
     ensures { result ≡ is_power n }
 {
@@ -208,6 +217,7 @@ pub fn power(n: usize) -> bool
 }
 
 // Whether the windows are as long as they must be: number 1 is given where not.
+#[tactic(auto, unfolding(crate::specs::Sized::is_sized))]
 pub fn sized(dynamic: &[u8], sram: &[u8], page: &[u8]) -> bool
     ensures { result ≡ is_sized (shown dynamic.now sram.now page.now) }
 {
@@ -276,6 +286,7 @@ pub fn checked_poke32(
 }
 
 // Stores bytes in an area, from a place on.
+#[tactic(auto, using(bits::proofs::Lists::put_sets))]
 pub fn put_bytes(area: &mut [u8], at: usize, source: &[u8])
     requires { at + length source.now ≤ length area.old }
     ensures { area.new ≡ sets area.old at source.now }

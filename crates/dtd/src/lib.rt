@@ -23,6 +23,7 @@ pub enum Found {
 }
 
 // The queue head of an endpoint's direction.
+#[tactic(auto, unfolding(crate::specs::Dtd::queue_head))]
 pub fn qh(page: &[u8], ep: u32, dir_in: bool) -> u32
     requires { (length page.now ≡ PAGE) × (ep < 16) }
     ensures { result ≡ D.queue_head (D.endpoint ep dir_in) page.now }
@@ -35,6 +36,7 @@ pub fn qh(page: &[u8], ep: u32, dir_in: bool) -> u32
 }
 
 // The pointer to the next descriptor that the controller would run; 1 where there is none.
+#[tactic(auto, unfolding(crate::specs::Dtd::next_of, bus::specs::Memory::after))]
 pub fn next_dtd(dynamic: &[u8], sram: &[u8], page: &[u8], qh: u32) -> u32
     requires { Sized (shown dynamic.now sram.now page.now) }
     ensures { result ≡ D.next_of qh (shown dynamic.now sram.now page.now) }
@@ -51,6 +53,7 @@ pub fn next_dtd(dynamic: &[u8], sram: &[u8], page: &[u8], qh: u32) -> u32
 }
 
 // The token of the descriptor that the pointer n names.
+#[tactic(auto, using(crate::proofs::Laws::after_is))]
 pub fn token_of(dynamic: &[u8], sram: &[u8], page: &[u8], n: u32) -> u32
     requires { Sized (shown dynamic.now sram.now page.now) }
     ensures { result ≡ D.token_of n (shown dynamic.now sram.now page.now) }
@@ -64,6 +67,7 @@ pub fn token_of(dynamic: &[u8], sram: &[u8], page: &[u8], n: u32) -> u32
 }
 
 // What stands before a descriptor of the endpoint, whose bit of EPSR is `bit`.
+#[tactic(auto, using(crate::proofs::Laws::found_unprimed, crate::proofs::Laws::found_none, crate::proofs::Laws::found_active, crate::proofs::Laws::found_inactive))]
 pub fn find(dynamic: &[u8], sram: &[u8], page: &[u8], ep: u32, dir_in: bool, bit: u32) -> Found
     requires sized { Sized (shown dynamic.now sram.now page.now) }
     requires ep_bound { (ep < 16) × (bit ≡ D.bit_of (D.endpoint ep dir_in)) }
@@ -109,6 +113,7 @@ fn close(
 }
 
 // The completion bit, where the token asks for an interrupt.
+#[tactic(auto, unfolding(crate::specs::Dtd::completing, usbdev::specs::Registers::store))]
 fn complete(page: &mut [u8], tok: u32, bit: u32)
     requires { length page.old ≡ PAGE }
     ensures { (l : Bool) → registers page.new l ≡ done (D.completing tok bit) (registers page.old l) }
@@ -174,6 +179,7 @@ pub fn retire(
 }
 
 // Whether a list ends at the pointer n: it names no descriptor, or one that is not active.
+#[tactic(auto, unfolding(crate::specs::Dtd::list_ends))]
 fn list_ends(dynamic: &[u8], sram: &[u8], page: &[u8], n: u32) -> bool
     requires { Sized (shown dynamic.now sram.now page.now) }
     ensures { result ≡ D.list_ends n (shown dynamic.now sram.now page.now) }
@@ -185,6 +191,7 @@ fn list_ends(dynamic: &[u8], sram: &[u8], page: &[u8], n: u32) -> bool
 }
 
 // The endpoint's bit of EPSR goes where its list ends.
+#[tactic(auto, unfolding(crate::specs::Dtd::unpriming, usbdev::specs::Registers::store))]
 fn unprime(page: &mut [u8], ends: bool, bit: u32)
     requires { length page.old ≡ PAGE }
     ensures { (l : Bool) → registers page.new l ≡ done (D.unpriming ends bit) (registers page.old l) }
@@ -196,6 +203,7 @@ fn unprime(page: &mut [u8], ends: bool, bit: u32)
 }
 
 // A flagged completion raises UI.
+#[tactic(auto, unfolding(crate::specs::Dtd::reporting))]
 fn report(page: &mut [u8], completed: bool, flag: bool) -> bool
     requires { length page.old ≡ PAGE }
     ensures { registers page.new result ≡ done (D.reporting completed) (registers page.old flag) }
@@ -295,7 +303,7 @@ pub fn send_one(
     requires { Sized (shown dynamic.old sram.old page.old) }
     ensures { P.SendsOne qh n tok bit bytes.now (Stores·bus (shown dynamic.old sram.old page.old) flag) (Stores·bus (shown dynamic.new sram.new page.new) result.line) result }
 {
-    let count = bits::least(usbdev::total(tok) as usize, bytes.len());
+    let count = (usbdev::total(tok) as usize).min(bytes.len());
     let td = bits::clear(n, 0x1F);
     let ps = transfer::pointers_for(&*dynamic, &*sram, &*page, td, count);
     let lost = transfer::copy_out(dynamic, sram, page, &ps, bytes, count);

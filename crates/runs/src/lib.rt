@@ -80,7 +80,7 @@ fn take_in(
 {
     let at = t.at;
     let total = usbdev::total(tok);
-    let keep = bits::least(total as usize, limit - at);
+    let keep = (total as usize).min(limit - at);
     let next = t.next;
     let ps = transfer::pointers_for(&*dynamic, &*sram, &*page, bits::clear(next, 0x1F), keep);
     transfer::copy_in(&*dynamic, &*sram, &*page, &ps, keep, out, at);
@@ -144,13 +144,11 @@ fn loop_in(
     ensures { T.LoopsIn (D.endpoint ep true) qh first limit (shown dynamic.old sram.old page.old) (shown dynamic.new sram.new page.new) out.old out.new at result }
 {
     let mut t = first_turn(first, at);
-    let mut left: u32 = 64;
-    while left > 0 {
+    for i in 0..64u32 {
         t = turn_in(dynamic, sram, page, out, ep, qh, bit, limit, t);
         if t.stop {
             return t;
         }
-        left -= 1;
     }
     t
 }
@@ -216,7 +214,7 @@ fn give_out(
 {
     let at = t.at;
     let next = t.next;
-    let count = bits::least(usbdev::total(tok) as usize, bytes.len() - at);
+    let count = (usbdev::total(tok) as usize).min(bytes.len() - at);
     let ps = transfer::pointers_for(&*dynamic, &*sram, &*page, bits::clear(next, 0x1F), count);
     let lost = transfer::copy_out(dynamic, sram, page, &ps, &bytes[at..], count);
     let moved = count as u32;
@@ -276,13 +274,11 @@ fn loop_out(
     ensures { T.Looped (D.endpoint ep false) qh first bytes.now (shown dynamic.old sram.old page.old) (shown dynamic.new sram.new page.new) 0 result }
 {
     let mut t = first_turn(first, 0);
-    let mut left: u32 = 64;
-    while left > 0 {
+    for i in 0..64u32 {
         t = turn_out(dynamic, sram, page, bytes, ep, qh, bit, t);
         if t.stop {
             return t;
         }
-        left -= 1;
     }
     t
 }
@@ -326,7 +322,7 @@ fn fill_one(
     requires limit_in_bounds { (limit ≤ length out.old) × (at ≤ limit) }
     ensures { T.FillsOne qh n tok bit limit (shown dynamic.old sram.old page.old) (Stores·bus (shown dynamic.old sram.old page.old) flag) (Stores·bus (shown dynamic.new sram.new page.new) result.ran.line) out.old out.new at result }
 {
-    let keep = bits::least(usbdev::total(tok) as usize, limit - at);
+    let keep = (usbdev::total(tok) as usize).min(limit - at);
     let ps = transfer::pointers_for(&*dynamic, &*sram, &*page, bits::clear(n, 0x1F), keep);
     transfer::copy_in(&*dynamic, &*sram, &*page, &ps, keep, out, at);
     let ran = dtd::take_one(dynamic, sram, page, qh, n, tok, bit, flag);

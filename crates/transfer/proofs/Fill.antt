@@ -18,9 +18,6 @@ fill_turn f l i v h room e =
     less : (k : ℕ) → k < i + 1 → (k ≡ i → ⊥) → k < i
     less k under p = omega arith
 
-pub fill_list : (l s : List ℕ) (i : ℕ) → Filled (λ k. get_or s k 0) l i → length l ≤ i → length l ≡ length s → l ≡ s
-fill_list l s i h all e = ext_get_or 0 l s e (λ k under. h.below k (omega arith))
-
 pub fill_all : (f : ℕ → ℕ) (l : List ℕ) (i n : ℕ) → Filled f l i → n ≤ i → length l ≡ n → l ≡ tabulate n f
 fill_all f l i n h all e =
     ext_get_or 0 l (tabulate n f) (e ∙ sym (length_tabulate n f)) (λ k under. h.below k (omega arith) ∙ sym (get_d_tabulate n f k 0 (omega arith)))

@@ -1,5 +1,6 @@
 -- A run of bytes within a page is a part of one window.
-use Rattle.std.proofs.Common.{◌≡◌, ℕ, zero, suc, ◌+◌, ◌-◌, ◌*◌, ◌%◌, ◌<◌, ◌≤◌, List, ◌++◌, length, get_or, take, drop, sym, refl, ap, ◌∙◌, subst, append_assoc, mul-zero, mul-one, arith, length-drop, length-take-le, get_or-drop, get_or-take, ext_get_or}
+use Rattle.std.proofs.Common.{◌≡◌, ℕ, zero, suc, ◌+◌, ◌-◌, ◌*◌, ◌%◌, ◌<◌, ◌≤◌, List, ◌++◌, length, get_or, take, drop, replicate, sym, refl, ap, ◌∙◌, subst, append_assoc, mul-zero, mul-one, arith, length-drop, length-take-le, get_or-drop, get_or-take, ext_get_or}
+use Rattle.std.proofs.lemmas.List.{length-replicate, get_or-replicate}
 use lib.Seq.{paste, paste-zero, paste-suc, take-length}
 use borrow.Rule.Slice.PartMut.{put_mid, Post-is}
 use Rattle.bus.specs.declared.Place.{Place}
@@ -20,7 +21,7 @@ abbrev pub part : Memory → Place → ℕ → List ℕ
 part m (Dynamic i) n = take (i + n - i) (drop i m.dynamic)
 part m (Static i) n = take (i + n - i) (drop i m.sram)
 part m (Page i) n = take (i + n - i) (drop i m.page)
-part m Nowhere n = tabulate n (λ k. 0)
+part m Nowhere n = replicate n 0
 
 middle : (l : List ℕ) (i n : ℕ) (f : ℕ → ℕ) → i + n ≤ length l → ((k : ℕ) → k < n → f k ≡ get_or l (i + k) 0) → take (i + n - i) (drop i l) ≡ tabulate n f
 middle l i n f h g =
@@ -43,8 +44,8 @@ part_run m (Dynamic i) n f h g = middle m.dynamic i n f h g
 part_run m (Static i) n f h g = middle m.sram i n f h g
 part_run m (Page i) n f h g = middle m.page i n f h g
 part_run m Nowhere n f h g =
-    ext_get_or 0 (tabulate n (λ k. 0)) (tabulate n f) (length_tabulate n (λ k. 0) ∙ sym (length_tabulate n f))
-    (λ k b. let b' : k < n = subst (λ (x : ℕ). k < x) (length_tabulate n (λ k. 0)) b in get_d_tabulate n (λ k. 0) k 0 b' ∙ sym (g k b') ∙ sym (get_d_tabulate n f k 0 b'))
+    ext_get_or 0 (replicate n 0) (tabulate n f) (length-replicate n 0 ∙ sym (length_tabulate n f))
+    (λ k b. let b' : k < n = subst (λ (x : ℕ). k < x) (length-replicate n 0) b in get_or-replicate n k 0 0 b' ∙ sym (g k b') ∙ sym (get_d_tabulate n f k 0 b'))
 
 pub run_part : (m : Memory) (a n : ℕ) (q : Place) → at m a ≡ q → Sized m → a % 4096 + n ≤ 4096 → part m q n ≡ run_in m a n
 unfolding run_in

@@ -18,6 +18,7 @@ use refusal::{Refusal, unless};
 use std::num::wrapping_add_u32;
 
 // The nine page pointers of the dTD at td.
+#[tactic(auto, unfolding(crate::specs::Transfer::pointers, bus::specs::Memory::after))]
 pub fn pointers(dynamic: &[u8], sram: &[u8], page: &[u8], td: u32) -> [u32; 9]
     requires { Sized (shown dynamic.now sram.now page.now) }
     ensures { result ≡ T.pointers (shown dynamic.now sram.now page.now) td }
@@ -44,16 +45,13 @@ pub fn pointers_for(dynamic: &[u8], sram: &[u8], page: &[u8], td: u32, total: us
     let end = (p0 % 4096) as usize + total;
     let mut ps = [0u32; 9];
     ps[0] = p0;
-    let mut i = 1;
-    while 4096 * i <= end {
-        let p = peek32(
+    for i in 1..end / 4096 + 1 {
+        ps[i] = peek32(
             dynamic,
             sram,
             page,
             wrapping_add_u32(td, 8 + 4 * (i as u32)),
         );
-        ps[i] = p;
-        i += 1;
     }
     ps
 }
@@ -66,31 +64,13 @@ fn on_page(p: u32, x: usize) -> u32
 }
 
 // The address of byte k of a transfer.
+#[tactic(auto, unfolding(crate::specs::Transfer::data_addr))]
 pub fn data_addr(pointers: &[u32; 9], k: usize) -> u32
     requires { k ≤ 32766 }
     ensures { result ≡ T.data_addr pointers.now k }
 {
     let x = (pointers[0] % 4096) as usize + k;
     on_page(pointers[x / 4096], x)
-}
-
-// Makes target what source is.
-fn copy(target: &mut [u8], source: &[u8])
-    requires { length target.old ≡ length source.now }
-    ensures { target.new ≡ source.now }
-{
-    target.copy_from_slice(source);
-}
-
-// Makes every byte of target 0.
-fn clear(target: &mut [u8])
-    ensures { target.new ≡ T.tabulate (length target.old) (λ k. 0) }
-{
-    let mut i = 0;
-    while i < target.len() {
-        target[i] = 0;
-        i += 1;
-    }
 }
 
 // Fills target with the bytes of memory from address a on, which lie in one page: no window ends inside one, so one test serves them all.
@@ -101,10 +81,10 @@ fn page_in(dynamic: &[u8], sram: &[u8], page: &[u8], a: u32, target: &mut [u8])
 {
     let n = target.len();
     match locate(dynamic.len(), a) {
-        Place::Dynamic(i) => copy(target, &dynamic[i..i + n]),
-        Place::Static(i) => copy(target, &sram[i..i + n]),
-        Place::Page(i) => copy(target, &page[i..i + n]),
-        Place::Nowhere => clear(target),
+        Place::Dynamic(i) => target.copy_from_slice(&dynamic[i..i + n]),
+        Place::Static(i) => target.copy_from_slice(&sram[i..i + n]),
+        Place::Page(i) => target.copy_from_slice(&page[i..i + n]),
+        Place::Nowhere => target.fill(0),
     }
 }
 
@@ -118,15 +98,15 @@ fn page_out(dynamic: &mut [u8], sram: &mut [u8], page: &mut [u8], a: u32, source
     let n = source.len();
     match locate(dynamic.len(), a) {
         Place::Dynamic(i) => {
-            copy(&mut dynamic[i..i + n], source);
+            dynamic[i..i + n].copy_from_slice(source);
             0
         }
         Place::Static(i) => {
-            copy(&mut sram[i..i + n], source);
+            sram[i..i + n].copy_from_slice(source);
             0
         }
         Place::Page(i) => {
-            copy(&mut page[i..i + n], source);
+            page[i..i + n].copy_from_slice(source);
             0
         }
         Place::Nowhere => n as u32,
@@ -138,7 +118,7 @@ fn run_of(a: u32, left: usize) -> usize
     ensures { (result ≤ left) × (a % 4096 + result ≤ 4096) × (0 < left → 0 < result) }
 {
     let room = 4096 - (a % 4096) as usize;
-    if left < room { left } else { room }
+    left.min(room)
 }
 
 // Fills out with the bytes of a transfer from byte start on.
@@ -165,6 +145,7 @@ pub fn copy_part(
 }
 
 // Copies the first n bytes of a transfer to out, from index at on.
+#[tactic(auto, using(crate::proofs::Loops::part_received))]
 pub fn copy_in(
     dynamic: &[u8],
     sram: &[u8],

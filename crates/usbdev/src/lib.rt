@@ -44,6 +44,7 @@ pub const EPCOMPLETE: usize = 0x1BC;
 pub const EPCR0: usize = 0x1C0;
 
 // The interrupt line: an enabled USBSTS bit, or an enabled OTGSC status bit.
+#[tactic(auto, unfolding(crate::specs::Registers::line_of))]
 pub fn line(page: &[u8]) -> bool
     requires { length page.now ≡ PAGE }
     ensures { result ≡ R.line_of page.now }
@@ -56,6 +57,7 @@ pub fn line(page: &[u8]) -> bool
 }
 
 // Sets bits of USBSTS; the line's flag goes in and follows the line.
+#[tactic(auto, unfolding(bus::specs::Steps::and_then, crate::specs::Registers::store, crate::specs::Registers::setting, crate::specs::Registers::following))]
 pub fn raise(page: &mut [u8], sts: u32, flag: bool) -> bool
     requires { length page.old ≡ PAGE }
     ensures { registers page.new result ≡ R.done (R.raising sts) (registers page.old flag) }
@@ -66,6 +68,7 @@ pub fn raise(page: &mut [u8], sts: u32, flag: bool) -> bool
 }
 
 // Whether an access of `size` bytes at `off` lies aligned and whole in the page.
+#[tactic(auto, using(crate::proofs::Laws::within), unfolding(crate::specs::Access::fits))]
 fn fits(off: u32, size: u32) -> bool
     ensures { result ≡ Access.fits off size }
 {
@@ -96,6 +99,7 @@ fn half_at(page: &[u8], off: usize) -> u32
 }
 
 // A four-byte read.
+#[tactic(auto, unfolding(crate::specs::Access::read_word))]
 fn read_word(page: &[u8], off: usize) -> u32
     requires { (length page.now ≡ PAGE) × (off + 4 ≤ PAGE) }
     ensures { result ≡ Access.read_word page.now off }
@@ -108,6 +112,7 @@ fn read_word(page: &[u8], off: usize) -> u32
 }
 
 // An accepted read.
+#[tactic(auto, unfolding(crate::specs::Access::read_sized))]
 fn read_sized(page: &[u8], off: usize, size: u32) -> u32
     requires page_len { (length page.now ≡ PAGE) × (off + size ≤ PAGE) }
     requires le_size { 1 ≤ size }
@@ -130,6 +135,7 @@ pub fn read(page: &[u8], off: u32, size: u32) -> Result<u32, Refusal>
 }
 
 // Stores what a four-byte write lists, or the word as it is; whether it was listed.
+#[tactic(auto, using(crate::proofs::Laws::clears, crate::proofs::Laws::clears_not), unfolding(crate::specs::Access::listed, crate::specs::Access::listing, crate::specs::Registers::store))]
 fn put_listed(page: &mut [u8], off: usize, v: u32) -> bool
     requires { (length page.old ≡ PAGE) × (off + 4 ≤ PAGE) }
     ensures { (result ≡ Access.listed off) × ((l : Bool) → registers page.new l ≡ R.done (Access.listing off v) (registers page.old l)) }
@@ -186,6 +192,7 @@ fn write_word(page: &mut [u8], off: usize, v: u32, flag: bool) -> bool
     flag
 }
 
+#[tactic(auto, unfolding(crate::specs::Access::half_put))]
 fn put_half(page: &mut [u8], off: usize, v: u32)
     requires { off + 2 ≤ length page.old }
     ensures { page.new ≡ Access.half_put page.old off v }
@@ -195,6 +202,7 @@ fn put_half(page: &mut [u8], off: usize, v: u32)
 }
 
 // An accepted write.
+#[tactic(auto, unfolding(crate::specs::Access::write_sized))]
 fn write_sized(page: &mut [u8], off: usize, size: u32, v: u32, flag: bool) -> bool
     requires page_len { (length page.old ≡ PAGE) × (off + size ≤ PAGE) }
     requires le_size { 1 ≤ size }
@@ -223,6 +231,7 @@ pub fn write(page: &mut [u8], off: u32, size: u32, v: u32, flag: bool) -> Result
 }
 
 // FRINDEX after one more call at a step of the bus speed.
+#[tactic(auto, unfolding(crate::specs::Transfer::next_frindex))]
 pub fn next_frindex(fr: u32, step: u32) -> u32
     ensures { result ≡ T.next_frindex step fr }
 {
@@ -230,6 +239,7 @@ pub fn next_frindex(fr: u32, step: u32) -> u32
 }
 
 // The bytes that a token's descriptor is still to move.
+#[tactic(auto, unfolding(crate::specs::Transfer::total_of))]
 pub fn total(tok: u32) -> u32
     ensures { result ≡ T.total_of tok }
 {
@@ -237,6 +247,7 @@ pub fn total(tok: u32) -> u32
 }
 
 // A token once `n` bytes of its total have moved; more than the total leave none.
+#[tactic(auto, unfolding(crate::specs::Transfer::token_after))]
 pub fn token_after(tok: u32, n: u32) -> u32
     ensures { result ≡ T.token_after tok n }
 {

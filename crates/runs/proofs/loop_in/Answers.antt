@@ -7,8 +7,8 @@ use Rattle.runs.proofs.loop_in.Goals as goal
 
 pub returns-then-t : goal.returns-then-t
 returns-then-t c =
-    let k : c.loop-left.left ≡ suc (c.loop-left.left - 1) = omega arith in
-    in_stopped c.loop-left.invariant (c.loop-left.left - 1) k c.turn_in-t.ensures c.if-t.true
+    let k : 64 - c.loop-i.i ≡ suc (63 - c.loop-i.i) = omega arith in
+    in_stopped c.loop-i.invariant (63 - c.loop-i.i) k c.turn_in-t.ensures c.if-t.true
 
 pub returns : goal.returns
-returns c = in_end c.loop-left.invariant (omega arith)
+returns c = in_end c.loop-i.invariant (omega arith)

@@ -7,8 +7,8 @@ use Rattle.runs.proofs.loop_out.Goals as goal
 
 pub returns-then-t : goal.returns-then-t
 returns-then-t c =
-    let k : c.loop-left.left ≡ suc (c.loop-left.left - 1) = omega arith in
-    looping_stop c.loop-left.invariant.looping (c.loop-left.left - 1) k c.turn_out-t.ensures.turned c.if-t.true
+    let k : 64 - c.loop-i.i ≡ suc (63 - c.loop-i.i) = omega arith in
+    looping_stop c.loop-i.invariant.looping (63 - c.loop-i.i) k c.turn_out-t.ensures.turned c.if-t.true
 
 pub returns : goal.returns
-returns c = looping_end c.loop-left.invariant.looping (omega arith)
+returns c = looping_end c.loop-i.invariant.looping (omega arith)
