@@ -20,7 +20,7 @@ ghost use Rattle.control.specs.Promises as P;
 
 use bus::{poke32, put_at, word_at};
 use finished::ended;
-use record::{Control, DEVICE, Phase, SETUP_BYTES, Stage, State, word_from};
+use record::{Control, Counter, DEVICE, Phase, SETUP_BYTES, Stage, State, word_from};
 use std::num::{wrapping_add_u32, wrapping_add_u64};
 use usbdev::{EPCR0, EPSETUPSR};
 
@@ -67,8 +67,8 @@ fn configured(s: State) -> State
     let phase = s.phase;
     match phase {
         Phase::Enumerate => {
-            let next = record::with_phase(s, Phase::Stream);
-            record::count(next, record::ENUMERATIONS, 1)
+            let next = s.with_phase(Phase::Stream);
+            next.count(Counter::Enumerations, 1)
         }
         _ => s,
     }
@@ -144,7 +144,7 @@ fn at_status(s: State) -> State
     ensures { result ≡ with_control s (with_stage s.control Status) }
 {
     let before = s.control;
-    let request = record::with_stage(before, Stage::Status);
+    let request = before.with_stage(Stage::Status);
     let mut next = s;
     next.control = request;
     next
@@ -190,7 +190,7 @@ fn data_in(
     let at = s.control.got;
     let filled = runs::run0_in(dynamic, sram, page, reply, at, limit, s.port.line);
     let ran = filled.ran;
-    let mut next = record::after_run(s, ran);
+    let mut next = s.after_run(ran);
     next.control.got = filled.at;
     if ran.done | (limit <= filled.at) {
         return at_status(next);
@@ -205,7 +205,7 @@ fn data_out(s: State, dynamic: &mut [u8], sram: &mut [u8], page: &mut [u8]) -> S
     ensures { (p : List ℕ) → P.Stages C.data_out s (shown dynamic.old sram.old page.old) p result (shown dynamic.new sram.new page.new) p }
 {
     let ran = runs::run0_out(dynamic, sram, page, b"", s.port.line);
-    let next = record::after_run(s, ran);
+    let next = s.after_run(ran);
     if ran.done {
         return at_status(next);
     }
@@ -255,14 +255,14 @@ fn status_stage(
     if to_host(s) & (asked(s) != 0) {
         let ran = runs::run0_out(dynamic, sram, page, b"", s.port.line);
         return Acknowledged {
-            state: record::after_run(s, ran),
+            state: s.after_run(ran),
             done: ran.done,
         };
     }
     let filled = runs::run0_in(dynamic, sram, page, reply, 0, 0, s.port.line);
     let ran = filled.ran;
     Acknowledged {
-        state: record::after_run(s, ran),
+        state: s.after_run(ran),
         done: ran.done,
     }
 }

@@ -5,7 +5,7 @@ ghost use Rattle.std.specs.Prelude.{◌≡◌, ◌≤◌, length};
 ghost use Rattle.bus.specs.Memory.{shown};
 ghost use Rattle.bus.specs.Sized.{Sized};
 ghost use Rattle.record.specs.World.{own, lent};
-ghost use Rattle.model.specs.Phases.{within, any_span};
+ghost use Rattle.model.specs.Phases.{within};
 ghost use Rattle.model.specs.Microframe as M;
 ghost use Rattle.frames.specs.Promises as P;
 
@@ -159,25 +159,12 @@ fn after_gone(
     if gone {
         return phases::asleep(s);
     }
-    let suspend = c.suspend;
-    let asleep = phases::in_span(suspend.from, suspend.to, time);
+    let asleep = phases::in_span(c.suspend, time);
     let next = phases::suspend_step(s, page, asleep);
     after_suspend(
         next, c, setups, midi, serial, device, dynamic, sram, page, reply, config, receive, cables,
         received, sending, time, running, asleep,
     )
-}
-
-// Whether the host is gone at a time; the table is read only where it has spans.
-fn in_gone(c: Settings, time: u64) -> bool
-    requires { c.spans ≤ 16 }
-    ensures { result ≡ any_span c.gone 0 c.spans time }
-{
-    if c.spans == 0 {
-        return false;
-    }
-    let table = c.gone;
-    phases::any_span(&table, c.spans, time)
 }
 
 // One microframe of 125 microseconds at a time.
@@ -205,7 +192,7 @@ pub fn microframe(
     ensures { P.Frame time c s (own setups.old midi.old serial.old device.old) (lent (shown dynamic.old sram.old page.old) reply.old config.old receive.old cables.old received.old sending.now) result (own setups.new midi.new serial.new device.new) (lent (shown dynamic.new sram.new page.new) reply.new config.new receive.new cables.new received.new sending.now) }
 {
     let running = bits::any(bus::word_at(&*page, USBCMD), 1);
-    let gone = in_gone(c, time);
+    let gone = phases::any_span(&c.gone[..c.spans], time);
     let next = framing::opened(s, c, page, gone);
     after_gone(
         next, c, setups, midi, serial, device, dynamic, sram, page, reply, config, receive, cables,

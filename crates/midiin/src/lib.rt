@@ -13,7 +13,7 @@ ghost use Rattle.midiin.specs.Promises as P;
 
 use bus::{put_at, word_at};
 use dtd::{Found, Ran};
-use record::State;
+use record::{Counter, State};
 use std::num::wrapping_add_u64;
 use usbdev::{EPNAK, EPSR};
 
@@ -166,7 +166,7 @@ pub struct Read {
 fn count_read(s: State, at: usize) -> State
     ensures { result ≡ P.count_read s at }
 {
-    let mut next = record::count(s, record::MIDI_DTDS, 1);
+    let mut next = s.count(Counter::MidiDtds, 1);
     next.answer.received = at;
     next
 }
@@ -175,7 +175,7 @@ fn count_read(s: State, at: usize) -> State
 fn after_read(s: State, ran: Ran, total: usize, at: usize) -> Read
     ensures { result ≡ P.after_read s ran total at }
 {
-    let next = record::after_run(s, ran);
+    let next = s.after_run(ran);
     if ran.done | (total != 0) {
         return Read {
             state: count_read(next, at),
@@ -232,7 +232,7 @@ fn read_one(
         Found::Unprimed => {
             let ran = dtd::none_ran(s.port.line);
             Read {
-                state: record::after_run(s, ran),
+                state: s.after_run(ran),
                 stop: true,
             }
         }
@@ -240,7 +240,7 @@ fn read_one(
             let line = dtd::settle(&*dynamic, &*sram, page, MIDI_IN, 1, false, s.port.line);
             let ran = dtd::none_ran(line);
             Read {
-                state: record::after_run(s, ran),
+                state: s.after_run(ran),
                 stop: true,
             }
         }

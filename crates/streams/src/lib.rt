@@ -12,7 +12,7 @@ ghost use Rattle.model.specs.Streams as M;
 ghost use Rattle.streams.specs.Promises as P;
 
 use dtd::{Found, Ran};
-use record::State;
+use record::{Counter, State};
 
 // The bits of the endpoints in EPSR: MIDI out (1), serial or vendor in and serial out (2).
 const MIDI_OUT: u32 = 0x2;
@@ -76,7 +76,7 @@ fn serial_in(
         s.port.line,
     );
     let ran = filled.ran;
-    let mut next = record::after_run(s, ran);
+    let mut next = s.after_run(ran);
     next.answer.received = filled.at;
     next
 }
@@ -139,7 +139,7 @@ fn serial_out(
     ) {
         Took::Nothing => s,
         Took::Bytes(ran, n) => {
-            let mut next = record::after_run(s, ran);
+            let mut next = s.after_run(ran);
             let rest = queued - n;
             next.lengths.serial = rest;
             next
@@ -191,11 +191,7 @@ pub fn midi_out(
         Took::Nothing => s,
         Took::Bytes(ran, n) => {
             let packets = (n / 4) as u64;
-            let mut next = record::count(
-                record::after_run(s, ran),
-                record::MIDI_PACKETS_OUT,
-                packets,
-            );
+            let mut next = s.after_run(ran).count(Counter::MidiPacketsOut, packets);
             let rest = queued - n;
             next.lengths.midi = rest;
             next
@@ -210,9 +206,6 @@ pub fn vendor(s: State, dynamic: &mut [u8], sram: &mut [u8], page: &mut [u8]) ->
     ensures fewer { P.Fewer s.lengths result.lengths }
 {
     let ran = dtd::run_count(dynamic, sram, page, 2, SECOND_IN, s.port.line);
-    record::count(
-        record::after_run(s, ran),
-        record::VENDOR_IN_BYTES,
-        ran.moved as u64,
-    )
+    s.after_run(ran)
+        .count(Counter::VendorInBytes, ran.moved as u64)
 }
