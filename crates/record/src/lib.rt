@@ -1,10 +1,11 @@
 // The host record by its parts: what a chain of steps hands on by value. Queues and areas are lent beside it.
 #![tactic(auto)]
 
-ghost use Rattle.std.specs.Prelude.{◌≡◌, ◌+◌, ◌-◌, ◌*◌, ◌/◌, ◌<◌, ◌≤◌};
+ghost use Rattle.std.specs.Prelude.{◌≡◌, ◌+◌, ◌-◌, ◌*◌, ◌/◌, ◌<◌, ◌≤◌, length};
 ghost use Rattle.std.proofs.lemmas.List.Edits.{sets};
 ghost use Rattle.record.specs.Record as R;
 ghost use Rattle.record.specs.Sizes as Sizes;
+ghost use Rattle.record.specs.Change.{drained};
 ghost use Rattle.record.specs.Did.{entered, after_run};
 ghost use Rattle.record.specs.Setups.{little, little_bytes, setup_bytes};
 
@@ -294,4 +295,12 @@ pub fn put_setup(setups: &mut [u8; SETUP_BYTES], count: usize, first: u32, secon
 {
     put_word(setups, 8 * count, first);
     put_word(setups, 8 * count + 4, second);
+}
+
+// A queue of `len` bytes without its first n: the others move up.
+pub fn drain(queue: &mut [u8], len: usize, n: usize)
+    requires { (n ≤ len) × (len ≤ length queue.old) }
+    ensures { queue.new ≡ drained queue.old len n }
+{
+    queue.copy_within(n..len, 0);
 }

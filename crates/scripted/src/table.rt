@@ -55,14 +55,14 @@ fn show_audio(row: Row, out: &mut [u8; 65536], at: usize) -> usize
     requires { at + 168 ≤ 65536 }
     ensures { result ≤ at + 168 }
 {
-    let mut end = cell(out, at, row.stats[Counter::Microframes.place()]);
-    end = cell(out, end, row.stats[Counter::InFrames.place()]);
-    end = cell(out, end, row.stats[Counter::OutFrames.place()]);
+    let mut end = cell(out, at, row.stats[Counter::Microframes as usize]);
+    end = cell(out, end, row.stats[Counter::InFrames as usize]);
+    end = cell(out, end, row.stats[Counter::OutFrames as usize]);
     end = cell(out, end, row.credit);
-    end = cell(out, end, row.stats[Counter::BadBlocks.place()]);
-    end = cell(out, end, row.stats[Counter::InTransfers.place()]);
-    end = cell(out, end, row.stats[Counter::OutTransfers.place()]);
-    cell(out, end, row.stats[Counter::OutUnderruns.place()])
+    end = cell(out, end, row.stats[Counter::BadBlocks as usize]);
+    end = cell(out, end, row.stats[Counter::InTransfers as usize]);
+    end = cell(out, end, row.stats[Counter::OutTransfers as usize]);
+    cell(out, end, row.stats[Counter::OutUnderruns as usize])
 }
 
 // All cells behind the first, and the row's end.
@@ -71,12 +71,12 @@ pub fn show_row(row: Row, out: &mut [u8; 65536], at: usize) -> usize
     ensures { result ≤ at + 337 }
 {
     let mut end = show_audio(row, out, at);
-    end = cell(out, end, row.stats[Counter::Restarts.place()]);
-    end = cell(out, end, row.stats[Counter::Enumerations.place()]);
-    end = cell(out, end, row.stats[Counter::MidiDtds.place()]);
-    end = cell(out, end, row.stats[Counter::MidiAsleep.place()]);
-    end = cell(out, end, row.stats[Counter::MidiPacketsOut.place()]);
-    end = cell(out, end, row.stats[Counter::VendorInBytes.place()]);
+    end = cell(out, end, row.stats[Counter::Restarts as usize]);
+    end = cell(out, end, row.stats[Counter::Enumerations as usize]);
+    end = cell(out, end, row.stats[Counter::MidiDtds as usize]);
+    end = cell(out, end, row.stats[Counter::MidiAsleep as usize]);
+    end = cell(out, end, row.stats[Counter::MidiPacketsOut as usize]);
+    end = cell(out, end, row.stats[Counter::VendorInBytes as usize]);
     end = cell(out, end, row.refused);
     end = cell(out, end, row.dropped);
     text::put(out, end, b'\n')

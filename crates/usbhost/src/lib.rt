@@ -777,14 +777,14 @@ impl Host {
     pub fn in_frames(self) -> u64
         ensures { result ≡ counter_of in_frames self.stats }
     {
-        self.stats[Counter::InFrames.place()]
+        self.stats[Counter::InFrames as usize]
     }
 
     // Audio frames sent.
     pub fn out_frames(self) -> u64
         ensures { result ≡ counter_of out_frames self.stats }
     {
-        self.stats[Counter::OutFrames.place()]
+        self.stats[Counter::OutFrames as usize]
     }
 
     // Credit of the audio stream.
