@@ -13,7 +13,7 @@ ghost use Rattle.audio.specs.Promises as P;
 
 use blocks::Decoded;
 use dtd::Found;
-use record::{Audio, Ring, State};
+use record::{Audio, Counter, Ring, State};
 use sending::encode;
 use usbdev::EPSR;
 
@@ -70,8 +70,8 @@ fn decoded_of(s: State) -> Decoded
     Decoded {
         ring: s.audio.received,
         credit: s.audio.credit,
-        frames: record::counter(s, record::IN_FRAMES),
-        bad: record::counter(s, record::BAD_BLOCKS),
+        frames: s.counter(Counter::InFrames),
+        bad: s.counter(Counter::BadBlocks),
     }
 }
 
@@ -79,8 +79,8 @@ fn decoded_of(s: State) -> Decoded
 fn with_decoded(s: State, d: Decoded) -> State
     ensures { result ≡ with_decoded s d }
 {
-    let counted = record::with_counter(s, record::IN_FRAMES, d.frames);
-    let mut next = record::with_counter(counted, record::BAD_BLOCKS, d.bad);
+    let counted = s.with_counter(Counter::InFrames, d.frames);
+    let mut next = counted.with_counter(Counter::BadBlocks, d.bad);
     next.audio.received = d.ring;
     next.audio.credit = d.credit;
     next
@@ -91,7 +91,7 @@ fn count_in(s: State, brought: bool) -> State
     ensures { result ≡ P.counted_in s brought }
 {
     if brought {
-        return record::count(s, record::IN_TRANSFERS, 1);
+        return s.count(Counter::InTransfers, 1);
     }
     s
 }
@@ -117,7 +117,7 @@ fn take_blocks(
     let before = decoded_of(s);
     let d = blocks::decode_run(&*dynamic, &*sram, &*page, &ps, total, received, before);
     let ran = dtd::take_one(dynamic, sram, page, qh, td, tok, AUDIO_IN, s.port.line);
-    let next = count_in(record::after_run(s, ran), ran.done | (total != 0));
+    let next = count_in(s.after_run(ran), ran.done | (total != 0));
     with_decoded(next, d)
 }
 
@@ -134,10 +134,10 @@ fn take_input(
     ensures { P.Hears Steps.inputs s (shown dynamic.old sram.old page.old) received.old result (shown dynamic.new sram.new page.new) received.new }
 {
     match dtd::find(&*dynamic, &*sram, &*page, 3, true, AUDIO_IN) {
-        Found::Unprimed => record::after_run(s, dtd::none_ran(s.port.line)),
+        Found::Unprimed => s.after_run(dtd::none_ran(s.port.line)),
         Found::Ended => {
             let line = dtd::settle(&*dynamic, &*sram, page, AUDIO_IN, 1, false, s.port.line);
-            record::after_run(s, dtd::none_ran(line))
+            s.after_run(dtd::none_ran(line))
         }
         Found::Active(qh, td, tok) => { take_blocks(s, dynamic, sram, page, received, qh, td, tok) }
     }
@@ -176,9 +176,9 @@ fn after_block(s: State, capacity: usize) -> State
     let start = blocks::place(ring.start, count, capacity);
     let counter = s.audio.counter.wrapping_add(Audio::FRAMES_PER_BLOCK as u16);
     let credit = s.audio.credit - Audio::FRAMES_PER_BLOCK as u64;
-    let lacks = record::count(s, record::OUT_UNDERRUNS, missing);
-    let moved = record::count(lacks, record::OUT_TRANSFERS, 1);
-    let mut next = record::count(moved, record::OUT_FRAMES, Audio::FRAMES_PER_BLOCK as u64);
+    let lacks = s.count(Counter::OutUnderruns, missing);
+    let moved = lacks.count(Counter::OutTransfers, 1);
+    let mut next = moved.count(Counter::OutFrames, Audio::FRAMES_PER_BLOCK as u64);
     next.audio.counter = counter;
     next.audio.credit = credit;
     next.audio.sending = Ring {
@@ -228,7 +228,7 @@ fn send_block(
         &block[..n],
         s.port.line,
     );
-    after_block(record::after_run(s, ran), capacity)
+    after_block(s.after_run(ran), capacity)
 }
 
 // A list that has ended is un-primed.

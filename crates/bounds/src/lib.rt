@@ -8,7 +8,8 @@ ghost use Rattle.bounds.specs.Bounds as B;
 use gptimers::{Timer, Timers};
 use midi::{CABLES, Packer};
 use record::{
-    Audio, Control, DEVICE, Lengths, Phase, QUEUE, Ring, SETUP_BYTES, SETUPS, State, word_from,
+    Audio, Control, Counter, DEVICE, Lengths, Phase, QUEUE, Ring, SETUP_BYTES, SETUPS, State,
+    word_from,
 };
 
 // A configuration request's first word: 80 06 00 02.
@@ -123,7 +124,7 @@ pub fn packers_ok(packers: [Packer; CABLES]) -> bool
 pub fn counts_ok(s: State) -> bool
     ensures { result ≡ B.counts_ok s }
 {
-    let n = record::counter(s, record::MICROFRAMES);
+    let n = s.counter(Counter::Microframes);
     (n == s.port.uf) & ((s.port.uf <= MOST) & (s.port.t <= s.port.uf))
 }
 
@@ -131,7 +132,7 @@ pub fn counts_ok(s: State) -> bool
 pub fn counters_ok(r: [u64; record::COUNTERS]) -> bool
     ensures { result ≡ B.counters_ok r }
 {
-    let most = 32767 * r[record::MICROFRAMES].min(MOST);
+    let most = 32767 * r[Counter::Microframes as usize].min(MOST);
     every(record::COUNTERS - 1, |k| r[k + 1] <= most)
 }
 
@@ -194,7 +195,7 @@ fn counted_ok(s: State) -> bool
 {
     let stats = s.stats;
     let timers = s.timers;
-    let n = record::counter(s, record::MICROFRAMES);
+    let n = s.counter(Counter::Microframes);
     counts_ok(s) & (counters_ok(stats) & (credit_ok(s.audio.credit, n) & timers_ok(timers, n)))
 }
 

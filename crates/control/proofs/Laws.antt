@@ -1,6 +1,5 @@
--- Facts on the setup queue, and how the promises of a request's parts compose.
-use Rattle.std.proofs.Common.{◌≡◌, ℕ, suc, ◌+◌, ◌-◌, ◌*◌, ◌%◌, ◌^◌, ◌<◌, ◌≤◌, Bool, false, ltb, List, ◌++◌, length, get_or, take, drop, set, sym, refl, ap, ◌∙◌, subst, ap₂, add-one, arith, length-append, length-drop, length-take-le, get_or-drop, le-ltb, lt-ltb}
-use lib.Seq.{paste-suc, drop-paste}
+-- How the promises of a request's parts compose.
+use Rattle.std.proofs.Common.{◌≡◌, ℕ, ◌+◌, ◌-◌, ◌*◌, ◌%◌, ◌^◌, ◌<◌, ◌≤◌, Bool, false, ltb, List, sym, refl, ap, ◌∙◌, ap₂, arith, le-ltb, lt-ltb}
 use Rattle.bits.specs.Word as W
 use Rattle.bus.specs.Memory.{Memory, memory, after, poke32, dropped32}
 use Rattle.bus.specs.Sized.{Sized, Left}
@@ -26,40 +25,6 @@ use Rattle.record.proofs.Laws.{in_turn, by_true, by_false, unchanged, once, on_m
 use Rattle.model.specs.Phases.{now, changing, drops_request}
 use Rattle.model.specs.Control.{begun, posted, enumerating, configured, timed_out}
 use Rattle.control.specs.Promises.{puts_setup, at_setups, Posts}
-
--- ---- the setup queue
-
--- one byte more moved up
-pub moved_up : (q : List ℕ) (i : ℕ) → i + 8 < length q → set (take i (drop 8 q) ++ drop i q) i (get_or (take i (drop 8 q) ++ drop i q) (i + 8) 0) ≡ take (i + 1) (drop 8 q) ++ drop (i + 1) q
-moved_up q i h =
-    let short : i < length (drop 8 q) = omega (arith, length-drop 8 q) in
-    let from : get_or (take i (drop 8 q) ++ drop i q) (i + 8) 0 ≡ get_or (drop 8 q) i 0 =
-    sym (get_or-drop i (take i (drop 8 q) ++ drop i q) 8 0)
-    ∙ ap (λ (l : List ℕ). get_or l 8 0) (drop_moved short) ∙ get_or-drop i q 8 0 ∙ ap (λ (n : ℕ). get_or q n 0) (omega arith) ∙ sym (get_or-drop 8 q i 0) in
-    ap (set (take i (drop 8 q) ++ drop i q) i) from ∙ paste_one short ∙ ap (λ (n : ℕ). take n (drop 8 q) ++ drop n q) (sym (add-one i))
-  where
-    at_start : (n : ℕ) → 0 + n ≡ n
-    at_start n = omega arith
-
-    drop_moved : i < length (drop 8 q) → drop i (take i (drop 8 q) ++ drop i q) ≡ drop i q
-    drop_moved short =
-        subst (λ (n : ℕ). drop n (take i (drop 8 q) ++ drop n q) ≡ drop n q) (at_start i) (drop-paste q 0 (drop 8 q) i (omega arith) (omega arith))
-
-    paste_one : i < length (drop 8 q) → set (take i (drop 8 q) ++ drop i q) i (get_or (drop 8 q) i 0) ≡ take (suc i) (drop 8 q) ++ drop (suc i) q
-    paste_one short =
-        ap (λ (n : ℕ). set (take i (drop 8 q) ++ drop n q) n (get_or (drop 8 q) i 0)) (sym (at_start i))
-        ∙ paste-suc q 0 (drop 8 q) i 0 (omega arith) short
-        ∙ ap (λ (n : ℕ). take (suc i) (drop 8 q) ++ drop n q) (at_start (suc i))
-
--- all of it
-pub all_moved : (q : List ℕ) (len i : ℕ) → i ≡ len - 8 → take i (drop 8 q) ++ drop i q ≡ drained q len 8
-unfolding drained
-all_moved q len i e = ap (λ (n : ℕ). take n (drop 8 q) ++ drop n q) e
-
-pub moved_long : (q : List ℕ) (i : ℕ) {x : List ℕ} → i + 8 ≤ length q → x ≡ take i (drop 8 q) ++ drop i q → length x ≡ length q
-moved_long q i h e =
-    ap length e ∙ length-append (take i (drop 8 q)) (drop i q)
-    ∙ omega (arith, length-take-le i (drop 8 q) (omega (arith, length-drop 8 q)), length-drop i q)
 
 -- ---- posting
 

@@ -9,7 +9,8 @@ use Rattle.dtd.specs.Promises.{Runs}
 use Rattle.dtd.specs.declared.Ran.{Ran}
 use Rattle.runs.specs.Turns.{RunsIn, kept, kept_end}
 use Rattle.runs.specs.declared.Filled.{Filled}
-use Rattle.record.specs.declared.Stage.TheVariants.{Status}
+use Rattle.record.specs.declared.Stage.{Stage}
+use Rattle.record.specs.declared.Stage.TheVariants.{Data, Status}
 use Rattle.record.specs.declared.Control.{Control}
 use Rattle.record.specs.declared.State.{State}
 use Rattle.record.specs.Record.{with_stage, with_got, with_control}
@@ -17,11 +18,15 @@ use Rattle.record.specs.World.{World, with_state}
 use Rattle.record.specs.Change.{apply, control, reply, Step, nothing, if, when, runs}
 use Rattle.record.specs.Did.{Leads, Alone, after_run}
 use Rattle.record.proofs.Laws.{in_turn, by_true, by_false, unchanged, once, from_here, run_then}
-use Rattle.model.specs.Control.{w_length, to_host, to_status, keeps_reply, data_stage, status_out, status_ends, status_stage}
+use Rattle.model.specs.Control.{in_status, w_length, to_host, to_status, keeps_reply, data_stage, status_out, status_ends, status_stage}
 use Rattle.finished.specs.Promises.{Ready}
-use Rattle.control.specs.declared.Acknowledged.{Acknowledged}
-use Rattle.control.specs.Promises.{at_reply, Stages, Acknowledges}
+use Rattle.control.specs.Promises.{at_reply, Stages, data_first, Acknowledges}
 use Rattle.model.specs.Control.{data_in, data_out, ends_by}
+
+-- a stage that is not the status stage
+not_status : (g : Stage) → (g ≡ Status → ⊥) → in_status g ≡ false
+not_status Data k = refl
+not_status Status k = absurd (k refl)
 
 -- ---- the data stage
 
@@ -124,52 +129,70 @@ module _ (s : State) (m m' : Memory) (n : Ran) (ready : Ready s)
         ready = ready_status (ready_ran ready n);
       })
 
--- by the asked length and the direction
-module _ (s : State) (m : Memory) (p : List ℕ) {n : ℕ} (is : n ≡ w_length s.control) where
-  abbrev by_direction : Step
-  by_direction = if (λ w. to_host w.state.control) data_in data_out
-
-  pub no_data_lem : n ≡ 0 → Sized m → Ready s → {r : State} → r ≡ statused s → Stages data_stage s m p r m p
-  unfolding data_stage
-  no_data_lem h z ready {r} e =
+-- by the stage, the asked length and the direction
+module _ (s : State) (m : Memory) (p : List ℕ) where
+  pub stage_over : s.control.stage ≡ Status → Sized m → Ready s → Stages data_first s m p s m p
+  stage_over h z ready =
       record {
-        leads = λ w. by_true (λ v. eqb (w_length v.state.control) 0) to_status by_direction (eq-eqb (w_length s.control) 0 (sym is ∙ h)) ((to_status_lem s e).leads (at_reply w s m p));
+        leads = λ w. by_true (λ v. in_status v.state.control.stage) nothing data_stage (ap in_status h) (unchanged (at_reply w s m p));
         sized = z;
-        ready = subst (λ (y : State). Ready y) (sym e) (ready_status ready);
+        ready = ready;
       }
 
-  some : (n ≡ 0 → ⊥) → eqb (w_length s.control) 0 ≡ false
-  some h = ne_eqb (w_length s.control) 0 (λ e. h (is ∙ e))
+  -- of a stage that is not over
+  not_over : (s.control.stage ≡ Status → ⊥) → {r : State} {m' : Memory} {p' : List ℕ} → Stages data_stage s m p r m' p' → Stages data_first s m p r m' p'
+  not_over h k =
+      record {
+        leads = λ w. by_false (λ v. in_status v.state.control.stage) nothing data_stage (not_status s.control.stage h) (k.leads w);
+        sized = k.sized;
+        ready = k.ready;
+      }
 
-  module _ (h : n ≡ 0 → ⊥) {t : Bool} (host : t ≡ to_host s.control) {r : State} {m' : Memory} {p' : List ℕ} where
-    pub with_data_in : t ≡ true → Stages data_in s m p r m' p' → Stages data_stage s m p r m' p'
-    unfolding data_stage
-    with_data_in e k =
-        record {
-          leads = λ w.
-              by_false (λ v. eqb (w_length v.state.control) 0) to_status by_direction (some h)
-              (by_true (λ v. to_host v.state.control) data_in data_out (sym host ∙ e) (k.leads w));
-          sized = k.sized;
-          ready = k.ready;
-        }
+  module _ (unended : s.control.stage ≡ Status → ⊥) {n : ℕ} (is : n ≡ w_length s.control) where
+    abbrev by_direction : Step
+    by_direction = if (λ w. to_host w.state.control) data_in data_out
 
-    pub with_data_out : t ≡ false → Stages data_out s m p r m' p' → Stages data_stage s m p r m' p'
+    pub no_data_lem : n ≡ 0 → Sized m → Ready s → {r : State} → r ≡ statused s → Stages data_first s m p r m p
     unfolding data_stage
-    with_data_out e k =
-        record {
-          leads = λ w.
-              by_false (λ v. eqb (w_length v.state.control) 0) to_status by_direction (some h)
-              (by_false (λ v. to_host v.state.control) data_in data_out (sym host ∙ e) (k.leads w));
-          sized = k.sized;
-          ready = k.ready;
-        }
+    no_data_lem h z ready {r} e =
+        not_over unended
+        (record {
+          leads = λ w. by_true (λ v. eqb (w_length v.state.control) 0) to_status by_direction (eq-eqb (w_length s.control) 0 (sym is ∙ h)) ((to_status_lem s e).leads (at_reply w s m p));
+          sized = z;
+          ready = subst (λ (y : State). Ready y) (sym e) (ready_status ready);
+        })
+
+    some : (n ≡ 0 → ⊥) → eqb (w_length s.control) 0 ≡ false
+    some h = ne_eqb (w_length s.control) 0 (λ e. h (is ∙ e))
+
+    module _ (h : n ≡ 0 → ⊥) {t : Bool} (host : t ≡ to_host s.control) {r : State} {m' : Memory} {p' : List ℕ} where
+      pub with_data_in : t ≡ true → Stages data_in s m p r m' p' → Stages data_first s m p r m' p'
+      unfolding data_stage
+      with_data_in e k =
+          not_over unended
+          (record {
+            leads = λ w.
+                by_false (λ v. eqb (w_length v.state.control) 0) to_status by_direction (some h)
+                (by_true (λ v. to_host v.state.control) data_in data_out (sym host ∙ e) (k.leads w));
+            sized = k.sized;
+            ready = k.ready;
+          })
+
+      pub with_data_out : t ≡ false → Stages data_out s m p r m' p' → Stages data_first s m p r m' p'
+      unfolding data_stage
+      with_data_out e k =
+          not_over unended
+          (record {
+            leads = λ w.
+                by_false (λ v. eqb (w_length v.state.control) 0) to_status by_direction (some h)
+                (by_false (λ v. to_host v.state.control) data_in data_out (sym host ∙ e) (k.leads w));
+            sized = k.sized;
+            ready = k.ready;
+          })
 
 -- ---- the status stage
 
 module _ (s : State) (m m' : Memory) (ready : Ready s) (few : w_length s.control ≤ 65535) (n : Ran) where
-  abbrev acknowledged : State → Acknowledged
-  acknowledged x = record { state = x; done = n.done }
-
   short_reply : s.control.got ≤ 65535
   short_reply = omega (arith, ready.inside, few)
 
@@ -177,32 +200,29 @@ module _ (s : State) (m m' : Memory) (ready : Ready s) (few : w_length s.control
   unfolding status_ends
   ends_so stack r e {a} {b} l = subst (λ (t : Bool). Leads (ends_by stack t) a b) e l
 
-  module _ {x : State} (is : x ≡ after_run s n) where
-    pub status_out_lem : status_out s.control ≡ true → Runs (endpoint 0 false) [] (S.bus m s.port.line) (S.bus m' n.line) n → Acknowledges s m (acknowledged x) m'
-    unfolding status_stage
-    status_out_lem h ran =
-        subst (λ (y : State). Acknowledges s m (acknowledged y) m') (sym is)
-        (record {
-          leads = λ stack w l.
-              by_true (λ v. status_out v.state.control) (runs (endpoint 0 false) [] (status_ends stack)) (runs (endpoint 0 true) [] (status_ends stack)) h
-              (run_then (endpoint 0 false) [] (status_ends stack) w s m m' n ran (ends_so stack (run_dtds (endpoint 0 false) [] (S.bus m s.port.line)) ran.done l));
-          sized = ran.does.sized;
-          ready = ready_ran ready n;
-          few = short_reply;
-        })
+  pub status_out_lem : status_out s.control ≡ true → Runs (endpoint 0 false) [] (S.bus m s.port.line) (S.bus m' n.line) n → Acknowledges s m n m'
+  unfolding status_stage
+  status_out_lem h ran =
+      record {
+        leads = λ stack w l.
+            by_true (λ v. status_out v.state.control) (runs (endpoint 0 false) [] (status_ends stack)) (runs (endpoint 0 true) [] (status_ends stack)) h
+            (run_then (endpoint 0 false) [] (status_ends stack) w s m m' n ran (ends_so stack (run_dtds (endpoint 0 false) [] (S.bus m s.port.line)) ran.done l));
+        sized = ran.does.sized;
+        ready = ready_ran ready n;
+        few = short_reply;
+      }
 
-    pub status_in : status_out s.control ≡ false → Runs (endpoint 0 true) [] (S.bus m s.port.line) (S.bus m' n.line) n → Acknowledges s m (acknowledged x) m'
-    unfolding status_stage
-    status_in h ran =
-        subst (λ (y : State). Acknowledges s m (acknowledged y) m') (sym is)
-        (record {
-          leads = λ stack w l.
-              by_false (λ v. status_out v.state.control) (runs (endpoint 0 false) [] (status_ends stack)) (runs (endpoint 0 true) [] (status_ends stack)) h
-              (run_then (endpoint 0 true) [] (status_ends stack) w s m m' n ran (ends_so stack (run_dtds (endpoint 0 true) [] (S.bus m s.port.line)) ran.done l));
-          sized = ran.does.sized;
-          ready = ready_ran ready n;
-          few = short_reply;
-        })
+  pub status_in : status_out s.control ≡ false → Runs (endpoint 0 true) [] (S.bus m s.port.line) (S.bus m' n.line) n → Acknowledges s m n m'
+  unfolding status_stage
+  status_in h ran =
+      record {
+        leads = λ stack w l.
+            by_false (λ v. status_out v.state.control) (runs (endpoint 0 false) [] (status_ends stack)) (runs (endpoint 0 true) [] (status_ends stack)) h
+            (run_then (endpoint 0 true) [] (status_ends stack) w s m m' n ran (ends_so stack (run_dtds (endpoint 0 true) [] (S.bus m s.port.line)) ran.done l));
+        sized = ran.does.sized;
+        ready = ready_ran ready n;
+        few = short_reply;
+      }
 
 -- the code's test of the direction
 pub status_test : (c : Control) {t u : Bool} {n : ℕ} → t ≡ to_host c → n ≡ w_length c → t && not (eqb n 0) ≡ u → status_out c ≡ u

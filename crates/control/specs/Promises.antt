@@ -1,24 +1,23 @@
 -- What the functions of a request promise: the World with what they take in its place.
-use Rattle.std.specs.Prelude.{◌≡◌, ℕ, ◌≤◌, Bool, true, List, ◌==◌}
+use Rattle.std.specs.Prelude.{◌≡◌, ℕ, ◌≤◌, Bool, true, List, Option, None, Some, ◌==◌}
 use Rattle.bits.specs.Pick.{pick}
 use Rattle.bus.specs.Memory.{Memory, after}
 use Rattle.bus.specs.Sized.{Sized}
 use Rattle.bus.specs.Stores.{BusStep, putting, ◌then◌}
+use Rattle.dtd.specs.declared.Ran.{Ran}
 use Rattle.record.specs.Setups.{little}
 use Rattle.record.specs.declared.State.{State}
 use Rattle.record.specs.World.{World, with_setup_queue, with_device_area, with_reply_area, with_config_area, at_bus}
-use Rattle.record.specs.Change.{Step}
-use Rattle.record.specs.Did.{Leads}
-use Rattle.model.specs.Control.{ends_by, status_stage}
+use Rattle.record.specs.Change.{Step, nothing, if}
+use Rattle.record.specs.Did.{Leads, after_run}
+use Rattle.model.specs.Control.{in_status, data_stage, ends_by, status_stage}
 use Rattle.finished.specs.Promises.{Ready}
 use Rattle.record.specs.Sizes.{SETUPS, REPLY}
-use Rattle.control.specs.declared.Next.{Next}
-use Rattle.control.specs.declared.Next.TheVariants.{Setup, Empty}
-use Rattle.control.specs.declared.Acknowledged.{Acknowledged}
+use Rattle.control.specs.declared.Setup.{Setup}
 
 -- usbhost.rs 625: the first of so many setups that wait, by its two words
-abbrev pub next_of : List ℕ → ℕ → Next
-next_of q count = pick (count == 0) Empty (Setup (little q 0) (little q 4))
+abbrev pub next_of : List ℕ → ℕ → Option Setup
+next_of q count = pick (count == 0) None (Some (record { first = little q 0; second = little q 4 }))
 
 -- 638-639: the two words of a setup in a queue head
 abbrev pub puts_setup : ℕ → ℕ → ℕ → BusStep
@@ -42,11 +41,16 @@ pub record Stages (f : Step) (s : State) (m : Memory) (p : List ℕ) (s' : State
   pub sized : Sized m'
   pub ready : Ready s'
 
-pub record Acknowledges (s : State) (m : Memory) (a : Acknowledged) (m' : Memory) : Type 0 where
-  pub leads : (stack : Bool) (w : World) {b : World} → Leads (ends_by stack a.done) (at_bus w a.state m') b → Leads (status_stage stack) (at_bus w s m) b
+-- the data stage of a request that is not at its status stage
+abbrev pub data_first : Step
+data_first = if (λ w. in_status w.state.control.stage) nothing data_stage
+
+-- a run of the status stage leaves a request that is ready to end
+pub record Acknowledges (s : State) (m : Memory) (r : Ran) (m' : Memory) : Type 0 where
+  pub leads : (stack : Bool) (w : World) {b : World} → Leads (ends_by stack r.done) (at_bus w (after_run s r) m') b → Leads (status_stage stack) (at_bus w s m) b
   pub sized : Sized m'
-  pub ready : Ready a.state
-  pub few : a.state.control.got ≤ REPLY
+  pub ready : Ready (after_run s r)
+  pub few : s.control.got ≤ REPLY
 
 -- what is tested of the record before a microframe (document 01, refusal 5)
 pub record Bounded (s : State) : Type 0 where

@@ -4,7 +4,7 @@ use mathlib.Core.Path.{◌≡◌, refl, sym, ap, subst, ◌∙◌}
 use mathlib.Core.Bool.{Bool, true, false}
 use mathlib.Core.List.{List, [], ◌∷◌}
 use native.Mathlib.Omega.{arith}
-use lib.ListN.{length}
+use lib.ListN.{length, take}
 use Rattle.bus.specs.Memory.{Memory, memory}
 use Rattle.bus.specs.Sized.{Sized}
 use Rattle.bits.specs.Word.{any}
@@ -139,7 +139,7 @@ frame_parts c t rs false true x y z p q = in_turn p q
 frame_parts c t rs false false x y z p q = in_turn p q
 
 module _ (c : Settings) (t : ℕ) (s : State) (o : Own) (l : Lent) where
-  pub whole_frame : (rs g : Bool) → rs ≡ any (word_at l.memory.page USBCMD) 1 → g ≡ any_span c.gone 0 c.spans t
+  pub whole_frame : (rs g : Bool) → rs ≡ any (word_at l.memory.page USBCMD) 1 → g ≡ any_span (take c.spans c.gone) t
       → (s₁ s' : State) (page : List ℕ) (o' : Own) (l' : Lent) → Paged (opens c g) s l.memory.page s₁ page
       → Goes (after_gone c t rs g (within c.suspend t)) s₁ o (lent_page l page) s' o' l'
       → Frame t c s o l s' o' l'

@@ -5,7 +5,6 @@ ghost use Rattle.std.specs.Prelude.{◌≡◌, ◌≤◌, length};
 ghost use Rattle.bus.specs.Memory.{shown};
 ghost use Rattle.bus.specs.Sized.{Sized};
 ghost use Rattle.record.specs.World.{own, lent};
-ghost use Rattle.model.specs.Phases.{within, any_span};
 ghost use Rattle.model.specs.Microframe as M;
 ghost use Rattle.frames.specs.Promises as P;
 
@@ -82,8 +81,7 @@ fn by_phase(
     requires going { P.Going s (length sending.now) }
     ensures { P.Goes (M.by_phase c time running) s (own setups.old midi.old serial.old device.old) (lent (shown dynamic.old sram.old page.old) reply.old config.old receive.old cables.old received.old sending.now) result (own setups.new midi.new serial.new device.new) (lent (shown dynamic.new sram.new page.new) reply.new config.new receive.new cables.new received.new sending.now) }
 {
-    let phase = s.phase;
-    match phase {
+    match s.phase {
         Phase::Idle => phases::idle(s, page),
         Phase::Vbus => phases::vbus(s, page, running),
         Phase::Reset => phases::reset(s, page, setups),
@@ -94,93 +92,7 @@ fn by_phase(
     }
 }
 
-// Behind the suspend step: nothing while the bus is suspended; else device left, and the phase.
-fn after_suspend(
-    s: State,
-    c: Settings,
-    setups: &mut [u8; SETUP_BYTES],
-    midi: &mut [u8; QUEUE],
-    serial: &mut [u8; QUEUE],
-    device: &mut [u8; DEVICE],
-    dynamic: &mut [u8],
-    sram: &mut [u8],
-    page: &mut [u8],
-    reply: &mut [u8],
-    config: &mut [u8],
-    receive: &mut [u8],
-    cables: &mut [u8],
-    received: &mut [u32],
-    sending: &[u32],
-    time: u64,
-    running: bool,
-    asleep: bool,
-) -> State
-    requires sized { Sized (shown dynamic.old sram.old page.old) }
-    requires long { P.Long reply.old config.old receive.old cables.old received.old }
-    requires going { P.Going s (length sending.now) }
-    ensures { P.Goes (P.after_suspend c time running asleep) s (own setups.old midi.old serial.old device.old) (lent (shown dynamic.old sram.old page.old) reply.old config.old receive.old cables.old received.old sending.now) result (own setups.new midi.new serial.new device.new) (lent (shown dynamic.new sram.new page.new) reply.new config.new receive.new cables.new received.new sending.now) }
-{
-    if asleep {
-        return phases::asleep(s);
-    }
-    let next = phases::left_step(s, running, c.device_stack);
-    by_phase(
-        next, c, setups, midi, serial, device, dynamic, sram, page, reply, config, receive, cables,
-        received, sending, time, running,
-    )
-}
-
-// Behind the gone step: nothing while the host is gone; else the suspend step and what follows.
-fn after_gone(
-    s: State,
-    c: Settings,
-    setups: &mut [u8; SETUP_BYTES],
-    midi: &mut [u8; QUEUE],
-    serial: &mut [u8; QUEUE],
-    device: &mut [u8; DEVICE],
-    dynamic: &mut [u8],
-    sram: &mut [u8],
-    page: &mut [u8],
-    reply: &mut [u8],
-    config: &mut [u8],
-    receive: &mut [u8],
-    cables: &mut [u8],
-    received: &mut [u32],
-    sending: &[u32],
-    time: u64,
-    running: bool,
-    gone: bool,
-) -> State
-    requires sized { Sized (shown dynamic.old sram.old page.old) }
-    requires long { P.Long reply.old config.old receive.old cables.old received.old }
-    requires going { P.Going s (length sending.now) }
-    ensures { P.Goes (P.after_gone c time running gone (within c.suspend time)) s (own setups.old midi.old serial.old device.old) (lent (shown dynamic.old sram.old page.old) reply.old config.old receive.old cables.old received.old sending.now) result (own setups.new midi.new serial.new device.new) (lent (shown dynamic.new sram.new page.new) reply.new config.new receive.new cables.new received.new sending.now) }
-{
-    if gone {
-        return phases::asleep(s);
-    }
-    let suspend = c.suspend;
-    let asleep = phases::in_span(suspend.from, suspend.to, time);
-    let next = phases::suspend_step(s, page, asleep);
-    after_suspend(
-        next, c, setups, midi, serial, device, dynamic, sram, page, reply, config, receive, cables,
-        received, sending, time, running, asleep,
-    )
-}
-
-// Whether the host is gone at a time; the table is read only where it has spans.
-fn in_gone(c: Settings, time: u64) -> bool
-    requires { c.spans ≤ 16 }
-    ensures { result ≡ any_span c.gone 0 c.spans time }
-{
-    if c.spans == 0 {
-        return false;
-    }
-    let table = c.gone;
-    phases::any_span(&table, c.spans, time)
-}
-
-// One microframe of 125 microseconds at a time.
+// One microframe of 125 microseconds at a time: nothing but MIDI's sleep while the host is gone or the bus suspended; else device left, and the phase.
 pub fn microframe(
     s: State,
     c: Settings,
@@ -205,10 +117,19 @@ pub fn microframe(
     ensures { P.Frame time c s (own setups.old midi.old serial.old device.old) (lent (shown dynamic.old sram.old page.old) reply.old config.old receive.old cables.old received.old sending.now) result (own setups.new midi.new serial.new device.new) (lent (shown dynamic.new sram.new page.new) reply.new config.new receive.new cables.new received.new sending.now) }
 {
     let running = bits::any(bus::word_at(&*page, USBCMD), 1);
-    let gone = in_gone(c, time);
-    let next = framing::opened(s, c, page, gone);
-    after_gone(
+    let gone = phases::any_span(&c.gone[..c.spans], time);
+    let opened = framing::opened(s, c, page, gone);
+    if gone {
+        return phases::asleep(opened);
+    }
+    let suspended = phases::in_span(c.suspend, time);
+    let awake = phases::suspend_step(opened, page, suspended);
+    if suspended {
+        return phases::asleep(awake);
+    }
+    let next = phases::left_step(awake, running, c.device_stack);
+    by_phase(
         next, c, setups, midi, serial, device, dynamic, sram, page, reply, config, receive, cables,
-        received, sending, time, running, gone,
+        received, sending, time, running,
     )
 }

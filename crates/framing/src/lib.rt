@@ -13,7 +13,7 @@ ghost use Rattle.midiin.specs.Promises.{Hears};
 ghost use Rattle.framing.specs.Promises as P;
 ghost use Rattle.record.specs.Sizes as Sizes;
 
-use record::{Phase, QUEUE, Settings, State};
+use record::{Counter, Phase, QUEUE, Settings, State};
 
 // MIDI input, where it is read and the host is awake.
 fn midi_in(
@@ -33,9 +33,8 @@ fn midi_in(
     if !c.midi_in {
         return s;
     }
-    let sleep = c.sleep;
-    if phases::in_span(sleep.from, sleep.to, time) {
-        return record::count(s, record::MIDI_ASLEEP, 1);
+    if phases::in_span(c.sleep, time) {
+        return s.count(Counter::MidiAsleep, 1);
     }
     midiin::midi_step(s, c.midi_every, dynamic, sram, page, receive, cables)
 }

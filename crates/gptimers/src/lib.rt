@@ -25,14 +25,14 @@ const RESET: u32 = 0x4000_0000;
 const REPEAT: u32 = 0x100_0000;
 
 // A timer's count, where one stands.
-#[derive(Clone, Copy)]
+#[derive(Clone, Copy, Debug, PartialEq, Eq)]
 pub struct Timer {
     pub set: bool,
     pub count: u64,
 }
 
 // Both timers of the controller.
-#[derive(Clone, Copy)]
+#[derive(Clone, Copy, Debug, PartialEq, Eq)]
 pub struct Timers {
     pub zero: Timer,
     pub one: Timer,

@@ -12,9 +12,10 @@ use lib.ListN.{length, get_or, take, replicate}
 use borrow.Author.Tests.{eqb-true, eq-eqb, ne_eqb, leb-true}
 use Rattle.bits.specs.Pick.{pick}
 use Rattle.bits.proofs.Tests.{false_true, not-true, and_first, and_second, and_both}
+use Rattle.record.specs.declared.Span.{Span}
 use Rattle.record.specs.declared.Settings.{Settings}
 use Rattle.record.specs.Change.{left}
-use Rattle.record.specs.Record.{counter_of, microframes, midi_asleep, midi_dtds}
+use Rattle.record.specs.Record.{no_span, counter_of, microframes, midi_asleep, midi_dtds}
 use Rattle.model.specs.Microframe as M
 use Rattle.model.specs.Microframe.{rs_set, gone_at, asleep_at}
 use Rattle.model.specs.Reach.{back_by, left_by, comes_back, device_left}
@@ -290,29 +291,31 @@ module _ (s : Settings) (cs : List Call) (t : ℕ) (l : Lent) where
 
 -- ---- `new` keeps the gone spans that it is given
 
-padded_zero : (m k : ℕ) → ◌≡◌ {A = ℕ} (get_or (replicate m 0) k 0) 0
-padded_zero zero k = refl
-padded_zero (suc m) zero = refl
-padded_zero (suc m) (suc k) = padded_zero m k
-
-padded : (n m : ℕ) (l : List ℕ) (k : ℕ) → k < n → get_or (take n l ++ replicate m 0) k 0 ≡ get_or l k 0
+padded : (n m : ℕ) (l : List Span) (k : ℕ) → k < n → get_or (take n l ++ replicate m no_span) k no_span ≡ get_or l k no_span
 padded zero m l k h = absurd (omega arith)
-padded (suc n) m [] k h = padded_zero m k
+padded (suc n) zero [] k h = refl
+padded (suc n) (suc m) [] zero h = refl
+padded (suc n) (suc m) [] (suc k) h = nowhere m k
+  where
+    nowhere : (m k : ℕ) → get_or (replicate m no_span) k no_span ≡ no_span
+    nowhere zero k = refl
+    nowhere (suc m) zero = refl
+    nowhere (suc m) (suc k) = nowhere m k
 padded (suc n) m (x ∷ l) zero h = refl
 padded (suc n) m (x ∷ l) (suc k) h = padded n m l k (omega arith)
 
 pub gone_new : (c : Settings) (t : ℕ) → InGone (settled c) t ↔ InGone c t
 unfolding settled
 gone_new c t = (
-  λ g. record { i = g.i; listed = g.listed; start = omega (arith, g.start, first g.i g.listed); end = omega (arith, g.end, second g.i g.listed) },
-  λ g. record { i = g.i; listed = g.listed; start = omega (arith, g.start, first g.i g.listed); end = omega (arith, g.end, second g.i g.listed) },
+  λ g. record { i = g.i; listed = g.listed; start = omega (arith, g.start, from g.i g.listed); end = omega (arith, g.end, to g.i g.listed) },
+  λ g. record { i = g.i; listed = g.listed; start = omega (arith, g.start, from g.i g.listed); end = omega (arith, g.end, to g.i g.listed) },
 )
   where
-    kept : List ℕ
-    kept = take (2 * c.spans) c.gone ++ replicate (32 - 2 * c.spans) 0
+    kept : List Span
+    kept = take c.spans c.gone ++ replicate (16 - c.spans) no_span
 
-    first : (i : ℕ) → i < c.spans → get_or kept (2 * i) 0 ≡ get_or c.gone (2 * i) 0
-    first i h = padded (2 * c.spans) (32 - 2 * c.spans) c.gone (2 * i) (omega arith)
+    from : (i : ℕ) → i < c.spans → (get_or kept i no_span).from ≡ (get_or c.gone i no_span).from
+    from i h = ap (λ (s : Span). s.from) (padded c.spans (16 - c.spans) c.gone i h)
 
-    second : (i : ℕ) → i < c.spans → get_or kept (2 * i + 1) 0 ≡ get_or c.gone (2 * i + 1) 0
-    second i h = padded (2 * c.spans) (32 - 2 * c.spans) c.gone (2 * i + 1) (omega arith)
+    to : (i : ℕ) → i < c.spans → (get_or kept i no_span).to ≡ (get_or c.gone i no_span).to
+    to i h = ap (λ (s : Span). s.to) (padded c.spans (16 - c.spans) c.gone i h)

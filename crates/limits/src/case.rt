@@ -1,6 +1,6 @@
 // A case that all calls are tried on, as the values of its fields: lengths of what they are lent, given and sent, the place of an access, the record.
 use midi::Packer;
-use record::{Phase, Settings, State};
+use record::{Counter, Phase, Settings, State};
 
 pub const DYNAMIC: usize = 0;
 
@@ -108,15 +108,15 @@ pub fn values(r: Row) -> [u64; FIELDS] {
 fn phased(waits: bool) -> State {
     let fresh = usbhost::new_state();
     if waits {
-        return record::with_phase(fresh, Phase::Enumerate);
+        return fresh.with_phase(Phase::Enumerate);
     }
-    record::with_phase(fresh, Phase::Stream)
+    fresh.with_phase(Phase::Stream)
 }
 
 pub fn state(v: [u64; FIELDS]) -> State {
     let mut next = phased(v[WAITING] != 0);
     next.port.uf = v[COUNTS];
-    next.stats[record::MICROFRAMES] = v[COUNTS];
+    next = next.with_counter(Counter::Microframes, v[COUNTS]);
     next.lengths.setups = v[WAITING] as usize;
     next.lengths.midi = v[MIDI] as usize;
     next.lengths.serial = v[SERIAL] as usize;

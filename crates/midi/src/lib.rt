@@ -13,7 +13,7 @@ pub const QUEUE: usize = 4096;
 pub const CABLES: usize = 16;
 
 // The packer between bytes: the running status, the bytes held of a message, and whether it is inside SysEx.
-#[derive(Clone, Copy)]
+#[derive(Clone, Copy, Debug, PartialEq, Eq)]
 pub struct Packer {
     pub status: u8,
     pub first: u8,

@@ -1,5 +1,6 @@
 -- Packets decoded piece by piece: a piece of whole packets, or the last one, splits what is decoded.
-use Rattle.std.proofs.Common.{◌≡◌, ℕ, suc, ◌+◌, ◌-◌, ◌*◌, ◌/◌, ◌%◌, ◌<◌, ◌≤◌, min, Bool, true, false, leb, ◌⊎◌, List, [], ◌∷◌, ◌++◌, length, get_or, take, drop, replicate, sym, refl, ap, ◌∙◌, subst, ap₂, inl, inr, ⊎_elim, append-nil, le_of_lt, arith, length-append, drop-cons, drop-drop, leb-false, leb-true}
+use Rattle.std.specs.Simd.{first_chunks}
+use Rattle.std.proofs.Common.{◌≡◌, ℕ, zero, suc, ◌+◌, ◌-◌, ◌*◌, ◌/◌, ◌%◌, ◌<◌, ◌≤◌, min, Bool, true, false, leb, ◌⊎◌, List, [], ◌∷◌, ◌++◌, length, get_or, take, drop, replicate, sym, refl, ap, ◌∙◌, subst, ap₂, inl, inr, ⊎_elim, append-nil, le_of_lt, arith, length-append, drop-cons, drop-drop, leb-false, leb-true}
 use native.Mathlib.Nat.{min-le_left, min-le_right, min-eq_left, min-eq_right}
 use lib.Seq.{sets, length-sets}
 use Rattle.bus.specs.Memory.{Memory}
@@ -162,11 +163,28 @@ take_four bs i h =
     next : (j k : ℕ) → suc j ≡ k → j < length bs → drop j bs ≡ get_or bs j 0 ∷ drop k bs
     next j k e l = drop-cons bs j 0 l ∙ ap (λ (n : ℕ). get_or bs j 0 ∷ drop n bs) e
 
+-- four bytes of a list
+abbrev pub four : List ℕ → List ℕ
+four x = get_or x 0 0 ∷ get_or x 1 0 ∷ get_or x 2 0 ∷ get_or x 3 0 ∷ []
+
+-- one of the first k packets
+pub packet_at : (k i : ℕ) (bs : List ℕ) → i < k → get_or (first_chunks 4 k bs) i [] ≡ take 4 (drop (4 * i) bs)
+packet_at zero i bs h = absurd (omega arith)
+packet_at (suc k) zero bs h = refl
+packet_at (suc k) (suc i) bs h =
+    let next : 4 + 4 * i ≡ 4 * suc i = omega arith in
+    packet_at k i (drop 4 bs) (omega arith) ∙ ap (take 4) (drop-drop (4 * i) 4 bs ∙ ap (λ (n : ℕ). drop n bs) next)
+
 -- a turn of the loop over packets
-pub decoding_packet : {bs out₀ out out' cs₀ cs cs' : List ℕ} {start at at' i : ℕ} → Decoding bs out₀ out cs₀ cs start at i → i + 4 ≤ length bs
-    → Decodes 1 (get_or bs i 0 ∷ get_or bs (i + 1) 0 ∷ get_or bs (i + 2) 0 ∷ get_or bs (i + 3) 0 ∷ []) out out' cs cs' at at' → Decoding bs out₀ out' cs₀ cs' start at' (i + 4)
-decoding_packet {bs} {out₀} {out} {out'} {cs₀} {cs} {cs'} {start} {at} {at'} {i} inv h d =
-    decoding_more bs i 4 h (inl refl) inv (subst (λ (l : List ℕ). Decodes 1 l out out' cs cs' at at') (sym (take_four bs i h)) d)
+pub decoding_packet : {bs out₀ out out' cs₀ cs cs' : List ℕ} {start at at' i : ℕ} → Decoding bs out₀ out cs₀ cs start at (4 * i) → i < length bs / 4
+    → {x : List ℕ} → x ≡ take 4 (drop (4 * i) bs) → Decodes 1 (four x) out out' cs cs' at at' → Decoding bs out₀ out' cs₀ cs' start at' (4 * (i + 1))
+decoding_packet {bs} {out₀} {out} {out'} {cs₀} {cs} {cs'} {start} {at} {at'} {i} inv h {x} e d =
+    let fits : 4 * i + 4 ≤ length bs = omega arith in
+    let next : 4 * i + 4 ≡ 4 * (i + 1) = omega arith in
+    let bytes = take_four bs (4 * i) fits in
+    let packet : four x ≡ take 4 (drop (4 * i) bs) = ap four (e ∙ bytes) ∙ sym bytes in
+    subst (λ (j : ℕ). Decoding bs out₀ out' cs₀ cs' start at' j) next
+    (decoding_more bs (4 * i) 4 fits (inl refl) inv (subst (λ (l : List ℕ). Decodes 1 l out out' cs cs' at at') packet d))
 
 -- the same bytes by another name
 pub decodes_as : {bs bs' out out' cs cs' : List ℕ} {at e n : ℕ} → bs ≡ bs' → length bs' ≡ n → Decodes (length bs / 4) bs out out' cs cs' at e → Decodes (n / 4) bs' out out' cs cs' at e

@@ -13,12 +13,14 @@ ghost use Rattle.midiin.specs.Promises as P;
 
 use bus::{put_at, word_at};
 use dtd::{Found, Ran};
-use record::State;
-use std::num::wrapping_add_u64;
+use record::{Counter, State};
 use usbdev::{EPNAK, EPSR};
 
 // The bit of MIDI input, endpoint 1, in EPSR.
 const MIDI_IN: u32 = 0x2_0000;
+
+// Bytes of a run that are decoded at a time: whole packets.
+const PIECE: usize = 512;
 
 // One packet: as many of its bytes as its code says go to `receive` from `at` on, and its cable beside each; the place behind them.
 fn decode_packet(
@@ -59,18 +61,9 @@ fn decode_piece(piece: &[u8], receive: &mut [u8], cables: &mut [u8], start: usiz
     ensures { P.Decodes (length piece.now / 4) piece.now receive.old receive.new cables.old cables.new start result }
 {
     let mut at = start;
-    let mut i = 0;
-    while i + 4 <= piece.len() {
-        at = decode_packet(
-            receive,
-            cables,
-            at,
-            piece[i],
-            piece[i + 1],
-            piece[i + 2],
-            piece[i + 3],
-        );
-        i += 4;
+    let (packets, _) = piece.as_chunks::<4>();
+    for &[header, x, y, z] in packets {
+        at = decode_packet(receive, cables, at, header, x, y, z);
     }
     at
 }
@@ -96,45 +89,8 @@ fn decode_some(
     decode_piece(&*piece, receive, cables, at)
 }
 
-// The packets of a run of `total` bytes, by pieces of 512; less than four bytes at the end are no packet.
+// The packets of a run of `total` bytes, piece by piece; less than four bytes at the end are no packet.
 fn decode_run(
-    dynamic: &[u8],
-    sram: &[u8],
-    page: &[u8],
-    pointers: &[u32; 9],
-    total: usize,
-    piece: &mut [u8],
-    receive: &mut [u8],
-    cables: &mut [u8],
-    start: usize,
-) -> usize
-    requires sized { Sized (shown dynamic.now sram.now page.now) }
-    requires total_bound { (total ≤ 32767) × (length piece.old ≡ 512) }
-    requires total_in_bounds { (start + 3 * (total / 4) ≤ length receive.old) × (start + 3 * (total / 4) ≤ length cables.old) }
-    ensures { P.Decodes (total / 4) (T.bytes_in (shown dynamic.now sram.now page.now) pointers.now total) receive.old receive.new cables.old cables.new start result }
-{
-    let mut at = start;
-    let mut from = 0;
-    while from < total {
-        let n = bits::least(512, total - from);
-        at = decode_some(
-            dynamic,
-            sram,
-            page,
-            pointers,
-            from,
-            &mut piece[..n],
-            receive,
-            cables,
-            at,
-        );
-        from += n;
-    }
-    at
-}
-
-// The same, with a place for a piece.
-fn decode(
     dynamic: &[u8],
     sram: &[u8],
     page: &[u8],
@@ -149,10 +105,18 @@ fn decode(
     requires total_in_bounds { (start + 3 * (total / 4) ≤ length receive.old) × (start + 3 * (total / 4) ≤ length cables.old) }
     ensures { P.Decodes (total / 4) (T.bytes_in (shown dynamic.now sram.now page.now) pointers.now total) receive.old receive.new cables.old cables.new start result }
 {
-    let mut piece = [0u8; 512];
-    decode_run(
-        dynamic, sram, page, pointers, total, &mut piece, receive, cables, start,
-    )
+    let mut piece = [0u8; PIECE];
+    let mut at = start;
+    let mut from = 0;
+    while from < total {
+        let n = PIECE.min(total - from);
+        let part = &mut piece[..n];
+        at = decode_some(
+            dynamic, sram, page, pointers, from, part, receive, cables, at,
+        );
+        from += n;
+    }
+    at
 }
 
 // The state after one read, and whether the reads end there.
@@ -166,7 +130,7 @@ pub struct Read {
 fn count_read(s: State, at: usize) -> State
     ensures { result ≡ P.count_read s at }
 {
-    let mut next = record::count(s, record::MIDI_DTDS, 1);
+    let mut next = s.count(Counter::MidiDtds, 1);
     next.answer.received = at;
     next
 }
@@ -175,7 +139,7 @@ fn count_read(s: State, at: usize) -> State
 fn after_read(s: State, ran: Ran, total: usize, at: usize) -> Read
     ensures { result ≡ P.after_read s ran total at }
 {
-    let next = record::after_run(s, ran);
+    let next = s.after_run(ran);
     if ran.done | (total != 0) {
         return Read {
             state: count_read(next, at),
@@ -208,7 +172,7 @@ fn read_active(
     let total = usbdev::total(tok) as usize;
     let start = s.answer.received;
     let ps = transfer::pointers_for(&*dynamic, &*sram, &*page, bits::clear(td, 0x1F), total);
-    let at = decode(
+    let at = decode_run(
         &*dynamic, &*sram, &*page, &ps, total, receive, cables, start,
     );
     let ran = dtd::take_one(dynamic, sram, page, qh, td, tok, MIDI_IN, s.port.line);
@@ -229,18 +193,14 @@ fn read_one(
     ensures { P.ReadsOne s (shown dynamic.old sram.old page.old) receive.old cables.old result (shown dynamic.new sram.new page.new) receive.new cables.new }
 {
     match dtd::find(&*dynamic, &*sram, &*page, 1, true, MIDI_IN) {
-        Found::Unprimed => {
-            let ran = dtd::none_ran(s.port.line);
-            Read {
-                state: record::after_run(s, ran),
-                stop: true,
-            }
-        }
+        Found::Unprimed => Read {
+            state: s.after_run(dtd::none_ran(s.port.line)),
+            stop: true,
+        },
         Found::Ended => {
             let line = dtd::settle(&*dynamic, &*sram, page, MIDI_IN, 1, false, s.port.line);
-            let ran = dtd::none_ran(line);
             Read {
-                state: record::after_run(s, ran),
+                state: s.after_run(dtd::none_ran(line)),
                 stop: true,
             }
         }
@@ -265,14 +225,12 @@ fn read_all(
     ensures { P.Hears (M.reads count) s (shown dynamic.old sram.old page.old) receive.old cables.old result (shown dynamic.new sram.new page.new) receive.new cables.new }
 {
     let mut next = s;
-    let mut left = count;
-    while left > 0 {
+    for _ in 0..count {
         let read = read_one(next, dynamic, sram, page, receive, cables);
         next = read.state;
         if read.stop {
             return next;
         }
-        left -= 1;
     }
     next
 }

@@ -1,5 +1,5 @@
 -- The whole of a microframe (document 01, "Host record": counts, timers, gone, suspend, device left, phase; usbhost.rs 373-512).
-use Rattle.std.specs.Prelude.{ℕ, Bool, true, false}
+use Rattle.std.specs.Prelude.{ℕ, Bool, true, false, take}
 use Rattle.bits.specs.Word.{any}
 use Rattle.bus.specs.Words.{word_at}
 use Rattle.usbdev.specs.Offsets.{USBCMD}
@@ -19,7 +19,7 @@ abbrev pub rs_set : World → Bool
 rs_set w = any (word_at w.lent.memory.page USBCMD) 1
 
 abbrev pub gone_at : ℕ → World → Bool
-gone_at t w = any_span w.settings.gone 0 w.settings.spans t
+gone_at t w = any_span (take w.settings.spans w.settings.gone) t
 
 abbrev pub asleep_at : ℕ → World → Bool
 asleep_at t w = within w.settings.suspend t

@@ -1,6 +1,7 @@
 -- The steps of a microframe up to its transfers: counts, timers, gone, suspend, device left, and the phases (document 01, "Host record";
 -- usbhost.rs 374-495, whose lines the numbers beside each definition are).
-use Rattle.std.specs.Prelude.{ℕ, zero, suc, ◌+◌, ◌*◌, Bool, true, false, not, ◌&&◌, ◌||◌, List, [], ◌∷◌, leb, ltb, get_or}
+use Rattle.std.specs.Prelude.{ℕ, ◌+◌, Bool, true, false, not, ◌&&◌, List, [], ◌∷◌, leb, ltb}
+use Rattle.std.specs.List.{list_any}
 use Rattle.bits.specs.Word.{clear, set, any}
 use Rattle.bus.specs.Words.{word_at}
 use Rattle.usbdev.specs.Offsets.{USBSTS, FRINDEX, PORTSC1, OTGSC}
@@ -37,10 +38,9 @@ holds from to t = leb from t && ltb t to
 abbrev pub within : Span → ℕ → Bool
 within s t = holds s.from s.to t
 
--- 384: one of the first n spans of a table holds t, from span i on
-unfoldable pub any_span : List ℕ → ℕ → ℕ → ℕ → Bool
-any_span table i zero t = false
-any_span table i (suc n) t = holds (get_or table (2 * i) 0) (get_or table (2 * i + 1) 0) t || any_span table (suc i) n t
+-- 384: one of some spans holds t
+abbrev pub any_span : List Span → ℕ → Bool
+any_span spans t = list_any (λ s. within s t) spans
 
 -- ---- counts and timers
 

@@ -1,9 +1,9 @@
 -- What the port's marks are said of: the spans that hold a time, and the run bit of USBCMD (document 01, "Host record").
-use Rattle.std.specs.Prelude.{ℕ, ◌+◌, ◌*◌, ◌%◌, ◌≤◌, ◌<◌, true, List, ◌≡◌, get_or}
+use Rattle.std.specs.Prelude.{ℕ, ◌%◌, ◌≤◌, ◌<◌, true, List, ◌≡◌, get_or}
 use Rattle.bus.specs.Words.{word_at}
 use Rattle.record.specs.declared.Settings.{Settings}
 use Rattle.record.specs.World.{World}
-use Rattle.record.specs.Record.{counter_of, midi_dtds}
+use Rattle.record.specs.Record.{no_span, counter_of, midi_dtds}
 use Rattle.model.specs.Reach.{reaches_output}
 
 -- a span holds its start and not its end
@@ -11,12 +11,12 @@ pub record Between (from to t : ℕ) : Type 0 where
   pub start : from ≤ t
   pub end : t < to
 
--- a gone span of the settings holds t: start and end of span i stand at 2 i and 2 i + 1
+-- a gone span of the settings holds t: one of the first `spans`
 pub record InGone (c : Settings) (t : ℕ) : Type 0 where
   pub i : ℕ
   pub listed : i < c.spans
-  pub start : get_or c.gone (2 * i) 0 ≤ t
-  pub end : t < get_or c.gone (2 * i + 1) 0
+  pub start : (get_or c.gone i no_span).from ≤ t
+  pub end : t < (get_or c.gone i no_span).to
 
 -- the suspend span holds t, and the MIDI sleep span
 abbrev pub InSuspend : Settings → ℕ → Type 0

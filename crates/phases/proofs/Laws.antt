@@ -1,5 +1,6 @@
 -- What the proofs of the steps share: a register that is changed, a phase that begins, the timers' stores, setups that are queued, spans.
-use Rattle.std.proofs.Common.{◌≡◌, ℕ, zero, suc, ◌+◌, ◌-◌, ◌*◌, ◌/◌, ◌<◌, ◌≤◌, Bool, true, false, ◌&&◌, ◌||◌, ltb, List, [], ◌∷◌, ◌++◌, length, get_or, sym, ap, ◌∙◌, ap₂, add-one, arith}
+use Rattle.std.specs.Bool.{beq}
+use Rattle.std.proofs.Common.{not, ◌≡◌, ℕ, ◌+◌, ◌-◌, ◌*◌, ◌/◌, ◌<◌, ◌≤◌, Bool, true, false, ◌&&◌, ltb, List, [], ◌∷◌, ◌++◌, length, sym, refl, ap, ◌∙◌, ap₂, arith}
 use lib.Seq.{sets}
 use Rattle.bits.specs.Pick.{pick_both}
 use Rattle.bits.specs.Word.{any}
@@ -19,8 +20,8 @@ use Rattle.record.specs.World.{World, with_state, at_page, lined}
 use Rattle.record.specs.Change.{queued, apply, one}
 use Rattle.record.specs.Did.{Leads, entered}
 use Rattle.record.proofs.Laws.{once, on_page_lem}
-use Rattle.model.specs.Phases.{changing, holds, any_span, enters}
-use Rattle.phases.specs.Promises.{at_setups}
+use Rattle.model.specs.Phases.{changing, enters}
+use Rattle.phases.specs.Promises.{Changed, at_setups}
 use Rattle.model.specs.Phases.{changes}
 
 -- a word is read, changed and stored, and a step goes on from there
@@ -45,6 +46,12 @@ changed o f sts v w s p p₁ p₂ l fits word stored raised =
     on_page_lem (R.◌then◌ (changing o f) (raising sts)) w s p p₂ l (fits, (omega arith, tt))
     (changed_then o f (raising sts) v p p₁ s.port.line word stored raised)
 
+-- the same by what the change of a word gives
+pub changed_by : {post : ℕ → ℕ → Type 0} (o : ℕ) (f : ℕ → ℕ) (sts : ℕ) (w : World) (s : State) (p p' : List ℕ) (l : Bool)
+    → o + 4 ≤ 4096 → Changed post o sts s.port.line p p' l → ((x v : ℕ) → post x v → v ≡ f x)
+    → Leads (changes o f sts) (at_page w s p) (at_page w (lined s l) p')
+changed_by o f sts w s p p' l fits c by = changed o f sts c.word w s p (word_put p o c.word) p' l fits (by _ _ c.made) refl c.stored
+
 -- a phase begins
 pub begins : (p : Phase) (w : World) (s s' : State) → s' ≡ entered s p → Leads (enters p) (with_state w s) (with_state w s')
 unfolding enters and_then one apply
@@ -54,6 +61,22 @@ begins p w s s' e = record { is = ap (with_state w) e }
 pub begins_lined : (p : Phase) (w : World) (s s' : State) (q : List ℕ) (l : Bool) → s' ≡ entered s p
     → Leads (enters p) (at_page w (lined s l) q) (at_page w (lined s' l) q)
 begins_lined p w s s' q l e = begins p (at_page w s q) (lined s l) (lined s' l) (ap (λ (x : State). lined x l) e)
+
+-- ---- a switch that is asked to stand at b, where it stands at x
+
+pub stood : (b x : Bool) → beq b x ≡ true → x ≡ b
+stood true true e = refl
+stood true false e = e
+stood false true e = sym e
+stood false false e = refl
+
+pub turned_on : (x : Bool) → beq true x ≡ false → not x ≡ true
+turned_on true e = sym e
+turned_on false e = refl
+
+pub turned_off : (x : Bool) → beq false x ≡ false → x ≡ true
+turned_off true e = refl
+turned_off false e = sym e
 
 -- ---- the timers store in the page alone
 
@@ -98,28 +121,3 @@ unfolding apply
 queues bs w s p q q' n e stored =
     once (λ v. queued bs) (at_setups w s p q) _
     (ap₂ (λ (m : ℕ) (x : List ℕ). at_setups w (with_lengths s (with_setups s.lengths (m + length bs / 8))) p x) (sym e) (stored ∙ ap (λ (m : ℕ). sets q (8 * m) bs) (sym e)))
-
--- ---- the gone spans
-
--- span i holds t, or one of the n behind it
-any_next : (table : List ℕ) (i n t : ℕ)
-    → any_span table i (suc n) t ≡ holds (get_or table (2 * i) 0) (get_or table (2 * i + 1) 0) t || any_span table (i + 1) n t
-unfolding any_span
-any_next table i n t = rw (add-one i)
-
--- of count spans, those from span i on
-module _ (table : List ℕ) (count t i : ℕ) (more : i < count) where
-  any_at : any_span table i (count - i) t ≡ holds (get_or table (2 * i) 0) (get_or table (2 * i + 1) 0) t || any_span table (i + 1) (count - (i + 1)) t
-  any_at =
-      let e : count - i ≡ suc (count - (i + 1)) = omega (arith, add-one (count - (i + 1))) in
-      rw e (any_next table i (count - (i + 1)) t)
-
-  pub any_found : holds (get_or table (2 * i) 0) (get_or table (2 * i + 1) 0) t ≡ true → true ≡ any_span table i (count - i) t
-  any_found e = rw (any_at, e)
-
-  pub any_behind : holds (get_or table (2 * i) 0) (get_or table (2 * i + 1) 0) t ≡ false → any_span table (i + 1) (count - (i + 1)) t ≡ any_span table i (count - i) t
-  any_behind e = rw (any_at, e)
-
-pub any_none : (table : List ℕ) (count t i : ℕ) → count ≤ i → false ≡ any_span table i (count - i) t
-unfolding any_span
-any_none table count t i h = let e : count - i ≡ zero = omega arith in rw e

@@ -8,13 +8,12 @@ ghost use Rattle.gptimers.specs.Timer.{in_range};
 ghost use Rattle.record.specs.Change.{on_page};
 ghost use Rattle.record.specs.Did.{Alone, Paged};
 ghost use Rattle.model.specs.Phases as M;
-ghost use Rattle.phases.specs.Promises.{Queued};
+ghost use Rattle.phases.specs.Promises.{Changed, Queued};
 ghost use Rattle.bus.specs.Sized.{PAGE};
 ghost use Rattle.record.specs.Sizes as Sizes;
 
 use bus::{put_at, word_at};
-use record::{Phase, SETUP_BYTES, State};
-use std::num::wrapping_add_u64;
+use record::{Counter, Phase, SETUP_BYTES, Span, State};
 use usbdev::{FRINDEX, OTGSC, PORTSC1, USBSTS};
 
 // Bits of USBSTS: port change, bus reset, start of frame, suspend (SLI).
@@ -51,178 +50,155 @@ const RESET_WAIT: u64 = 80;
 pub fn counts(s: State) -> State
     ensures { Alone M.counts s result }
 {
-    let uf = wrapping_add_u64(s.port.uf, 1);
-    let mut next = record::count(s, record::MICROFRAMES, 1);
-    next.port.uf = uf;
+    let mut next = s.count(Counter::Microframes, 1);
+    next.port.uf = s.port.uf.wrapping_add(1);
     next
 }
 
 // The general-purpose timers.
-pub fn timers(s: State, page: &mut [u8]) -> State
+pub fn timers(mut s: State, page: &mut [u8]) -> State
     requires page_len { length page.old ≡ PAGE }
     requires zero_value { (in_range s.timers.zero ≡ true) × (in_range s.timers.one ≡ true) }
     ensures { Paged M.ticks s page.old result page.new }
 {
-    let before = s.timers;
-    let both = gptimers::gptimers(page, before, gptimers::STEP, s.port.line);
-    let after = both.timers;
-    let mut next = s;
-    next.timers = after;
-    next.port.line = both.line;
-    next
+    let both = gptimers::gptimers(page, s.timers, gptimers::STEP, s.port.line);
+    s.timers = both.timers;
+    s.port.line = both.line;
+    s
 }
 
 // Whether a span holds the time t: its start and not its end.
-pub fn in_span(from: u64, to: u64, t: u64) -> bool
-    ensures { result ≡ M.holds from to t }
+pub fn in_span(span: Span, t: u64) -> bool
+    ensures { result ≡ M.within span t }
 {
-    (from <= t) & (t < to)
+    (span.from <= t) & (t < span.to)
 }
 
-// Whether one of the first `count` spans holds the time t.
-pub fn any_span(gone: &[u64; 32], count: usize, t: u64) -> bool
-    requires { count ≤ 16 }
-    ensures { result ≡ M.any_span gone.now 0 count t }
+// Whether one of the spans holds the time t.
+pub fn any_span(spans: &[Span], t: u64) -> bool
+    ensures { result ≡ M.any_span spans.now t }
 {
-    let mut i = 0;
-    while i < count {
-        let at = 2 * i;
-        if in_span(gone[at], gone[at + 1], t) {
-            return true;
-        }
-        i += 1;
-    }
-    false
+    spans.iter().any(|span| in_span(*span, t))
+}
+
+// A register's word is changed, and bits of USBSTS are raised: the line's flag after that.
+fn change<F: FnOnce(u32) -> u32>(page: &mut [u8], at: usize, sts: u32, flag: bool, f: F) -> bool
+    requires page_len { (length page.old ≡ PAGE) × (at + 4 ≤ PAGE) }
+    requires callable { F.IsAlwaysCallable f }
+    ensures { Changed (F.post f) at sts flag page.old page.new result }
+{
+    let word = word_at(&*page, at);
+    put_at(page, at, f(word));
+    usbdev::raise(page, sts, flag)
 }
 
 // The cable comes out: VBUS goes, the port is detached, and the device sees the session change.
-fn cable_out(s: State, page: &mut [u8]) -> State
+fn cable_out(mut s: State, page: &mut [u8]) -> State
     requires { length page.old ≡ PAGE }
     ensures { Paged (on_page M.unplugging) s page.old result page.new }
 {
     let otg = word_at(&*page, OTGSC);
     put_at(page, OTGSC, bits::set(bits::clear(otg, VALID), SESSION));
-    let port = word_at(&*page, PORTSC1);
-    put_at(page, PORTSC1, bits::clear(port, ENABLED | SUSPENDED));
-    let line = usbdev::raise(page, PCI, s.port.line);
-    let mut next = s;
-    next.port.line = line;
-    next
+    s.port.line = change(
+        page,
+        PORTSC1,
+        PCI,
+        s.port.line,
+        |port| bits::clear(port, ENABLED | SUSPENDED),
+    );
+    s
 }
 
 // What a host that starts anew has forgotten: setups, the request, credit, budget, and both descriptors.
-fn fresh(s: State) -> State
+fn fresh(mut s: State) -> State
     ensures { Alone M.forgets s result }
 {
-    let mut next = s;
-    next.lengths.setups = 0;
-    next.control.on = false;
-    next.audio.credit = 0;
-    next.audio.budget = 0;
-    next.lengths.device = 0;
-    next.lengths.config = 0;
-    next
+    s.lengths.setups = 0;
+    s.control.on = false;
+    s.audio.credit = 0;
+    s.audio.budget = 0;
+    s.lengths.device = 0;
+    s.lengths.config = 0;
+    s
 }
 
 // The host is back: a fresh one, in the phase that raises VBUS.
 fn host_back(s: State) -> State
     ensures { Alone M.returns s result }
 {
-    let next = fresh(record::with_phase(s, Phase::Idle));
-    record::count(next, record::RESTARTS, 1)
+    fresh(s.with_phase(Phase::Idle)).count(Counter::Restarts, 1)
 }
 
 // The host goes or comes back where `gone` differs from what the record says.
-pub fn gone_step(s: State, page: &mut [u8], gone: bool) -> State
+pub fn gone_step(mut s: State, page: &mut [u8], gone: bool) -> State
     requires { length page.old ≡ PAGE }
     ensures { Paged (M.cable gone) s page.old result page.new }
 {
-    let mut next = s;
-    next.port.gone = gone;
+    if gone == s.port.gone {
+        return s;
+    }
+    s.port.gone = gone;
     if gone {
-        if s.port.gone {
-            return s;
-        }
-        return cable_out(next, page);
+        cable_out(s, page)
+    } else {
+        host_back(s)
     }
-    if s.port.gone {
-        return host_back(next);
-    }
-    s
 }
 
 // One more microframe in which the host read no MIDI.
 pub fn asleep(s: State) -> State
     ensures { Alone M.sleeps s result }
 {
-    record::count(s, record::MIDI_ASLEEP, 1)
+    s.count(Counter::MidiAsleep, 1)
 }
 
-// The host suspends the bus.
-fn suspend(s: State, page: &mut [u8]) -> State
-    requires { length page.old ≡ PAGE }
-    ensures { Paged M.suspending s page.old result page.new }
-{
-    let port = word_at(&*page, PORTSC1);
-    put_at(page, PORTSC1, bits::set(port, SUSPENDED));
-    let line = usbdev::raise(page, SLI, s.port.line);
-    let mut next = s;
-    next.port.suspended = true;
-    next.port.line = line;
-    next
-}
-
-// The host resumes the bus: a port change.
-fn resume(s: State, page: &mut [u8]) -> State
-    requires { length page.old ≡ PAGE }
-    ensures { Paged M.resuming s page.old result page.new }
-{
-    let port = word_at(&*page, PORTSC1);
-    put_at(page, PORTSC1, bits::clear(port, SUSPENDED));
-    let line = usbdev::raise(page, PCI, s.port.line);
-    let mut next = s;
-    next.port.suspended = false;
-    next.port.line = line;
-    next
-}
-
-// The bus is suspended or resumed where `asleep` differs from what the record says.
-pub fn suspend_step(s: State, page: &mut [u8], asleep: bool) -> State
+// The bus is suspended, or resumed by a port change, where `asleep` differs from what the record says.
+pub fn suspend_step(mut s: State, page: &mut [u8], asleep: bool) -> State
     requires { length page.old ≡ PAGE }
     ensures { Paged (M.suspends asleep) s page.old result page.new }
 {
-    if asleep {
-        if s.port.suspended {
-            return s;
-        }
-        return suspend(s, page);
+    if asleep == s.port.suspended {
+        return s;
     }
-    if s.port.suspended {
-        return resume(s, page);
-    }
+    s.port.suspended = asleep;
+    s.port.line = if asleep {
+        change(
+            page,
+            PORTSC1,
+            SLI,
+            s.port.line,
+            |port| bits::set(port, SUSPENDED),
+        )
+    } else {
+        change(
+            page,
+            PORTSC1,
+            PCI,
+            s.port.line,
+            |port| bits::clear(port, SUSPENDED),
+        )
+    };
     s
 }
 
 // The device has left the bus: the host waits for it as after VBUS.
-fn device_left(s: State) -> State
+fn device_left(mut s: State) -> State
     ensures { Alone M.departs s result }
 {
-    let mut next = s;
-    next.port.was_running = false;
-    fresh(record::enter(next, Phase::Vbus))
+    s.port.was_running = false;
+    fresh(s.enter(Phase::Vbus))
 }
 
 // The firmware's run bit is followed where the device stack is set.
-pub fn left_step(s: State, running: bool, device_stack: bool) -> State
+pub fn left_step(mut s: State, running: bool, device_stack: bool) -> State
     ensures { Alone (M.leaves device_stack running) s result }
 {
     if !device_stack {
         return s;
     }
     if running {
-        let mut next = s;
-        next.port.was_running = true;
-        return next;
+        s.port.was_running = true;
+        return s;
     }
     if s.port.was_running {
         return device_left(s);
@@ -237,9 +213,8 @@ pub fn idle(s: State, page: &mut [u8]) -> State
 {
     let otg = word_at(&*page, OTGSC);
     put_at(page, OTGSC, bits::set(otg, VALID | SESSION));
-    let line = usbdev::line(&*page);
-    let mut next = record::enter(s, Phase::Vbus);
-    next.port.line = line;
+    let mut next = s.enter(Phase::Vbus);
+    next.port.line = usbdev::line(&*page);
     next
 }
 
@@ -248,13 +223,16 @@ pub fn vbus(s: State, page: &mut [u8], running: bool) -> State
     requires { length page.old ≡ PAGE }
     ensures { Paged (M.powers running) s page.old result page.new }
 {
-    let waited = wrapping_add_u64(s.port.t, VBUS_WAIT) < s.port.uf;
+    let waited = s.port.t.wrapping_add(VBUS_WAIT) < s.port.uf;
     if running & waited {
-        let port = word_at(&*page, PORTSC1);
-        put_at(page, PORTSC1, bits::set(port, RESET));
-        let line = usbdev::raise(page, URI, s.port.line);
-        let mut next = record::enter(s, Phase::Reset);
-        next.port.line = line;
+        let mut next = s.enter(Phase::Reset);
+        next.port.line = change(
+            page,
+            PORTSC1,
+            URI,
+            s.port.line,
+            |port| bits::set(port, RESET),
+        );
         return next;
     }
     s
@@ -284,32 +262,29 @@ pub fn reset(s: State, page: &mut [u8], setups: &mut [u8; SETUP_BYTES]) -> State
     requires setups_bound { s.lengths.setups + 4 ≤ Sizes.SETUPS }
     ensures { Queued M.resets s page.old setups.old result page.new setups.new }
 {
-    let waited = wrapping_add_u64(s.port.t, RESET_WAIT) < s.port.uf;
+    let waited = s.port.t.wrapping_add(RESET_WAIT) < s.port.uf;
     let seen = !bits::any(word_at(&*page, USBSTS), URI);
     if waited & seen {
-        let port = word_at(&*page, PORTSC1);
-        put_at(page, PORTSC1, enabled(port));
-        let line = usbdev::raise(page, PCI, s.port.line);
-        let count = s.lengths.setups;
-        let more = count + 4;
-        first_setups(setups, count);
-        let mut next = record::enter(s, Phase::Enumerate);
-        next.port.line = line;
-        next.lengths.setups = more;
+        let mut next = s.enter(Phase::Enumerate);
+        next.port.line = change(page, PORTSC1, PCI, s.port.line, enabled);
+        first_setups(setups, s.lengths.setups);
+        next.lengths.setups = s.lengths.setups + 4;
         return next;
     }
     s
 }
 
 // The start of a microframe on the bus: FRINDEX counts it.
-pub fn start_of_frame(s: State, page: &mut [u8]) -> State
+pub fn start_of_frame(mut s: State, page: &mut [u8]) -> State
     requires { length page.old ≡ PAGE }
     ensures { Paged M.starts_frame s page.old result page.new }
 {
-    let frame = word_at(&*page, FRINDEX);
-    put_at(page, FRINDEX, usbdev::next_frindex(frame, 1));
-    let line = usbdev::raise(page, SRI, s.port.line);
-    let mut next = s;
-    next.port.line = line;
-    next
+    s.port.line = change(
+        page,
+        FRINDEX,
+        SRI,
+        s.port.line,
+        |frame| usbdev::next_frindex(frame, 1),
+    );
+    s
 }

@@ -1,7 +1,7 @@
 -- How the promises of steps compose.
-use Rattle.std.proofs.Common.{◌≡◌, ℕ, ◌+◌, Bool, true, false, List, [], ◌∷◌, map, get_or, sym, refl, ap, ◌∙◌, arith}
+use Rattle.std.proofs.Common.{◌≡◌, ℕ, Bool, true, false, List, [], ◌∷◌, map, sym, refl, ap, ◌∙◌}
 use Rattle.bits.specs.Pick.{pick}
-use Rattle.bus.specs.Memory.{Memory, word}
+use Rattle.bus.specs.Memory.{Memory}
 use Rattle.bus.specs.Steps.{replay, replay_append, exec, exec_then, exec_choose}
 use Rattle.bus.specs.Stores as S
 use Rattle.bus.specs.Stores.{Bus, Store, store, stored, dropped_by, BusStep}
@@ -11,7 +11,6 @@ use Rattle.dtd.specs.Dtd.{Endpoint, Run, run_dtds}
 use Rattle.dtd.specs.Promises.{Runs, running}
 use Rattle.dtd.specs.declared.Ran.{Ran}
 use Rattle.record.specs.declared.State.{State}
-use Rattle.record.specs.Setups.{little}
 use Rattle.record.specs.World.{World, bus_of, with_bus, at_page, at_bus, lined}
 use Rattle.record.specs.Change.{Change, bus, ran, lost, apply, Step, left, ◌then◌, nothing, if, one, here, on_bus, on_page, runs, ran_stores}
 use Rattle.record.specs.Did.{Leads, counting, dropping, after_run}
@@ -108,8 +107,3 @@ run_then e bs k w s m m' r p q =
           ∙ ap (left (k run)) (stored_run e bs w s m m' r p)
           ∙ sym (exec_then apply (λ v. ran_stores e run) (k run) (at_bus w s m));
     }
-
--- a setup's word from its bytes, the low one first in the queue
-pub word_little : (q : List ℕ) (i : ℕ) → word (get_or q (i + 3) 0) (get_or q (i + 2) 0) (get_or q (i + 1) 0) (get_or q i 0) ≡ little q i
-unfolding word
-word_little q i = omega arith

@@ -3,6 +3,7 @@ use Rattle.std.specs.Prelude.{ℕ, zero, suc, ◌+◌, ◌%◌, ◌^◌, Bool, L
 use Rattle.gptimers.specs.declared.Timers.{Timers}
 use Rattle.record.specs.declared.Phase.{Phase}
 use Rattle.record.specs.declared.Stage.{Stage}
+use Rattle.record.specs.declared.Span.{Span}
 use Rattle.record.specs.declared.Port.{Port}
 use Rattle.record.specs.declared.Ring.{Ring}
 use Rattle.record.specs.declared.Audio.{Audio}
@@ -10,6 +11,12 @@ use Rattle.record.specs.declared.Control.{Control}
 use Rattle.record.specs.declared.Lengths.{Lengths}
 use Rattle.record.specs.declared.Answer.{Answer}
 use Rattle.record.specs.declared.State.{State}
+use Rattle.record.specs.declared.Counter as Kind
+use Rattle.record.specs.declared.Counter.TheVariants.{Microframes, InTransfers, OutTransfers, InFrames, OutFrames, BadBlocks, MidiDtds, MidiAsleep, OutUnderruns, MidiPacketsOut, VendorInBytes, Restarts, Enumerations}
+
+-- a span of time that holds none
+abbrev pub no_span : Span
+no_span = record { from = 0; to = 0 }
 
 -- ---- the port
 
@@ -122,20 +129,47 @@ with_answer r x = record { phase = r.phase; port = r.port; audio = r.audio; cont
 
 -- ---- the counters (`UsbStats`, usbhost.rs 290-310)
 
-pub data Counter : Type 0 where
-  microframes : Counter
-  in_transfers : Counter
-  out_transfers : Counter
-  in_frames : Counter
-  out_frames : Counter
-  bad_blocks : Counter
-  midi_dtds : Counter
-  midi_asleep : Counter
-  out_underruns : Counter
-  midi_packets_out : Counter
-  vendor_in_bytes : Counter
-  restarts : Counter
-  enumerations : Counter
+abbrev pub Counter : Type 0
+Counter = Kind.Counter
+
+abbrev pub microframes : Counter
+microframes = Microframes
+
+abbrev pub in_transfers : Counter
+in_transfers = InTransfers
+
+abbrev pub out_transfers : Counter
+out_transfers = OutTransfers
+
+abbrev pub in_frames : Counter
+in_frames = InFrames
+
+abbrev pub out_frames : Counter
+out_frames = OutFrames
+
+abbrev pub bad_blocks : Counter
+bad_blocks = BadBlocks
+
+abbrev pub midi_dtds : Counter
+midi_dtds = MidiDtds
+
+abbrev pub midi_asleep : Counter
+midi_asleep = MidiAsleep
+
+abbrev pub out_underruns : Counter
+out_underruns = OutUnderruns
+
+abbrev pub midi_packets_out : Counter
+midi_packets_out = MidiPacketsOut
+
+abbrev pub vendor_in_bytes : Counter
+vendor_in_bytes = VendorInBytes
+
+abbrev pub restarts : Counter
+restarts = Restarts
+
+abbrev pub enumerations : Counter
+enumerations = Enumerations
 
 -- how many there are
 abbrev pub COUNTERS : ℕ
@@ -143,19 +177,19 @@ COUNTERS = 13
 
 -- its place in the list of them
 abbrev pub place : Counter → ℕ
-place microframes = 0
-place in_transfers = 1
-place out_transfers = 2
-place in_frames = 3
-place out_frames = 4
-place bad_blocks = 5
-place midi_dtds = 6
-place midi_asleep = 7
-place out_underruns = 8
-place midi_packets_out = 9
-place vendor_in_bytes = 10
-place restarts = 11
-place enumerations = 12
+place Microframes = 0
+place InTransfers = 1
+place OutTransfers = 2
+place InFrames = 3
+place OutFrames = 4
+place BadBlocks = 5
+place MidiDtds = 6
+place MidiAsleep = 7
+place OutUnderruns = 8
+place MidiPacketsOut = 9
+place VendorInBytes = 10
+place Restarts = 11
+place Enumerations = 12
 
 -- a list's first element, 0 where it has none, and the others
 unfoldable pub first : List ℕ → ℕ

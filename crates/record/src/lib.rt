@@ -1,16 +1,16 @@
 // The host record by its parts: what a chain of steps hands on by value. Queues and areas are lent beside it.
 #![tactic(auto)]
 
-ghost use Rattle.std.specs.Prelude.{◌≡◌, ◌+◌, ◌-◌, ◌*◌, ◌/◌, ◌<◌, ◌≤◌};
+ghost use Rattle.std.specs.Prelude.{◌≡◌, ◌+◌, ◌-◌, ◌*◌, ◌/◌, ◌<◌, ◌≤◌, length};
 ghost use Rattle.std.proofs.lemmas.List.Edits.{sets};
 ghost use Rattle.record.specs.Record as R;
 ghost use Rattle.record.specs.Sizes as Sizes;
+ghost use Rattle.record.specs.Change.{drained};
 ghost use Rattle.record.specs.Did.{entered, after_run};
 ghost use Rattle.record.specs.Setups.{little, little_bytes, setup_bytes};
 
 use dtd::Ran;
 use gptimers::Timers;
-use std::num::wrapping_add_u64;
 
 // Setups that wait at most, and their bytes.
 pub const SETUPS: usize = 257;
@@ -33,7 +33,7 @@ pub const RING_FRAMES: usize = 48_000;
 pub const RING: usize = RING_FRAMES * Audio::CHANNELS;
 
 // What the host waits for (usbhost.rs 177-190).
-#[derive(Clone, Copy)]
+#[derive(Clone, Copy, Debug, PartialEq, Eq)]
 pub enum Phase {
     Idle,
     Vbus,
@@ -43,21 +43,29 @@ pub enum Phase {
 }
 
 // A running request waits for its data stage's descriptor, or for its status stage's (usbhost.rs 192-198).
-#[derive(Clone, Copy)]
+#[derive(Clone, Copy, Debug, PartialEq, Eq)]
 pub enum Stage {
     Data,
     Status,
 }
 
 // A span of time: it holds its start and not its end, so (0, 0) holds none.
-#[derive(Clone, Copy)]
+#[derive(Clone, Copy, Debug, PartialEq, Eq)]
 pub struct Span {
     pub from: u64,
     pub to: u64,
 }
 
-// What is chosen at `new` and never changes: start and end of gone span i stand at 2 i and 2 i + 1.
-#[derive(Clone, Copy)]
+impl Span {
+    // The span that holds no time.
+    pub const NONE: Span = Span { from: 0, to: 0 };
+}
+
+// Gone spans that settings have room for.
+pub const SPANS: usize = 16;
+
+// What is chosen at `new` and never changes: of the gone spans the first `spans` are given.
+#[derive(Clone, Copy, Debug, PartialEq, Eq)]
 pub struct Settings {
     pub device_stack: bool,
     pub midi_in: bool,
@@ -66,11 +74,11 @@ pub struct Settings {
     pub sleep: Span,
     pub suspend: Span,
     pub spans: usize,
-    pub gone: [u64; 32],
+    pub gone: [Span; SPANS],
 }
 
 // The port: microframes since `new`, the phase's start, suspended, gone, RS seen set (`was_running`), and the interrupt line's flag.
-#[derive(Clone, Copy)]
+#[derive(Clone, Copy, Debug, PartialEq, Eq)]
 pub struct Port {
     pub uf: u64,
     pub t: u64,
@@ -81,14 +89,14 @@ pub struct Port {
 }
 
 // A ring of frames: the place of its oldest one, and how many it holds.
-#[derive(Clone, Copy)]
+#[derive(Clone, Copy, Debug, PartialEq, Eq)]
 pub struct Ring {
     pub start: usize,
     pub len: usize,
 }
 
 // The audio stream: `credit`, `out_counter`, `in_budget`, `out_block`, `out_channels`, and its two rings.
-#[derive(Clone, Copy)]
+#[derive(Clone, Copy, Debug, PartialEq, Eq)]
 pub struct Audio {
     pub credit: u64,
     pub counter: u16,
@@ -117,7 +125,7 @@ impl Audio {
 }
 
 // The request that runs, if one does: its setup as the two little-endian words that are posted, its reply's length, its start.
-#[derive(Clone, Copy)]
+#[derive(Clone, Copy, Debug, PartialEq, Eq)]
 pub struct Control {
     pub on: bool,
     pub stage: Stage,
@@ -127,38 +135,39 @@ pub struct Control {
     pub t0: u64,
 }
 
-// The counters (usbhost.rs `UsbStats`), each by its place in the array of them.
-pub const MICROFRAMES: usize = 0;
-
-pub const IN_TRANSFERS: usize = 1;
-
-pub const OUT_TRANSFERS: usize = 2;
-
-pub const IN_FRAMES: usize = 3;
-
-pub const OUT_FRAMES: usize = 4;
-
-pub const BAD_BLOCKS: usize = 5;
-
-pub const MIDI_DTDS: usize = 6;
-
-pub const MIDI_ASLEEP: usize = 7;
-
-pub const OUT_UNDERRUNS: usize = 8;
-
-pub const MIDI_PACKETS_OUT: usize = 9;
-
-pub const VENDOR_IN_BYTES: usize = 10;
-
-pub const RESTARTS: usize = 11;
-
-pub const ENUMERATIONS: usize = 12;
+// The counters (usbhost.rs `UsbStats`), in the order of the array of them.
+#[derive(Clone, Copy, Debug, PartialEq, Eq)]
+pub enum Counter {
+    Microframes,
+    InTransfers,
+    OutTransfers,
+    InFrames,
+    OutFrames,
+    BadBlocks,
+    MidiDtds,
+    MidiAsleep,
+    OutUnderruns,
+    MidiPacketsOut,
+    VendorInBytes,
+    Restarts,
+    Enumerations,
+}
 
 // How many there are.
 pub const COUNTERS: usize = 13;
 
+impl Counter {
+    // Its place in the array.
+    pub fn place(self) -> usize
+        ensures value { result ≡ R.place self }
+        ensures inside { result < R.COUNTERS }
+    {
+        self as usize
+    }
+}
+
 // How much is in use: setups waiting, bytes of the MIDI and the serial queue, of the device descriptor and of the configuration.
-#[derive(Clone, Copy)]
+#[derive(Clone, Copy, Debug, PartialEq, Eq)]
 pub struct Lengths {
     pub setups: usize,
     pub midi: usize,
@@ -168,7 +177,7 @@ pub struct Lengths {
 }
 
 // What a microframe answers: bytes in the receive area, bytes that no window took, and descriptors retired.
-#[derive(Clone, Copy)]
+#[derive(Clone, Copy, Debug, PartialEq, Eq)]
 pub struct Answer {
     pub received: usize,
     pub dropped: u64,
@@ -176,7 +185,7 @@ pub struct Answer {
 }
 
 // All of these.
-#[derive(Clone, Copy)]
+#[derive(Clone, Copy, Debug, PartialEq, Eq)]
 pub struct State {
     pub phase: Phase,
     pub port: Port,
@@ -188,90 +197,79 @@ pub struct State {
     pub answer: Answer,
 }
 
-// The state in another phase.
-pub fn with_phase(s: State, p: Phase) -> State
-    ensures { result ≡ R.with_phase s p }
-{
-    let port = s.port;
-    let audio = s.audio;
-    let control = s.control;
-    let timers = s.timers;
-    let stats = s.stats;
-    let lengths = s.lengths;
-    let answer = s.answer;
-    State {
-        phase: p,
-        port,
-        audio,
-        control,
-        timers,
-        stats,
-        lengths,
-        answer,
+impl Control {
+    // The request in another stage.
+    pub fn with_stage(self, stage: Stage) -> Control
+        ensures { result ≡ R.with_stage self stage }
+    {
+        Control { stage, ..self }
     }
 }
 
-// The state in a phase that starts in this microframe.
-pub fn enter(s: State, p: Phase) -> State
-    ensures { result ≡ entered s p }
-{
-    let mut next = with_phase(s, p);
-    next.port.t = s.port.uf;
-    next
-}
-
-// The request in another stage.
-pub fn with_stage(c: Control, g: Stage) -> Control
-    ensures { result ≡ R.with_stage c g }
-{
-    Control {
-        on: c.on,
-        stage: g,
-        first: c.first,
-        second: c.second,
-        got: c.got,
-        t0: c.t0,
+impl State {
+    // The state in another phase.
+    pub fn with_phase(self, phase: Phase) -> State
+        ensures { result ≡ R.with_phase self phase }
+    {
+        State { phase, ..self }
     }
-}
 
-// A counter, by its place.
-pub fn counter(s: State, c: usize) -> u64
-    requires { c < R.COUNTERS }
-    ensures { result ≡ R.counter_at c s.stats }
-{
-    s.stats[c]
-}
+    // The state in a phase that starts in this microframe.
+    pub fn enter(self, phase: Phase) -> State
+        ensures { result ≡ entered self phase }
+    {
+        let port = Port {
+            t: self.port.uf,
+            ..self.port
+        };
+        State {
+            phase,
+            port,
+            ..self
+        }
+    }
 
-// The state with another value of a counter.
-pub fn with_counter(s: State, c: usize, x: u64) -> State
-    requires { c < R.COUNTERS }
-    ensures { result ≡ R.with_stats s (R.with_counter_at c x s.stats) }
-{
-    let mut next = s;
-    next.stats[c] = x;
-    next
-}
+    // A counter.
+    pub fn counter(self, c: Counter) -> u64
+        ensures { result ≡ R.counter_of c self.stats }
+    {
+        self.stats[c.place()]
+    }
 
-// The state with a counter gone up by n, modulo 2^64.
-pub fn count(s: State, c: usize, n: u64) -> State
-    requires { c < R.COUNTERS }
-    ensures { result ≡ R.with_stats s (R.raised c n s.stats) }
-{
-    let sum = wrapping_add_u64(counter(s, c), n);
-    with_counter(s, c, sum)
-}
+    // The state with another value of a counter.
+    pub fn with_counter(mut self, c: Counter, x: u64) -> State
+        ensures { result ≡ R.with_stats self (R.with_counter_at (R.place c) x self.stats) }
+    {
+        self.stats[c.place()] = x;
+        self
+    }
 
-// The state after a run over descriptors: the line's flag, the bytes that no window took, and how many descriptors it retired.
-pub fn after_run(s: State, ran: Ran) -> State
-    ensures { result ≡ after_run s ran }
-{
-    let mut next = s;
-    next.port.line = ran.line;
-    let dropped = wrapping_add_u64(s.answer.dropped, ran.dropped as u64);
-    let retired = wrapping_add_u64(s.answer.retired, ran.retired as u64);
-    next.answer.dropped = dropped;
-    next.answer.retired = retired;
-    next
+    // The state with a counter gone up by n, modulo 2^64.
+    pub fn count(self, c: Counter, n: u64) -> State
+        ensures { result ≡ R.with_stats self (R.counted c n self.stats) }
+    {
+        self.with_counter(c, self.counter(c).wrapping_add(n))
+    }
+
+    // The state after a run over descriptors: the line's flag, the bytes that no window took, and how many descriptors it retired.
+    pub fn after_run(self, ran: Ran) -> State
+        ensures { result ≡ after_run self ran }
+    {
+        let port = Port {
+            line: ran.line,
+            ..self.port
+        };
+        let answer = Answer {
+            dropped: self.answer.dropped.wrapping_add(u64::from(ran.dropped)),
+            retired: self.answer.retired.wrapping_add(u64::from(ran.retired)),
+            ..self.answer
+        };
+        State {
+            port,
+            answer,
+            ..self
+        }
+    }
 }
 
 // Stores a little-endian word from index `at` on.
@@ -279,10 +277,7 @@ fn put_word(setups: &mut [u8; SETUP_BYTES], at: usize, v: u32)
     requires { at + 4 ≤ Sizes.SETUP_BYTES }
     ensures { setups.new ≡ sets setups.old at (little_bytes v) }
 {
-    setups[at] = (v % 256) as u8;
-    setups[at + 1] = (v / 0x100 % 256) as u8;
-    setups[at + 2] = (v / 0x1_0000 % 256) as u8;
-    setups[at + 3] = (v / 0x100_0000) as u8;
+    setups[at..at + 4].copy_from_slice(&v.to_le_bytes());
 }
 
 // The little-endian word of the setup queue from index `at` on.
@@ -290,7 +285,7 @@ pub fn word_from(setups: &[u8; SETUP_BYTES], at: usize) -> u32
     requires { at + 4 ≤ Sizes.SETUP_BYTES }
     ensures { result ≡ little setups.now at }
 {
-    bus::word(setups[at + 3], setups[at + 2], setups[at + 1], setups[at])
+    u32::from_le_bytes([setups[at], setups[at + 1], setups[at + 2], setups[at + 3]])
 }
 
 // Stores a setup, by its two words, behind the first `count`.
@@ -300,4 +295,12 @@ pub fn put_setup(setups: &mut [u8; SETUP_BYTES], count: usize, first: u32, secon
 {
     put_word(setups, 8 * count, first);
     put_word(setups, 8 * count + 4, second);
+}
+
+// A queue of `len` bytes without its first n: the others move up.
+pub fn drain(queue: &mut [u8], len: usize, n: usize)
+    requires { (n ≤ len) × (len ≤ length queue.old) }
+    ensures { queue.new ≡ drained queue.old len n }
+{
+    queue.copy_within(n..len, 0);
 }

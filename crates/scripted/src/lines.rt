@@ -7,7 +7,7 @@ use crate::log::Came;
 use crate::start::Start;
 use crate::turns::{Asked, Turned};
 use crate::{calls, log, start, turns};
-use record::State;
+use record::{Counter, State};
 use script::{parse, text, windows};
 use std::num::{wrapping_add_u64, wrapping_sub_u64};
 
@@ -27,14 +27,14 @@ pub fn used_by(length: usize, all: Came, state: State) -> Used
 {
     let came = wrapping_add_u64(all.midi, all.serial);
     let sent = wrapping_sub_u64(
-        state.stats[record::OUT_FRAMES],
-        state.stats[record::OUT_UNDERRUNS],
+        state.counter(Counter::OutFrames),
+        state.counter(Counter::OutUnderruns),
     );
     let given = wrapping_add_u64(sent, state.audio.sending.len as u64);
     Used {
         dynamic: bits::least(length, 1048576),
         receive: bits::least(came as usize, record::RECEIVE),
-        received: calls::ring_words(state.stats[record::IN_FRAMES] as usize, record::RING),
+        received: calls::ring_words(state.counter(Counter::InFrames) as usize, record::RING),
         sending: calls::ring_words(given as usize, record::RING),
     }
 }

@@ -1,7 +1,7 @@
 // The line that starts a run: the lengths and the settings that it gives.
 ghost use Rattle.std.specs.Prelude.{◌+◌, ◌*◌, ◌<◌, ◌≤◌, length};
 
-use record::{Settings, Span};
+use record::{SPANS, Settings, Span};
 use script::parse;
 
 // What such a line says, and whether it is as it must be; `space` counts frames of the sending ring.
@@ -34,7 +34,7 @@ struct Spanned {
 struct Gone {
     good: bool,
     count: usize,
-    gone: [u64; 32],
+    gone: [Span; SPANS],
     next: usize,
 }
 
@@ -60,38 +60,45 @@ fn read_flag(line: &[u8], at: usize) -> Flag {
 fn read_span(line: &[u8], at: usize) -> Spanned {
     let flag = read_flag(line, at);
     if flag.on {
-        let from = parse::read_number(line, flag.next);
-        let to = parse::read_number(line, from.next);
+        let times = read_times(line, flag.next);
         return Spanned {
-            good: flag.good & (from.good & to.good),
-            span: Span {
-                from: from.value,
-                to: to.value,
-            },
-            next: to.next,
+            good: flag.good & times.good,
+            ..times
         };
     }
     Spanned {
         good: flag.good,
-        span: Span { from: 0, to: 0 },
+        span: Span::NONE,
         next: flag.next,
     }
 }
 
-// The starts and ends of `count` spans, at most 16.
+// `FROM TO`.
+fn read_times(line: &[u8], at: usize) -> Spanned {
+    let from = parse::read_number(line, at);
+    let to = parse::read_number(line, from.next);
+    Spanned {
+        good: from.good & to.good,
+        span: Span {
+            from: from.value,
+            to: to.value,
+        },
+        next: to.next,
+    }
+}
+
+// The times of `count` spans, at most 16.
 fn read_spans(line: &[u8], at: usize, count: usize) -> Gone
     requires { count ≤ 16 }
 {
-    let mut gone = [0u64; 32];
+    let mut gone = [Span::NONE; SPANS];
     let mut good = true;
     let mut next = at;
-    let mut i = 0;
-    while i < 2 * count {
-        let n = parse::read_number(line, next);
-        good = good & n.good;
-        gone[i] = n.value;
-        next = n.next;
-        i += 1;
+    for i in 0..count {
+        let times = read_times(line, next);
+        good = good & times.good;
+        gone[i] = times.span;
+        next = times.next;
     }
     Gone {
         good,
@@ -111,7 +118,7 @@ fn read_gone(line: &[u8], at: usize) -> Gone {
     Gone {
         good: false,
         count: 0,
-        gone: [0u64; 32],
+        gone: [Span::NONE; SPANS],
         next: count.next,
     }
 }

@@ -55,14 +55,14 @@ fn show_audio(row: Row, out: &mut [u8; 65536], at: usize) -> usize
     requires { at + 168 ≤ 65536 }
     ensures { result ≤ at + 168 }
 {
-    let mut end = cell(out, at, row.stats[record::MICROFRAMES]);
-    end = cell(out, end, row.stats[record::IN_FRAMES]);
-    end = cell(out, end, row.stats[record::OUT_FRAMES]);
+    let mut end = cell(out, at, row.stats[Counter::Microframes as usize]);
+    end = cell(out, end, row.stats[Counter::InFrames as usize]);
+    end = cell(out, end, row.stats[Counter::OutFrames as usize]);
     end = cell(out, end, row.credit);
-    end = cell(out, end, row.stats[record::BAD_BLOCKS]);
-    end = cell(out, end, row.stats[record::IN_TRANSFERS]);
-    end = cell(out, end, row.stats[record::OUT_TRANSFERS]);
-    cell(out, end, row.stats[record::OUT_UNDERRUNS])
+    end = cell(out, end, row.stats[Counter::BadBlocks as usize]);
+    end = cell(out, end, row.stats[Counter::InTransfers as usize]);
+    end = cell(out, end, row.stats[Counter::OutTransfers as usize]);
+    cell(out, end, row.stats[Counter::OutUnderruns as usize])
 }
 
 // All cells behind the first, and the row's end.
@@ -71,12 +71,12 @@ pub fn show_row(row: Row, out: &mut [u8; 65536], at: usize) -> usize
     ensures { result ≤ at + 337 }
 {
     let mut end = show_audio(row, out, at);
-    end = cell(out, end, row.stats[record::RESTARTS]);
-    end = cell(out, end, row.stats[record::ENUMERATIONS]);
-    end = cell(out, end, row.stats[record::MIDI_DTDS]);
-    end = cell(out, end, row.stats[record::MIDI_ASLEEP]);
-    end = cell(out, end, row.stats[record::MIDI_PACKETS_OUT]);
-    end = cell(out, end, row.stats[record::VENDOR_IN_BYTES]);
+    end = cell(out, end, row.stats[Counter::Restarts as usize]);
+    end = cell(out, end, row.stats[Counter::Enumerations as usize]);
+    end = cell(out, end, row.stats[Counter::MidiDtds as usize]);
+    end = cell(out, end, row.stats[Counter::MidiAsleep as usize]);
+    end = cell(out, end, row.stats[Counter::MidiPacketsOut as usize]);
+    end = cell(out, end, row.stats[Counter::VendorInBytes as usize]);
     end = cell(out, end, row.refused);
     end = cell(out, end, row.dropped);
     text::put(out, end, b'\n')

@@ -3,6 +3,7 @@ use Prim.Native.Nat.{ℕ, suc, ◌+◌, ◌-◌, ◌*◌, ◌/◌, ◌≤◌, �
 use mathlib.Core.Bool.{Bool, true, false, not, ◌&&◌}
 use mathlib.Core.List.{List, [], ◌++◌}
 use mathlib.Core.Path.{◌≡◌, refl, sym, ap, ap₂, subst, ◌∙◌}
+use Rattle.std.proofs.Common.{Option, None, Some}
 use native.Mathlib.Omega.{arith}
 use native.Mathlib.Nat.{min-le_right, le_refl, le_trans, div-mul-le_self}
 use lib.Dec.{eqb}
@@ -27,54 +28,10 @@ use Rattle.record.specs.Change.{count, received, serial, midi, drained, apply, S
 use Rattle.record.specs.Did.{Leads, Did, after_run}
 use Rattle.record.proofs.Laws.{in_turn, by_true, by_false, unchanged, once, from_here, leads_as, leads_by, run_then}
 use Rattle.model.specs.Streams.{ready, fitting, drains_serial, serial_step, drains_midi, reads_vendor}
-use Rattle.streams.specs.declared.Took.{Took}
-use Rattle.streams.specs.declared.Took.TheVariants.{Nothing, Bytes}
+use Rattle.streams.specs.declared.Taken.{Taken}
 use Rattle.streams.specs.Promises.{at_receive, packet_of, served, Fewer, GivesBytes, Gives, Receives, Serves, ServesBoth}
 use Rattle.model.specs.Streams.{takes_serial, gives_serial}
 use Rattle.streams.proofs.Found.{unprimed_not, ended_not, active_ready, active_token, brings}
-
--- ---- a queue that loses its first bytes, as a loop moves the others up
-
--- j bytes have moved up by n
-abbrev pub moved : List ℕ → ℕ → ℕ → List ℕ
-moved q n j = take j (drop n q) ++ drop j q
-
-from_start : (q s : List ℕ) (j : ℕ) → paste q 0 s j ≡ take j s ++ drop j q
-from_start q s j = let none : 0 + j ≡ j = omega arith in ap (λ (k : ℕ). take j s ++ drop k q) none
-
-module _ (q : List ℕ) (n j : ℕ) (inside : n + j < length q) where
-  short : j ≤ length (drop n q)
-  short = omega (arith, length-drop n q)
-
-  still : get_or (moved q n j) (n + j) 0 ≡ get_or (drop n q) j 0
-  still =
-      let size : length (take j (drop n q)) ≡ j = length-take-le j (drop n q) short in
-      let at : n + j ≡ length (take j (drop n q)) + n = omega (arith, size) in
-      let back : j + n ≡ n + j = omega arith in
-      ap (λ (k : ℕ). get_or (moved q n j) k 0) at ∙ get_or-append-add (take j (drop n q)) (drop j q) n 0 ∙ get_or-drop j q n 0
-      ∙ ap (λ (k : ℕ). get_or q k 0) back ∙ sym (get_or-drop n q j 0)
-
-  pub moved_more : set (moved q n j) j (get_or (moved q n j) (n + j) 0) ≡ moved q n (suc j)
-  moved_more =
-      let none : 0 + j ≡ j = omega arith in
-      ap (set (moved q n j) j) still ∙ ap₂ (λ (x : List ℕ) (k : ℕ). set x k (get_or (drop n q) j 0)) (sym (from_start q (drop n q) j)) (sym none)
-      ∙ paste-suc q 0 (drop n q) j 0 (omega arith) (omega (arith, length-drop n q)) ∙ from_start q (drop n q) (suc j)
-
--- the loop at index i: i - n bytes have moved
-pub drain_turn : (q₀ q : List ℕ) (n i : ℕ) → n ≤ i → i < length q₀ → q ≡ moved q₀ n (i - n) → set q (i - n) (get_or q i 0) ≡ moved q₀ n (i + 1 - n)
-drain_turn q₀ q n i h room e =
-    let at : i ≡ n + (i - n) = omega arith in
-    let next : suc (i - n) ≡ i + 1 - n = omega arith in
-    ap (λ (x : List ℕ). set x (i - n) (get_or x i 0)) e
-    ∙ ap (λ (k : ℕ). set (moved q₀ n (i - n)) (i - n) (get_or (moved q₀ n (i - n)) k 0)) at
-    ∙ moved_more q₀ n (i - n) (omega arith) ∙ ap (moved q₀ n) next
-
-pub drain_first : (q : List ℕ) (n : ℕ) → q ≡ moved q n (n - n)
-drain_first q n = let none : 0 ≡ n - n = omega arith in ap (moved q n) none
-
-pub drain_all : (q : List ℕ) (len n i : ℕ) → i ≡ len → moved q n (i - n) ≡ drained q len n
-unfolding drained
-drain_all q len n i e = ap (λ (k : ℕ). moved q n (k - n)) e
 
 -- ---- what is in use
 
@@ -253,14 +210,14 @@ units_held tok held k unit e = le_trans (div-mul-le_self k unit) (omega (arith, 
 -- ---- an output by what `give` answers: f makes the step of what fits, and drains that of whole units of it
 
 module _ (e : Endpoint) (unit : ℕ) (held : Lengths → ℕ) (put : World → List ℕ → World) (f drains : ℕ → Step) (same : (x : ℕ) → drains (x / unit * unit) ≡ f x)
-    (s : State) (m m' : Memory) (q q' : List ℕ) (k : Took) (g : Gives e unit s.port.line m q (held s.lengths) k m' q') where
-  abbrev As : Took → Type 0
+    (s : State) (m m' : Memory) (q q' : List ℕ) (k : Option Taken) (g : Gives e unit s.port.line m q (held s.lengths) k m' q') where
+  abbrev As : Option Taken → Type 0
   As x = Gives e unit s.port.line m q (held s.lengths) x m' q'
 
   abbrev given : Step
   given = sends e (λ v. held v.state.lengths) f
 
-  pub nothing_given : k ≡ Nothing → Serves put given s m q s m' q'
+  pub nothing_given : k ≡ None → Serves put given s m q s m' q'
   unfolding Gives
   nothing_given is =
       let none = subst As is g in
@@ -270,25 +227,25 @@ module _ (e : Endpoint) (unit : ℕ) (held : Lengths → ℕ) (put : World → L
         few = fewer_same refl;
       }
 
-  module _ {r : Ran} {n : ℕ} (is : k ≡ Bytes r n) where
-    some : GivesBytes e unit s.port.line m q (held s.lengths) r n m' q'
+  module _ {t : Taken} (is : k ≡ Some t) where
+    some : GivesBytes e unit s.port.line m q (held s.lengths) t m' q'
     unfolding Gives
     some = subst As is g
 
-    pub bytes_held : n ≤ held s.lengths
+    pub bytes_held : t.bytes ≤ held s.lengths
     bytes_held = some.few
 
-    pub bytes_run : Runs e (take n q) (S.bus m s.port.line) (S.bus m' r.line) r
+    pub bytes_run : Runs e (take t.bytes q) (S.bus m s.port.line) (S.bus m' t.ran.line) t.ran
     bytes_run = some.run
 
-    pub bytes_left : q' ≡ drained q (held s.lengths) n
+    pub bytes_left : q' ≡ drained q (held s.lengths) t.bytes
     bytes_left = some.queue
 
-    pub bytes_given : {t : State} → Serves put (drains n) s m q t m' q' → Serves put given s m q t m' q'
+    pub bytes_given : {next : State} → Serves put (drains t.bytes) s m q next m' q' → Serves put given s m q next m' q'
     bytes_given p =
         record {
           leads = λ w. some_sent e (λ v. held v.state.lengths) f (at_bus (put w q) s m) some.some
-              (leads_by {f = drains n} (ap (λ (x : ℕ). drains x (at_bus (put w q) s m)) some.fits ∙ ap (λ (h : Step). h (at_bus (put w q) s m)) (same _)) (p.leads w));
+              (leads_by {f = drains t.bytes} (ap (λ (x : ℕ). drains x (at_bus (put w q) s m)) some.fits ∙ ap (λ (h : Step). h (at_bus (put w q) s m)) (same _)) (p.leads w));
           sized = p.sized;
           few = p.few;
         }

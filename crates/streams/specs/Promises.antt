@@ -1,10 +1,9 @@
 -- What the functions on streams promise: the Worlds that their steps lead to, with the queues and areas that they take.
-use Rattle.std.specs.Prelude.{ℕ, ◌*◌, ◌/◌, ◌≤◌, min, Bool, true, false, not, ◌&&◌, List, ◌≡◌, eqb, take}
+use Rattle.std.specs.Prelude.{ℕ, ◌*◌, ◌/◌, ◌≤◌, min, Bool, true, false, not, ◌&&◌, List, Option, None, Some, ◌≡◌, eqb, take}
 use Rattle.bus.specs.Memory.{Memory}
 use Rattle.bus.specs.Sized.{Sized}
 use Rattle.bus.specs.Stores.{bus}
 use Rattle.usbdev.specs.Transfer.{total_of}
-use Rattle.dtd.specs.declared.Ran.{Ran}
 use Rattle.dtd.specs.Dtd.{Endpoint, primed, next_active, next_dtd, token_of}
 use Rattle.dtd.specs.Promises.{Runs}
 use Rattle.record.specs.declared.Lengths.{Lengths}
@@ -12,8 +11,7 @@ use Rattle.record.specs.declared.State.{State}
 use Rattle.record.specs.World.{World, at_bus, with_serial_queue, with_receive_area}
 use Rattle.record.specs.Change.{Step, drained}
 use Rattle.record.specs.Did.{Leads}
-use Rattle.streams.specs.declared.Took.{Took}
-use Rattle.streams.specs.declared.Took.TheVariants.{Nothing, Bytes}
+use Rattle.streams.specs.declared.Taken.{Taken}
 
 -- ---- a World with what a function takes in its place
 
@@ -42,18 +40,18 @@ pub record GivesNothing (e : Endpoint) (m : Memory) (q : List ℕ) (held : ℕ) 
   pub sized : Sized m'
   pub queue : q' ≡ q
 
--- n bytes are taken of a queue: as many whole units as fit
-pub record GivesBytes (e : Endpoint) (unit : ℕ) (line : Bool) (m : Memory) (q : List ℕ) (held : ℕ) (r : Ran) (n : ℕ) (m' : Memory) (q' : List ℕ) : Type 0 where
+-- bytes are taken of a queue: as many whole units as fit
+pub record GivesBytes (e : Endpoint) (unit : ℕ) (line : Bool) (m : Memory) (q : List ℕ) (held : ℕ) (t : Taken) (m' : Memory) (q' : List ℕ) : Type 0 where
   pub some : served e held m ≡ true
-  pub fits : n ≡ packet_of (token_of (next_dtd e m) m) held / unit * unit
-  pub few : n ≤ held
-  pub run : Runs e (take n q) (bus m line) (bus m' r.line) r
-  pub queue : q' ≡ drained q held n
+  pub fits : t.bytes ≡ packet_of (token_of (next_dtd e m) m) held / unit * unit
+  pub few : t.bytes ≤ held
+  pub run : Runs e (take t.bytes q) (bus m line) (bus m' t.ran.line) t.ran
+  pub queue : q' ≡ drained q held t.bytes
 
 -- on memory and a queue, by the answer
-unfoldable pub Gives : Endpoint → ℕ → Bool → Memory → List ℕ → ℕ → Took → Memory → List ℕ → Type 0
-Gives e unit line m q held Nothing m' q' = GivesNothing e m q held m' q'
-Gives e unit line m q held (Bytes r n) m' q' = GivesBytes e unit line m q held r n m' q'
+unfoldable pub Gives : Endpoint → ℕ → Bool → Memory → List ℕ → ℕ → Option Taken → Memory → List ℕ → Type 0
+Gives e unit line m q held None m' q' = GivesNothing e m q held m' q'
+Gives e unit line m q held (Some t) m' q' = GivesBytes e unit line m q held t m' q'
 
 -- of what is in use, only bytes of the MIDI and the serial queue leave
 pub record Fewer (a b : Lengths) : Type 0 where

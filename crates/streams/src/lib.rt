@@ -5,14 +5,13 @@ ghost use Rattle.std.specs.Prelude.{◌≡◌, false, ◌+◌, ◌<◌, ◌≤�
 ghost use Rattle.bus.specs.Memory.{shown};
 ghost use Rattle.bus.specs.Sized.{Sized};
 ghost use Rattle.dtd.specs.Dtd as D;
-ghost use Rattle.record.specs.Change as C;
 ghost use Rattle.record.specs.World.{with_serial_queue, with_midi_queue};
 ghost use Rattle.record.specs.Did as R;
 ghost use Rattle.model.specs.Streams as M;
 ghost use Rattle.streams.specs.Promises as P;
 
 use dtd::{Found, Ran};
-use record::State;
+use record::{Counter, State};
 
 // The bits of the endpoints in EPSR: MIDI out (1), serial or vendor in and serial out (2).
 const MIDI_OUT: u32 = 0x2;
@@ -24,30 +23,18 @@ const SECOND_OUT: u32 = 0x4;
 // The bytes of one bulk packet at high speed.
 const PACKET: usize = 512;
 
-// What an output endpoint took of a queue: nothing, or so many bytes by a run.
+// What an output endpoint took of a queue: so many bytes, by a run.
 #[derive(Clone, Copy)]
-enum Took {
-    Nothing,
-    Bytes(Ran, usize),
-}
-
-// A queue of `len` bytes without its first n: the others move up.
-pub fn drain(q: &mut [u8], len: usize, n: usize)
-    requires { (n ≤ len) × (len ≤ length q.old) }
-    ensures { q.new ≡ C.drained q.old len n }
-{
-    let mut i = n;
-    while i < len {
-        q[i - n] = q[i];
-        i += 1;
-    }
+struct Taken {
+    ran: Ran,
+    bytes: usize,
 }
 
 // How many of the queued bytes one packet carries to a descriptor with this token.
 fn packet_of(tok: u32, queued: usize) -> usize
     ensures { result ≡ P.packet_of tok queued }
 {
-    bits::least(bits::least(usbdev::total(tok) as usize, PACKET), queued)
+    (usbdev::total(tok) as usize).min(PACKET).min(queued)
 }
 
 // Serial input: its bytes go into the receive area.
@@ -64,19 +51,9 @@ fn serial_in(
 {
     let at = s.answer.received;
     let limit = receive.len();
-    let filled = runs::run_in(
-        dynamic,
-        sram,
-        page,
-        receive,
-        2,
-        SECOND_IN,
-        at,
-        limit,
-        s.port.line,
-    );
-    let ran = filled.ran;
-    let mut next = record::after_run(s, ran);
+    let line = s.port.line;
+    let filled = runs::run_in(dynamic, sram, page, receive, 2, SECOND_IN, at, limit, line);
+    let mut next = s.after_run(filled.ran);
     next.answer.received = filled.at;
     next
 }
@@ -92,23 +69,22 @@ fn give(
     ep: u32,
     bit: u32,
     line: bool,
-) -> Took
+) -> Option<Taken>
     requires sized { Sized (shown dynamic.old sram.old page.old) }
     requires held_in_bounds { (held ≤ length queue.old) × (1 ≤ unit) }
     requires le_ep { (1 ≤ ep) × ((ep < 16) × (bit ≡ D.bit_of (D.endpoint ep false))) }
     ensures { P.Gives (D.endpoint ep false) unit line (shown dynamic.old sram.old page.old) queue.old held result (shown dynamic.new sram.new page.new) queue.new }
 {
     if held == 0 {
-        return Took::Nothing;
+        return None;
     }
     match dtd::find(&*dynamic, &*sram, &*page, ep, false, bit) {
-        Found::Unprimed => Took::Nothing,
-        Found::Ended => Took::Nothing,
+        Found::Unprimed | Found::Ended => None,
         Found::Active(qh, td, tok) => {
-            let n = packet_of(tok, held) / unit * unit;
-            let ran = dtd::send_one(dynamic, sram, page, qh, td, tok, bit, &queue[..n], line);
-            drain(queue, held, n);
-            Took::Bytes(ran, n)
+            let bytes = packet_of(tok, held) / unit * unit;
+            let ran = dtd::send_one(dynamic, sram, page, qh, td, tok, bit, &queue[..bytes], line);
+            record::drain(queue, held, bytes);
+            Some(Taken { ran, bytes })
         }
     }
 }
@@ -125,26 +101,14 @@ fn serial_out(
     requires serial_in_bounds { s.lengths.serial ≤ length serial.old }
     ensures { P.Serves with_serial_queue M.gives_serial s (shown dynamic.old sram.old page.old) serial.old result (shown dynamic.new sram.new page.new) serial.new }
 {
-    let queued = s.lengths.serial;
-    match give(
-        dynamic,
-        sram,
-        page,
-        serial,
-        queued,
-        1,
-        2,
-        SECOND_OUT,
-        s.port.line,
-    ) {
-        Took::Nothing => s,
-        Took::Bytes(ran, n) => {
-            let mut next = record::after_run(s, ran);
-            let rest = queued - n;
-            next.lengths.serial = rest;
-            next
-        }
-    }
+    let held = s.lengths.serial;
+    let line = s.port.line;
+    let Some(taken) = give(dynamic, sram, page, serial, held, 1, 2, SECOND_OUT, line) else {
+        return s;
+    };
+    let mut next = s.after_run(taken.ran);
+    next.lengths.serial = held - taken.bytes;
+    next
 }
 
 // The serial device's two endpoints.
@@ -176,31 +140,17 @@ pub fn midi_out(
     requires midi_in_bounds { s.lengths.midi ≤ length midi.old }
     ensures { P.Serves with_midi_queue M.midi_out s (shown dynamic.old sram.old page.old) midi.old result (shown dynamic.new sram.new page.new) midi.new }
 {
-    let queued = s.lengths.midi;
-    match give(
-        dynamic,
-        sram,
-        page,
-        midi,
-        queued,
-        4,
-        1,
-        MIDI_OUT,
-        s.port.line,
-    ) {
-        Took::Nothing => s,
-        Took::Bytes(ran, n) => {
-            let packets = (n / 4) as u64;
-            let mut next = record::count(
-                record::after_run(s, ran),
-                record::MIDI_PACKETS_OUT,
-                packets,
-            );
-            let rest = queued - n;
-            next.lengths.midi = rest;
-            next
-        }
-    }
+    let held = s.lengths.midi;
+    let line = s.port.line;
+    let Some(taken) = give(dynamic, sram, page, midi, held, 4, 1, MIDI_OUT, line) else {
+        return s;
+    };
+    let packets = (taken.bytes / 4) as u64;
+    let mut next = s
+        .after_run(taken.ran)
+        .count(Counter::MidiPacketsOut, packets);
+    next.lengths.midi = held - taken.bytes;
+    next
 }
 
 // The vendor interface's input, whose bytes are only counted.
@@ -210,9 +160,6 @@ pub fn vendor(s: State, dynamic: &mut [u8], sram: &mut [u8], page: &mut [u8]) ->
     ensures fewer { P.Fewer s.lengths result.lengths }
 {
     let ran = dtd::run_count(dynamic, sram, page, 2, SECOND_IN, s.port.line);
-    record::count(
-        record::after_run(s, ran),
-        record::VENDOR_IN_BYTES,
-        ran.moved as u64,
-    )
+    s.after_run(ran)
+        .count(Counter::VendorInBytes, u64::from(ran.moved))
 }

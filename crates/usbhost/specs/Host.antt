@@ -1,14 +1,15 @@
 -- The host record, a new one, and its state by parts (document 01, "Host record"; usbhost.rs 207-354).
-use Rattle.std.specs.Prelude.{ℕ, ◌-◌, ◌*◌, false, List, ◌++◌, leb, take, replicate}
+use Rattle.std.specs.Prelude.{ℕ, ◌-◌, false, List, ◌++◌, leb, take, replicate}
 use Rattle.bits.specs.Pick.{pick}
 use Rattle.midi.specs.declared.Packer.{Packer}
 use Rattle.midi.specs.Packer.{CABLES, fresh}
 use Rattle.gptimers.specs.Timer.{none}
 use Rattle.record.specs.declared.Phase.TheVariants.{Idle}
 use Rattle.record.specs.declared.Stage.TheVariants.{Data}
+use Rattle.record.specs.declared.Span.{Span}
 use Rattle.record.specs.declared.Settings.{Settings}
 use Rattle.record.specs.declared.State.{State}
-use Rattle.record.specs.Record.{COUNTERS}
+use Rattle.record.specs.Record.{COUNTERS, no_span}
 use Rattle.record.specs.World.{Own, own}
 use Rattle.record.specs.Sizes.{SETUP_BYTES, QUEUE, DEVICE}
 use Rattle.usbhost.specs.declared.Host.{Host}
@@ -31,7 +32,7 @@ state_of h =
 -- ---- `new` (319-354)
 
 -- settings with other gone spans, by their count
-abbrev pub with_gone_spans : Settings → ℕ → List ℕ → Settings
+abbrev pub with_gone_spans : Settings → ℕ → List Span → Settings
 with_gone_spans c n gone =
     record {
       device_stack = c.device_stack;
@@ -44,9 +45,9 @@ with_gone_spans c n gone =
       gone = gone;
     }
 
--- settings whose gone spans past their count are 0
+-- settings whose gone spans past their count hold no time
 unfoldable pub settled : Settings → Settings
-settled c = with_gone_spans c c.spans (take (2 * c.spans) c.gone ++ replicate (32 - 2 * c.spans) 0)
+settled c = with_gone_spans c c.spans (take c.spans c.gone ++ replicate (16 - c.spans) no_span)
 
 -- settings that choose nothing
 abbrev pub no_settings : Settings
@@ -56,10 +57,10 @@ no_settings =
       midi_in = false;
       cdc = false;
       midi_every = 0;
-      sleep = record { from = 0; to = 0 };
-      suspend = record { from = 0; to = 0 };
+      sleep = no_span;
+      suspend = no_span;
       spans = 0;
-      gone = replicate 32 0;
+      gone = replicate 16 no_span;
     }
 
 -- a host that has done nothing: Idle, no credit, blocks of 368 bytes with 12 channels, all queues empty, a fresh packer for each cable (S-2)

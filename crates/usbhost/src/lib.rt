@@ -11,7 +11,7 @@ ghost use Rattle.usbhost.specs.Calls.{unless, sending_length, midi_sent, serial_
 ghost use Rattle.usbhost.specs.Promises.{bare, MidiPromise, SerialPromise, GivePromise, TakePromise, ReadPromise, WritePromise, FramePromise};
 ghost use Rattle.usbhost.specs.Frame.{lengths_ok, bounds_ok, frame_number, framed, frame_answer};
 ghost use Rattle.bus.specs.Memory.{shown};
-ghost use Rattle.record.specs.Record.{with_answer, counter_of, in_frames, out_frames};
+ghost use Rattle.record.specs.Record.{no_span, with_answer, counter_of, in_frames, out_frames};
 ghost use Rattle.record.specs.World.{Own, own, own_setups, lent};
 ghost use Rattle.record.specs.declared.Settings.{Settings as Record-as-Settings};
 ghost use Rattle.usbhost.specs.Host.{state_of, host_of, host_with, no_settings, new_host, created};
@@ -19,8 +19,8 @@ ghost use Rattle.usbhost.specs.Host.{state_of, host_of, host_with, no_settings, 
 use gptimers::{Timer, Timers};
 use midi::{CABLES, Packer};
 use record::{
-    Answer, Audio, Control, DEVICE, Lengths, Phase, Port, QUEUE, RECEIVE, REPLY, RING, RING_FRAMES,
-    Ring, SETUP_BYTES, Settings, Span, Stage, State,
+    Answer, Audio, Control, Counter, DEVICE, Lengths, Phase, Port, QUEUE, RECEIVE, REPLY, RING,
+    RING_FRAMES, Ring, SETUP_BYTES, SPANS, Settings, Span, Stage, State,
 };
 
 // The host record (usbhost.rs 205-288). Its fields are read by calls and written by no one outside.
@@ -157,18 +157,14 @@ fn frame_at(ring: &[u32], at: usize) -> [u32; Host::CHANNELS]
     frame
 }
 
-// The first `spans` spans, and zeros behind them.
-fn first_spans(gone: [u64; 32], spans: usize) -> [u64; 32]
+// The first `spans` gone spans, and behind them spans that hold no time.
+fn first_spans(gone: [Span; SPANS], spans: usize) -> [Span; SPANS]
     requires { spans ≤ 16 }
-    ensures { result ≡ take (2 * spans) gone ++ replicate (32 - 2 * spans) 0 }
+    ensures { result ≡ take spans gone ++ replicate (16 - spans) no_span }
 {
-    let mut next = [0u64; 32];
-    let mut i = 0;
-    while i < 2 * spans {
-        next[i] = gone[i];
-        i += 1;
-    }
-    next
+    let mut first = [Span::NONE; SPANS];
+    first[..spans].copy_from_slice(&gone[..spans]);
+    first
 }
 
 // Settings that choose nothing.
@@ -180,10 +176,10 @@ pub fn no_settings() -> Settings
         midi_in: false,
         cdc: false,
         midi_every: 0,
-        sleep: Span { from: 0, to: 0 },
-        suspend: Span { from: 0, to: 0 },
+        sleep: Span::NONE,
+        suspend: Span::NONE,
         spans: 0,
-        gone: [0; 32],
+        gone: [Span::NONE; SPANS],
     }
 }
 
@@ -757,20 +753,16 @@ impl Host {
     pub fn new(c: Settings) -> Created
         ensures { result ≡ created c }
     {
-        let spans = c.spans;
-        if 16 < spans {
+        if SPANS < c.spans {
             return Created {
                 refusal: 3,
                 host: new_host(no_settings()),
             };
         }
-        let gone = c.gone;
-        let first = first_spans(gone, spans);
-        let mut settled = c;
-        settled.gone = first;
+        let gone = first_spans(c.gone, c.spans);
         Created {
             refusal: 0,
-            host: new_host(settled),
+            host: new_host(Settings { gone, ..c }),
         }
     }
 
@@ -785,14 +777,14 @@ impl Host {
     pub fn in_frames(self) -> u64
         ensures { result ≡ counter_of in_frames self.stats }
     {
-        self.stats[record::IN_FRAMES]
+        self.stats[Counter::InFrames as usize]
     }
 
     // Audio frames sent.
     pub fn out_frames(self) -> u64
         ensures { result ≡ counter_of out_frames self.stats }
     {
-        self.stats[record::OUT_FRAMES]
+        self.stats[Counter::OutFrames as usize]
     }
 
     // Credit of the audio stream.

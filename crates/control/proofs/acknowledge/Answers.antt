@@ -2,8 +2,12 @@
 use Rattle.control.proofs.Whole.{ends_done, ends_open}
 use Rattle.control.proofs.acknowledge.Goals as goal
 
-pub returns-then-status : goal.returns-then-status
-returns-then-status c = ends_done c.args.device_stack c.status_stage-status.ensures.0 c.args.setups.now c.args.device.now c.args.reply.now c.args.config.now c.status_stage-status.ensures.1 c.if-status.true c.finished.ensures
+pub returns-then-ran : goal.returns-then-ran
+returns-then-ran c =
+    let a = c.args in
+    ends_done a.device_stack c.status_stage-ran.ensures.0 a.setups.now a.device.now a.reply.now a.config.now c.status_stage-ran.ensures.1 c.after_run-next.ensures c.if-ran.true c.finished.ensures
 
 pub returns : goal.returns
-returns c = ends_open c.args.device_stack c.status_stage-status.ensures.0 c.args.setups.now c.args.device.now c.args.reply.now c.args.config.now c.status_stage-status.ensures.1 c.if-status.false c.unless_late.ensures
+returns c =
+    let a = c.args in
+    ends_open a.device_stack c.status_stage-ran.ensures.0 a.setups.now a.device.now a.reply.now a.config.now c.status_stage-ran.ensures.1 c.after_run-next.ensures c.if-ran.false c.unless_late.ensures

@@ -11,4 +11,4 @@ pub returns-in_default : goal.returns-in_default
 returns-in_default c = streaming_starts c.args.device_stack c.args.s (memory c.args.dynamic.now c.args.sram.now c.args.page.now) c.args.setups.now c.args.device.now c.args.reply.now c.args.config.now c.if-s.false (sym c.in_default.is ∙ c.next_setup.ensures) c.requires.sized c.configured.ensures
 
 pub returns : goal.returns
-returns c = setup_posted c.args.device_stack c.args.s (memory c.args.dynamic.now c.args.sram.now c.args.page.now) c.args.setups.now c.args.device.now c.args.reply.now c.args.config.now c.if-s.false _ _ (sym c.in-Setup.is ∙ c.next_setup.ensures) c.post.ensures
+returns c = setup_posted c.args.device_stack c.args.s (memory c.args.dynamic.now c.args.sram.now c.args.page.now) c.args.setups.now c.args.device.now c.args.reply.now c.args.config.now c.if-s.false _ (sym c.in-Some.is ∙ c.next_setup.ensures) c.post.ensures

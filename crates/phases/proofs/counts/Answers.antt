@@ -7,4 +7,4 @@ use Rattle.phases.proofs.counts.Goals as goal
 
 pub returns : goal.returns
 unfolding counts and_then one apply raised
-returns c = record { leads = λ w. record { is = rw (c.count-next.ensures, c.wrapping_add_u64-uf.ensures.value) } }
+returns c = record { leads = λ w. record { is = rw c.count-next.ensures } }

@@ -14,5 +14,5 @@ returns c =
     record {
       leads = λ w.
           in_turn (once _ (with_state w c.args.s) _ (ap (with_state w) c.with_phase.ensures))
-          (in_turn (c.fresh-next.ensures.leads w) (counts_one restarts 1 w c.count.ensures));
+          (in_turn (c.fresh.ensures.leads w) (counts_one restarts 1 w c.count.ensures));
     }

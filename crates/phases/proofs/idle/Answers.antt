@@ -19,6 +19,6 @@ returns c =
       leads = λ w.
           in_turn
           (on_page_lem (R.◌then◌ (changing OTGSC (λ v. set v 0x81E00)) following) w a.s a.page.now _ _ (omega arith, tt)
-          (changed_then OTGSC (λ v. set v 0x81E00) following _ a.page.now _ a.s.port.line (rw (← c.word_at-otg.ensures) c.set.ensures) c.put_at.ensures (ap (registers _) c.line-line.ensures)))
+          (changed_then OTGSC (λ v. set v 0x81E00) following _ a.page.now _ a.s.port.line (rw (← c.word_at-otg.ensures) c.set.ensures) c.put_at.ensures (ap (registers _) c.line-next.ensures)))
           (begins_lined Vbus w _ _ _ _ c.enter-next.ensures);
     }

@@ -1,5 +1,5 @@
 -- `phases::reset` meets its contract.
-use Rattle.std.proofs.Common.{ap, arith}
+use Rattle.std.proofs.Common.{ap, rules, arith}
 use Rattle.record.specs.declared.State.{State}
 use Rattle.bits.specs.Word.{clear, set}
 use Rattle.usbdev.specs.Offsets.{PORTSC1}
@@ -7,7 +7,7 @@ use Rattle.record.specs.declared.Phase.TheVariants.{Enumerate}
 use Rattle.record.specs.World.{with_setup_queue}
 use Rattle.model.specs.Phases.{first_setups, resets}
 use Rattle.record.proofs.Laws.{in_turn, by_true, by_false, unchanged}
-use Rattle.phases.proofs.Laws.{changed, begins_lined, queues}
+use Rattle.phases.proofs.Laws.{changed_by, begins_lined, queues}
 use Rattle.phases.proofs.reset.Goals as goal
 
 pub returns-then-waited-seen : goal.returns-then-waited-seen
@@ -17,9 +17,9 @@ returns-then-waited-seen c =
     record {
       leads = λ w.
           let v = with_setup_queue w a.setups.now in
-          by_true _ _ _ (rw (← c.wrapping_add_u64.ensures.value, ← c.word_at.ensures, ← c.any-seen.ensures) c.if-waited-seen.true)
+          by_true _ _ _ (rw (← c.word_at.ensures, ← c.any-seen.ensures) c.if-waited-seen.true)
           (in_turn
-          (changed PORTSC1 (λ x. set (clear x 0x0C000100) 0x08000005) 4 _ v _ _ _ _ _ (omega arith) (rw (← c.word_at-port.ensures) c.enabled.ensures) c.put_at.ensures c.raise-line.ensures)
+          (changed_by PORTSC1 (λ x. set (clear x 0x0C000100) 0x08000005) 4 v _ _ _ _ (omega arith) c.change-next.ensures (λ x y p. search rules))
           (in_turn (begins_lined Enumerate v _ _ _ _ c.enter-next.ensures)
           (queues first_setups w _ _ a.setups.now _ a.s.lengths.setups (ap (λ (x : State). x.lengths.setups) c.enter-next.ensures) c.first_setups.ensures)));
     }
@@ -27,4 +27,4 @@ returns-then-waited-seen c =
 pub returns : goal.returns
 unfolding resets
 returns c =
-    record { leads = λ w. by_false _ _ _ (rw (← c.wrapping_add_u64.ensures.value, ← c.word_at.ensures, ← c.any-seen.ensures) c.if-waited-seen.false) (unchanged _) }
+    record { leads = λ w. by_false _ _ _ (rw (← c.word_at.ensures, ← c.any-seen.ensures) c.if-waited-seen.false) (unchanged _) }

@@ -1,21 +1,36 @@
 -- `phases::suspend_step` meets its contract.
-use Rattle.std.proofs.Common.{not, ap}
+use Rattle.std.specs.Bool.{beq}
+use Rattle.std.proofs.Common.{◌≡◌, Bool, true, false, not, List, ℕ, refl, ap, rules, arith}
+use Rattle.bits.specs.Word.{set, clear}
+use Rattle.usbdev.specs.Offsets.{PORTSC1}
+use Rattle.record.specs.declared.State.{State}
+use Rattle.record.specs.Change.{apply}
+use Rattle.record.specs.Did.{Paged}
 use Rattle.model.specs.Phases.{suspends}
-use Rattle.record.proofs.Laws.{by_true, by_false, unchanged}
+use Rattle.record.proofs.Laws.{in_turn, once, by_true, by_false, unchanged}
+use Rattle.phases.proofs.Laws.{changed_by, stood, turned_on, turned_off}
 use Rattle.phases.proofs.suspend_step.Goals as goal
+use Rattle.phases.proofs.suspend_step.Goals.{then-asleep, else-asleep}
 
-pub returns-then-s : goal.returns-then-s
+-- the bus is suspended, or runs, already
+stays : (asleep : Bool) (s : State) (p : List ℕ) → beq asleep s.port.suspended ≡ true → Paged (suspends asleep) s p s p
 unfolding suspends
-returns-then-s c = rw c.if-asleep.true (record { leads = λ w. by_false _ _ _ (ap not c.if-s.true) (unchanged _) })
+stays true s p e = record { leads = λ w. by_false _ _ _ (ap not (stood true _ e)) (unchanged _) }
+stays false s p e = record { leads = λ w. by_false _ _ _ (stood false _ e) (unchanged _) }
 
-pub returns-then-asleep : goal.returns-then-asleep
-unfolding suspends
-returns-then-asleep c = rw c.if-asleep.true (record { leads = λ w. by_true _ _ _ (ap not c.if-s.false) (c.suspend.ensures.leads w) })
-
-pub returns-then-s-2 : goal.returns-then-s-2
-unfolding suspends
-returns-then-s-2 c = rw c.if-asleep.false (record { leads = λ w. by_true _ _ _ c.if-s-2.true (c.resume.ensures.leads w) })
+pub returns-then-asleep-s : goal.returns-then-asleep-s
+returns-then-asleep-s c = stays c.args.asleep c.args.s c.args.page.now c.if-asleep-s.true
 
 pub returns : goal.returns
-unfolding suspends
-returns c = rw c.if-asleep.false (record { leads = λ w. by_false _ _ _ c.if-s-2.false (unchanged _) })
+unfolding suspends apply
+returns c =
+    elim c.if-asleep.branch [
+      | then-asleep w₁ ↦
+          let was = rw w₁.if-asleep.true at c.if-asleep-s.false in
+          rw (w₁.page-is, w₁.s-is, w₁.if-asleep.true)
+          (record { leads = λ w. by_true _ _ _ (turned_on _ was) (in_turn (once _ _ _ refl) (changed_by PORTSC1 (λ v. set v 0x80) 0x100 w _ _ _ _ (omega arith) w₁.change-s.ensures (λ x v p. search rules))) })
+      | else-asleep w₁ ↦
+          let was = rw w₁.if-asleep.false at c.if-asleep-s.false in
+          rw (w₁.page-is, w₁.s-is, w₁.if-asleep.false)
+          (record { leads = λ w. by_true _ _ _ (turned_off _ was) (in_turn (once _ _ _ refl) (changed_by PORTSC1 (λ v. clear v 0x80) 4 w _ _ _ _ (omega arith) w₁.change-s-else-asleep.ensures (λ x v p. search rules))) })
+    ]

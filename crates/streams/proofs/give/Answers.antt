@@ -1,4 +1,5 @@
 -- `streams::give` meets its contract.
+use Rattle.std.proofs.Common.{⊎_elim}
 use mathlib.Core.Bool.{false}
 use mathlib.Core.Path.{refl, sym, ◌∙◌}
 use Rattle.bus.specs.Memory.{shown}
@@ -16,12 +17,10 @@ returns-then-held-eq0 c =
 pub returns-in-Unprimed : goal.returns-in-Unprimed
 unfolding Gives
 returns-in-Unprimed c =
-    record { none = served_unprimed (endpoint c.args.ep false) c.args.held (shown c.args.dynamic.now c.args.sram.now c.args.page.now) (sym c.find.ensures ∙ c.in-Unprimed.is); memory = refl; sized = c.requires.sized; queue = refl }
-
-pub returns-in-Ended : goal.returns-in-Ended
-unfolding Gives
-returns-in-Ended c =
-    record { none = served_ended (endpoint c.args.ep false) c.args.held (shown c.args.dynamic.now c.args.sram.now c.args.page.now) (sym c.find.ensures ∙ c.in-Ended.is); memory = refl; sized = c.requires.sized; queue = refl }
+    let e = endpoint c.args.ep false in
+    let m = shown c.args.dynamic.now c.args.sram.now c.args.page.now in
+    let none = ⊎_elim (λ is. served_unprimed e c.args.held m (sym c.find.ensures ∙ is)) (λ is. served_ended e c.args.held m (sym c.find.ensures ∙ is)) c.in-Unprimed.is in
+    record { none = none; memory = refl; sized = c.requires.sized; queue = refl }
 
 pub returns-in-Active : goal.returns-in-Active
 unfolding Gives

@@ -7,7 +7,7 @@ pub returns : goal.returns
 returns c =
     record {
       did = vendor_steps c.args.s (shown c.args.dynamic.now c.args.sram.now c.args.page.now) _ c.run_count-ran.result c.run_count-ran.ensures _ c.after_run.ensures
-          c.count.ensures;
+          (rw c.from.ensures at c.count.ensures);
       fewer = vendor_few c.args.s (shown c.args.dynamic.now c.args.sram.now c.args.page.now) _ c.run_count-ran.result c.run_count-ran.ensures _ c.after_run.ensures
-          c.count.ensures;
+          (rw c.from.ensures at c.count.ensures);
     }
