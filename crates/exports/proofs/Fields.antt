@@ -13,8 +13,7 @@ use Rattle.config.specs.Table.{table_of}
 use Rattle.config.proofs.Cases.{by_test}
 use Rattle.config.proofs.Sizes.{sizes_small}
 use Rattle.midi.specs.declared.Packer.{Packer}
-use Rattle.midi.specs.declared.Sent.{Sent}
-use Rattle.midi.specs.Packer.{is_cable, sent_of, sent_on, fresh, room_for, packet_count, AllBytes, PackerBound, PackerBytes}
+use Rattle.midi.specs.Packer.{Sent, is_cable, sent_of, sent_on, fresh, room_for, packet_count, AllBytes, PackerBound, PackerBytes}
 use Rattle.midi.proofs.Bounds.{fed_all_bytes, sent_bound}
 use Rattle.bounds.specs.Bounds.{packer_ok}
 use Rattle.bounds.proofs.Laws.{packer_bound, packer_ok_lem}
