@@ -155,6 +155,7 @@ fn of_sent(p: Packer, held: u16, done: Result<Sent, Refusal>) -> u64
 }
 
 // Number 5: a packer inside its bound, and a queue that holds whole packets.
+#[tactic(auto, unfolding(crate::specs::Send::bounded))]
 fn bounded(p: Packer, held: u16) -> bool
     ensures { result ≡ Send.bounded p held }
 {
@@ -163,6 +164,7 @@ fn bounded(p: Packer, held: u16) -> bool
 }
 
 // A send of a packer and a queue that may lie outside number 5's bounds.
+#[tactic(auto, unfolding(crate::specs::Send::midi_sent, crate::specs::Send::midi_queue, midi::specs::Packer::sent_on, midi::specs::Packer::queue_on))]
 fn send_bounded(
     p: Packer,
     cable: u8,
@@ -178,6 +180,7 @@ fn send_bounded(
 }
 
 // The packets of bytes behind the held ones of a queue: refusal (8, 5 or 7, tested in this order) * 2^56 + held * 2^40 + packer. A new packer is 0, and an answer is the next.
+#[tactic(auto, using(crate::proofs::Fields::midi_sent_held))]
 #[unsafe(no_mangle)]
 pub extern "C" fn usb_midi_send(
     packer: u64,

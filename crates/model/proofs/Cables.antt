@@ -12,7 +12,7 @@ use Rattle.bits.proofs.Tests.{false_true}
 use Rattle.bits.proofs.Lists.{sets_append}
 use Rattle.bus.specs.Steps.{replay, replay_append, exec_then}
 use Rattle.midi.specs.declared.Packer.{Packer}
-use Rattle.midi.specs.Packer.{byte_count, header, code_of, feed_of}
+use Rattle.midi.specs.Packer.{packet, byte_count, header, code_of, feed_of}
 use Rattle.midi.proofs.Bounds.{code_any}
 use Rattle.dtd.specs.Dtd.{Run, endpoint, run_dtds}
 use Rattle.record.specs.declared.Phase.{Phase}
