@@ -1,4 +1,4 @@
--- Laws of a copy that a loop makes, and of numbers of refusal.
+-- Laws of numbers of refusal, and of a record by its parts.
 use Rattle.std.specs.Prelude.{Result, Ok, Err}
 use mathlib.Core.Path.{◌≡◌, refl, sym, ap, ◌∙◌}
 use mathlib.Core.Bool.{Bool, true, false, ◌&&◌}
@@ -25,17 +25,6 @@ use Rattle.usbhost.specs.Calls.{unless, answered, bounded}
 use Rattle.usbhost.specs.Frame.{bounds_ok}
 use Rattle.usbhost.specs.Answers.{Sent}
 use Rattle.usbhost.specs.Promises.{sent}
-use lib.Seq.{sets, sets-eq}
-use borrow.Rule.Slice.PartMut.{put_mid, Post-is}
-
--- ---- copies
-
--- what is copied to a place of an area
-pub put_sets : (d s l : List ℕ) (i : ℕ) → i + length s ≤ length d → l ≡ s → put_mid i (i + length s - i) d l ≡ sets d i s
-put_sets d s l i inside is =
-    ap (λ (x : List ℕ). put_mid i (i + length s - i) d x) is
-    ∙ ap (λ (x : List ℕ). take i d ++ (s ++ x)) (Post-is i (i + length s) d (omega arith))
-    ∙ sym (append_assoc (take i d) s (drop (i + length s) d)) ∙ sym (sets-eq s d i inside)
 
 -- ---- numbers of refusal
 

@@ -1,5 +1,5 @@
 -- `usbhost::put_words` meets its contract: the part that is lent is as long as what is copied.
-use Rattle.usbhost.proofs.Laws.{put_sets}
+use Rattle.bits.proofs.Lists.{put_sets}
 use Rattle.usbhost.proofs.put_words.Goals as goal
 
 pub returns : goal.returns
