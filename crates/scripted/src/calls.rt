@@ -527,7 +527,7 @@ fn frame_take(
                 None => text::append(out, at, b"t empty\n"),
             };
             Next {
-                run: with_state(run, taken.state),
+                run: with_state(run, taken.next),
                 at: end,
             }
         }
@@ -555,7 +555,7 @@ fn drain_one(
     match usbhost::take_frame(before.state, spans, packers, setups, received) {
         Ok(taken) => match taken.frame {
             Some(words) => Drained {
-                state: taken.state,
+                state: taken.next,
                 count: std::num::wrapping_add_u64(before.count, 1),
                 hash: log::mixed_frame(before.hash, &words, 0),
                 refusal: None,

@@ -7,10 +7,9 @@ use Rattle.midi.specs.declared.Packer.{Packer}
 use Rattle.record.specs.declared.State.{State}
 use Rattle.record.specs.Sizes.{WORDS}
 use Rattle.usbhost.specs.declared.Host.{Host}
-use Rattle.usbhost.specs.declared.Taken.{Taken as HostTaken}
+use Rattle.usbhost.specs.declared.Taken.{Taken as TakenOf}
 use Rattle.usbhost.specs.declared.Framed.{Framed as HostFramed}
 use Rattle.usbhost.specs.declared.MidiSent.{MidiSent as StateSent}
-use Rattle.usbhost.specs.declared.TakenFrame.{TakenFrame as StateTaken}
 
 -- ---- by value
 
@@ -40,8 +39,8 @@ abbrev pub taken_from_ring : Option (List ℕ) → Host → Taken
 taken_from_ring (Some frame) next = record { refusal = 0; empty = false; frame = frame; host = next }
 taken_from_ring None next = record { refusal = 0; empty = true; frame = replicate WORDS 0; host = next }
 
-abbrev pub taken_by : Host → Result HostTaken Refusal → Taken
-taken_by h (Ok t) = taken_from_ring t.frame t.host
+abbrev pub taken_by : Host → Result (TakenOf Host) Refusal → Taken
+taken_by h (Ok t) = taken_from_ring t.frame t.next
 taken_by h (Err r) = record { refusal = number r; empty = false; frame = replicate WORDS 0; host = h }
 
 -- of a device read: the value, and the record
@@ -99,6 +98,6 @@ abbrev pub taken_state : Option (List ℕ) → State → TakenFrame
 taken_state (Some frame) next = record { refusal = 0; empty = false; frame = frame; state = next }
 taken_state None next = record { refusal = 0; empty = true; frame = replicate WORDS 0; state = next }
 
-abbrev pub taken_frame_by : State → Result StateTaken Refusal → TakenFrame
-taken_frame_by s (Ok t) = taken_state t.frame t.state
+abbrev pub taken_frame_by : State → Result (TakenOf State) Refusal → TakenFrame
+taken_frame_by s (Ok t) = taken_state t.frame t.next
 taken_frame_by s (Err r) = record { refusal = number r; empty = false; frame = replicate WORDS 0; state = s }

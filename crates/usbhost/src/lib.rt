@@ -44,11 +44,11 @@ pub struct Host {
     device: [u8; DEVICE],
 }
 
-// A frame taken, or none from an empty ring, and the next record.
+// A frame taken, or none from an empty ring, and what is next: the record, or its state.
 #[derive(Clone, Copy)]
-pub struct Taken {
+pub struct Taken<T> {
     pub frame: Option<[u32; Host::CHANNELS]>,
-    pub host: Host,
+    pub next: T,
 }
 
 // A microframe: how many MIDI or serial bytes stand in the receive area, the bytes that no window took, the descriptors retired, and the next
@@ -66,13 +66,6 @@ pub struct Framed {
 pub struct MidiSent {
     pub state: State,
     pub packers: [Packer; CABLES],
-}
-
-// A frame taken, or none from an empty ring, and the next state.
-#[derive(Clone, Copy)]
-pub struct TakenFrame {
-    pub frame: Option<[u32; Host::CHANNELS]>,
-    pub state: State,
 }
 
 // Stores words from a place on.
@@ -471,16 +464,16 @@ pub fn take_frame(
     packers: [Packer; CABLES],
     setups: &[u8; SETUP_BYTES],
     received: &[u32],
-) -> Result<TakenFrame, Refusal>
+) -> Result<Taken<State>, Refusal>
     ensures { TakePromise s spans packers setups.now received.now (taken_frame_by s result) }
 {
     take_passes(s, spans, packers, setups, received)?;
     let start = s.audio.received.start;
     let held = s.audio.received.len;
     if held == 0 {
-        return Ok(TakenFrame {
+        return Ok(Taken {
             frame: None,
-            state: s,
+            next: s,
         });
     }
     let frame = frame_at(received, start * Host::CHANNELS);
@@ -489,9 +482,9 @@ pub fn take_frame(
         start: (start + 1) % RING_FRAMES,
         len: held - 1,
     };
-    Ok(TakenFrame {
+    Ok(Taken {
         frame: Some(frame),
-        state: next,
+        next,
     })
 }
 
@@ -729,7 +722,7 @@ impl Host {
     }
 
     // Takes the oldest frame that came from the device.
-    pub fn frame_take(self, received: &[u32]) -> Result<Taken, Refusal>
+    pub fn frame_take(self, received: &[u32]) -> Result<Taken<Host>, Refusal>
         ensures { taken_by self result ≡ taken_frame self received.now }
     {
         let s = self.state();
@@ -737,7 +730,7 @@ impl Host {
         let taken = take_frame(s, spans, self.packers, &self.setups, received)?;
         Ok(Taken {
             frame: taken.frame,
-            host: self.with_state(taken.state),
+            next: self.with_state(taken.next),
         })
     }
 
