@@ -50,15 +50,20 @@ fn queue_space(out: &mut [u8; 65536], at: usize, held: usize) -> usize
     ensures { result ≤ at + 200 }
 {
     let mut queue = [0u8; 4096];
-    let sent = midi::send(Packer::new(), 0, b"\xF8", &mut queue, held);
+    let mut refusal = 0;
+    let mut after = held;
+    match midi::send(Packer::new(), 0, b"\xF8", &mut queue, held) {
+        Ok(sent) => after = sent.held,
+        Err(reason) => refusal = reason.number(),
+    }
     let mut end = text::append(
         out,
         at,
         b"F8 with so many held: refusal, held then, last byte but three\n",
     );
     end = show_line(out, end, held as u64);
-    end = show_line(out, end, bits::widest(sent.refusal));
-    end = show_line(out, end, sent.held as u64);
+    end = show_line(out, end, bits::widest(refusal));
+    end = show_line(out, end, after as u64);
     show_line(out, end, bits::widest(queue[4092]))
 }
 

@@ -7,7 +7,7 @@ use Rattle.bus.specs.Checked.{Peeked, Poked}
 use Rattle.usbdev.specs.Answers.{Value, Written}
 use Rattle.config.specs.Table.{Table}
 use Rattle.midi.specs.declared.Packer.{Packer}
-use Rattle.midi.specs.declared.Sent.{Sent}
+use Rattle.midi.specs.Packer.{Sent}
 
 -- a refusal's number above the 32 bits of what is answered
 abbrev pub above : ℕ → ℕ → ℕ

@@ -2,8 +2,7 @@
 use Rattle.std.specs.Prelude.{ℕ, ◌%◌, Bool, ◌&&◌, List, eqb, leb}
 use Rattle.bits.specs.Pick.{pick}
 use Rattle.midi.specs.declared.Packer.{Packer}
-use Rattle.midi.specs.declared.Sent.{Sent}
-use Rattle.midi.specs.Packer.{QUEUE, is_cable, sent_of, queue_after}
+use Rattle.midi.specs.Packer.{Sent, QUEUE, is_cable, sent_of, queue_after}
 use Rattle.bounds.specs.Bounds.{packer_ok}
 
 -- document 01, number 5, of what a send is given: a packer inside its bound, and a MIDI queue not over 4,096 and a multiple of four

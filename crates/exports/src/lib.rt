@@ -9,6 +9,7 @@ ghost use Rattle.usbdev.specs.Access as Access;
 ghost use Rattle.usbdev.specs.Registers.{registers};
 ghost use Rattle.config.specs.Config.{parsed};
 ghost use Rattle.config.specs.Table.{table_of};
+ghost use Rattle.midi.specs.Packer.{sent_by};
 ghost use Rattle.exports.specs.Answers as Answers;
 ghost use Rattle.exports.specs.Send as Send;
 
@@ -138,17 +139,23 @@ fn packer_of(n: u64) -> Packer
     }
 }
 
-// Refusal, bytes held and packer, one above the other.
-fn of_sent(s: Sent) -> u64
-    requires { s.held < 65536 }
-    ensures { result ≡ Answers.of_sent s }
+// A send's answer: refusal, bytes held and packer, one above the other. A refused one leaves the packer and the bytes held as they were.
+fn of_sent(p: Packer, held: u16, done: Result<Sent, Refusal>) -> u64
+    requires { (sent_by p held done).held < 65536 }
+    ensures { result ≡ Answers.of_sent (sent_by p held done) }
 {
-    (s.refusal as u64) * 0x100_0000_0000_0000
-        + (s.held as u64) * 0x100_0000_0000
-        + of_packer(s.packer)
+    match done {
+        Ok(sent) => (sent.held as u64) * 0x100_0000_0000 + of_packer(sent.packer),
+        Err(refusal) => {
+            u64::from(refusal.number()) * 0x100_0000_0000_0000
+                + u64::from(held) * 0x100_0000_0000
+                + of_packer(p)
+        }
+    }
 }
 
 // Number 5: a packer inside its bound, and a queue that holds whole packets.
+#[tactic(auto, unfolding(crate::specs::Send::bounded))]
 fn bounded(p: Packer, held: u16) -> bool
     ensures { result ≡ Send.bounded p held }
 {
@@ -156,7 +163,24 @@ fn bounded(p: Packer, held: u16) -> bool
     inside & ((held as usize <= midi::QUEUE) & (held % 4 == 0))
 }
 
+// A send of a packer and a queue that may lie outside number 5's bounds.
+#[tactic(auto, unfolding(crate::specs::Send::midi_sent, crate::specs::Send::midi_queue, midi::specs::Packer::sent_on, midi::specs::Packer::queue_on))]
+fn send_bounded(
+    p: Packer,
+    cable: u8,
+    bytes: &[u8],
+    queue: &mut [u8; midi::QUEUE],
+    held: u16,
+) -> Result<Sent, Refusal>
+    ensures { (sent_by p held result ≡ Send.midi_sent cable p bytes.now held) × (queue.new ≡ Send.midi_queue cable p bytes.now held queue.old) }
+{
+    refusal::unless(usize::from(cable) < midi::CABLES, Refusal::Cable)?;
+    refusal::unless(bounded(p, held), Refusal::Bounds)?;
+    midi::send(p, cable, bytes, queue, usize::from(held))
+}
+
 // The packets of bytes behind the held ones of a queue: refusal (8, 5 or 7, tested in this order) * 2^56 + held * 2^40 + packer. A new packer is 0, and an answer is the next.
+#[tactic(auto, using(crate::proofs::Fields::midi_sent_held))]
 #[unsafe(no_mangle)]
 pub extern "C" fn usb_midi_send(
     packer: u64,
@@ -168,19 +192,5 @@ pub extern "C" fn usb_midi_send(
     ensures { (result ≡ Answers.of_sent (Send.midi_sent cable (Answers.packer_of packer) bytes.now held)) × (queue.new ≡ Send.midi_queue cable (Answers.packer_of packer) bytes.now held queue.old) }
 {
     let p = packer_of(packer);
-    if 15 < cable {
-        return of_sent(Sent {
-            refusal: 8,
-            packer: p,
-            held: held as usize,
-        });
-    }
-    if !bounded(p, held) {
-        return of_sent(Sent {
-            refusal: 5,
-            packer: p,
-            held: held as usize,
-        });
-    }
-    of_sent(midi::send(p, cable, bytes, queue, held as usize))
+    of_sent(p, held, send_bounded(p, cable, bytes, queue, held))
 }

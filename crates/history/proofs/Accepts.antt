@@ -29,9 +29,7 @@ use Rattle.kept.proofs.Rings.{sending_kept}
 use Rattle.kept.proofs.Setups.{Entry}
 use Rattle.kept.proofs.Whole.{Bounded, bounds_kept, lasts, areas_fit}
 use Rattle.usbhost.specs.declared.Host.{Host}
-use Rattle.usbhost.specs.declared.Created.{Created}
-use Rattle.usbhost.specs.declared.Framed.{Framed}
-use Rattle.usbhost.specs.declared.Taken.{Taken}
+use Rattle.usbhost.specs.Answers.{Created, Framed, Taken}
 use Rattle.usbhost.specs.Host.{state_of, settled, no_settings, new_host, created}
 use Rattle.usbhost.specs.Calls as C
 use Rattle.usbhost.specs.Calls.{unless, few_spans, bounded, sending_length, midi_number, midi_queued, midi_sent, serial_number, serial_queued, serial_sent, give_number, frame_given, given, take_number, holds_frame, frame_taken, taken_frame, access_number, registers_of, with_flag, device_written}

@@ -19,12 +19,8 @@ use denote.Triple.Spec.{Meets}
 use borrow.Fn.Kinds.{Dens, res_t, ended_of}
 use Rattle.bus.specs.Memory.{memory}
 use Rattle.usbhost.specs.declared.Host.{Host}
-use Rattle.usbhost.specs.declared.Created.{Created}
-use Rattle.usbhost.specs.declared.Framed.{Framed}
-use Rattle.usbhost.specs.declared.Sent.{Sent}
-use Rattle.usbhost.specs.declared.Taken.{Taken}
-use Rattle.usbhost.specs.declared.Read.{Read}
-use Rattle.usbhost.specs.Host.{created}
+use Rattle.usbhost.specs.Answers.{Created, Framed, Sent, Taken, Read, sent_by, taken_by, read_by, framed_by}
+use Rattle.usbhost.specs.Host.{created, created_by}
 use Rattle.usbhost.specs.Calls as C
 use Rattle.usbhost.specs.Calls.{midi_sent, serial_sent, given, taken_frame, device_written}
 use Rattle.usbhost.specs.Frame.{framed, frame_answer}
@@ -80,7 +76,7 @@ pub record Follows (h : Host) (c : Call) (number : ℕ) (next : Host) : Type 0 w
 -- a new host is the one that `created` gives
 
 pub new_follows : (κs : Lfts 0) (a : Dens κs New.ps) (r : (res_t New.r κs).Denot) (s : AtExit (ended_of 0 New.ps New.r) κs)
-    → New·contract.Post κs a r s → r.host ≡ (created a.0).host
+    → New·contract.Post κs a r s → (created_by r).host ≡ (created a.0).host
 new_follows κs a r s p = ap (λ (x : Created). x.host) p
 
 pub new_met : {M : Type 1} → New·code.statement M
@@ -95,7 +91,7 @@ microframe_lent κs a =
 
 pub microframe_follows : (κs : Lfts 9) (a : Dens κs Microframe.ps) (r : (res_t Microframe.r κs).Denot) (s : AtExit (ended_of 9 Microframe.ps Microframe.r) κs)
     → Microframe·contract.Post κs a r s
-    → Follows a.0 (microframe a.1.0 (microframe_lent κs a)) r.refusal r.host
+    → Follows a.0 (microframe a.1.0 (microframe_lent κs a)) (framed_by a.0 r).refusal (framed_by a.0 r).host
 unfolding step number_of frame_answer
 microframe_follows κs a r s p =
     record { answers = ap (λ (x : Framed). x.refusal) p.0; leaves = ap (λ (x : Framed). x.host) p.0 }
@@ -138,7 +134,7 @@ thin_ensures 𝓛 mem run κs a r s = refl
 
 pub thin_follows : (κs : Lfts 10) (a : Args Thin·spec.signature κs) (r : Res Thin·spec.signature κs) (s : AtExit Thin·spec.ended κs)
     → ThinPost κs a r s
-    → Follows a.0.now (microframe a.1.0 (thin_lent κs a)) r.refusal s.0.now
+    → Follows a.0.now (microframe a.1.0 (thin_lent κs a)) (answered r s.0.now).refusal s.0.now
 unfolding step number_of frame_answer
 thin_follows κs a r s p =
     record { answers = ap (λ (x : Framed). x.refusal) p.0; leaves = ap (λ (x : Framed). x.host) p.0 }
@@ -167,7 +163,7 @@ module _ {M : Type 1} {𝓤 : Ura M} (𝓛 : Logic 𝓤) where
 
 pub midi_send_follows : (κs : Lfts 1) (a : Dens κs MidiSend.ps) (r : (res_t MidiSend.r κs).Denot) (s : AtExit (ended_of 1 MidiSend.ps MidiSend.r) κs)
     → MidiSend·contract.Post κs a r s
-    → Follows a.0 (midi_send a.1.0 a.1.1.0.now) r.refusal r.host
+    → Follows a.0 (midi_send a.1.0 a.1.1.0.now) (sent_by a.0 r).refusal (sent_by a.0 r).host
 unfolding step number_of midi_sent
 midi_send_follows κs a r s p =
     record { answers = ap (λ (x : Sent). x.refusal) (p); leaves = ap (λ (x : Sent). x.host) (p) }
@@ -179,7 +175,7 @@ midi_send_met = MidiSend·proof.met
 
 pub serial_send_follows : (κs : Lfts 1) (a : Dens κs SerialSend.ps) (r : (res_t SerialSend.r κs).Denot) (s : AtExit (ended_of 1 SerialSend.ps SerialSend.r) κs)
     → SerialSend·contract.Post κs a r s
-    → Follows a.0 (serial_send a.1.0.now) r.refusal r.host
+    → Follows a.0 (serial_send a.1.0.now) (sent_by a.0 r).refusal (sent_by a.0 r).host
 unfolding step number_of serial_sent
 serial_send_follows κs a r s p =
     record { answers = ap (λ (x : Sent). x.refusal) (p); leaves = ap (λ (x : Sent). x.host) (p) }
@@ -191,7 +187,7 @@ serial_send_met = SerialSend·proof.met
 
 pub frame_give_follows : (κs : Lfts 2) (a : Dens κs FrameGive.ps) (r : (res_t FrameGive.r κs).Denot) (s : AtExit (ended_of 2 FrameGive.ps FrameGive.r) κs)
     → FrameGive·contract.Post κs a r s
-    → Follows a.0 (frame_give a.1.0.now a.1.1.0.now) r.refusal r.host
+    → Follows a.0 (frame_give a.1.0.now a.1.1.0.now) (sent_by a.0 r).refusal (sent_by a.0 r).host
 unfolding step number_of given
 frame_give_follows κs a r s p =
     record { answers = ap (λ (x : Sent). x.refusal) p.0; leaves = ap (λ (x : Sent). x.host) p.0 }
@@ -203,7 +199,7 @@ frame_give_met = FrameGive·proof.met
 
 pub frame_take_follows : (κs : Lfts 1) (a : Dens κs FrameTake.ps) (r : (res_t FrameTake.r κs).Denot) (s : AtExit (ended_of 1 FrameTake.ps FrameTake.r) κs)
     → FrameTake·contract.Post κs a r s
-    → Follows a.0 (frame_take a.1.0.now) r.refusal r.host
+    → Follows a.0 (frame_take a.1.0.now) (taken_by a.0 r).refusal (taken_by a.0 r).host
 unfolding step number_of taken_frame
 frame_take_follows κs a r s p =
     record { answers = ap (λ (x : Taken). x.refusal) (p); leaves = ap (λ (x : Taken). x.host) (p) }
@@ -215,7 +211,7 @@ frame_take_met = FrameTake·proof.met
 
 pub device_read_follows : (κs : Lfts 1) (a : Dens κs DeviceRead.ps) (r : (res_t DeviceRead.r κs).Denot) (s : AtExit (ended_of 1 DeviceRead.ps DeviceRead.r) κs)
     → DeviceRead·contract.Post κs a r s
-    → Follows a.0 (device_read a.1.0.now a.1.1.0 a.1.1.1.0) r.refusal r.host
+    → Follows a.0 (device_read a.1.0.now a.1.1.0 a.1.1.1.0) (read_by a.0 r).refusal (read_by a.0 r).host
 unfolding step number_of C.device_read
 device_read_follows κs a r s p =
     record { answers = ap (λ (x : Read). x.refusal) (p); leaves = ap (λ (x : Read). x.host) (p) }
@@ -227,7 +223,7 @@ device_read_met = DeviceRead·proof.met
 
 pub device_write_follows : (κs : Lfts 1) (a : Dens κs DeviceWrite.ps) (r : (res_t DeviceWrite.r κs).Denot) (s : AtExit (ended_of 1 DeviceWrite.ps DeviceWrite.r) κs)
     → DeviceWrite·contract.Post κs a r s
-    → Follows a.0 (device_write a.1.0.now a.1.1.0 a.1.1.1.0 a.1.1.1.1.0) r.refusal r.host
+    → Follows a.0 (device_write a.1.0.now a.1.1.0 a.1.1.1.0 a.1.1.1.1.0) (sent_by a.0 r).refusal (sent_by a.0 r).host
 unfolding step number_of device_written
 device_write_follows κs a r s p =
     record { answers = ap (λ (x : Sent). x.refusal) p.0; leaves = ap (λ (x : Sent). x.host) p.0 }

@@ -18,7 +18,7 @@ use Rattle.model.specs.Earned.{Counts, counts_of, sent_one, zeroed, blocks_read,
 use Rattle.model.proofs.History.{counts_microframe}
 use Rattle.kept.proofs.Credit.{SMALL, added, heard_plain}
 use Rattle.usbhost.specs.declared.Host.{Host}
-use Rattle.usbhost.specs.declared.Created.{Created}
+use Rattle.usbhost.specs.Answers.{Created}
 use Rattle.usbhost.specs.Host.{new_host, settled, no_settings, created}
 use Rattle.usbhost.specs.Calls as C
 use Rattle.usbhost.specs.Calls.{midi_number, midi_queued, midi_sent, serial_number, serial_queued, serial_sent, give_number, frame_given, given, holds_frame, frame_taken, taken_frame, access_number, with_flag, device_written}

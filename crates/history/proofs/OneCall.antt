@@ -28,7 +28,7 @@ use Rattle.model.proofs.OneBlock as O
 use Rattle.model.proofs.OneBlock.{out_microframe, microframe_retired, placed_output, one_block_lem}
 use Rattle.model.proofs.InputStep.{InputStep, placed_input, input_step, NoInput, no_input}
 use Rattle.usbhost.specs.declared.Host.{Host}
-use Rattle.usbhost.specs.declared.Framed.{Framed}
+use Rattle.usbhost.specs.Answers.{Framed}
 use Rattle.usbhost.specs.Host.{state_of}
 use Rattle.usbhost.specs.Calls.{bounded}
 use Rattle.usbhost.specs.Frame.{world_of, host_in, lengths_ok, bounds_ok, frame_number, framed, frame_answer}

@@ -19,16 +19,15 @@ use Rattle.bus.specs.Memory.{memory}
 use Rattle.midi.specs.declared.Packer.{Packer}
 use Rattle.record.specs.declared.Settings.{Settings}
 use Rattle.record.specs.declared.State.{State}
+use Rattle.usbdev.specs.Answers.{value_of}
 use Rattle.usbhost.specs.declared.Host.{Host}
-use Rattle.usbhost.specs.declared.Sent.{Sent}
-use Rattle.usbhost.specs.declared.Taken.{Taken}
-use Rattle.usbhost.specs.declared.Read.{Read}
+use Rattle.usbhost.specs.Answers.{Sent, Taken, Read, midi_sent_by, stored_by, taken_frame_by}
 use Rattle.usbhost.specs.Host.{host_of}
 use Rattle.usbhost.specs.Calls as C
 use Rattle.usbhost.specs.Calls.{midi_sent, serial_sent, given, taken_frame, device_written}
 use Rattle.usbhost.specs.Frame.{host_in}
 use Rattle.record.specs.World.{Own, Lent, own, lent, own_setups, own_midi, own_serial}
-use Rattle.usbhost.specs.Promises.{with_spans}
+use Rattle.usbhost.specs.Promises.{with_spans, unanswered}
 use Rattle.usbhost.proofs.run_microframe.Kinds as RunMicroframe
 use Rattle.usbhost.proofs.run_microframe.Reads as RunMicroframe·contract
 use Rattle.usbhost.proofs.run_microframe.Statement as RunMicroframe·code
@@ -72,7 +71,7 @@ parts_lent κs a =
 
 pub run_microframe_follows : (κs : Lfts 13) (a : Dens κs RunMicroframe.ps) (r : (res_t RunMicroframe.r κs).Denot) (s : AtExit (ended_of 13 RunMicroframe.ps RunMicroframe.r) κs)
     → RunMicroframe·contract.Post κs a r s
-    → Follows (host_of a.0 a.1.0 a.1.1.0 (own a.1.1.1.0.now a.1.1.1.1.0.now a.1.1.1.1.1.0.now a.1.1.1.1.1.1.0.now)) (microframe a.1.1.1.1.1.1.1.1.1.1.1.1.1.1.1.1.0 (parts_lent κs a)) r.refusal (host_of r.state a.1.0 a.1.1.0 (own s.1.1.1.0.now s.1.1.1.1.0.now s.1.1.1.1.1.0.now s.1.1.1.1.1.1.0.now))
+    → Follows (host_of a.0 a.1.0 a.1.1.0 (own a.1.1.1.0.now a.1.1.1.1.0.now a.1.1.1.1.1.0.now a.1.1.1.1.1.1.0.now)) (microframe a.1.1.1.1.1.1.1.1.1.1.1.1.1.1.1.1.0 (parts_lent κs a)) (stored_by (unanswered a.0) r).refusal (host_of (stored_by (unanswered a.0) r).state a.1.0 a.1.1.0 (own s.1.1.1.0.now s.1.1.1.1.0.now s.1.1.1.1.1.0.now s.1.1.1.1.1.1.0.now))
 unfolding step number_of
 run_microframe_follows κs a r s p = record { answers = p.number; leaves = ap host_in p.outcome }
 
@@ -111,7 +110,7 @@ sends h call number next x n l e =
 
 pub send_midi_follows : (κs : Lfts 3) (a : Dens κs SendMidi.ps) (r : (res_t SendMidi.r κs).Denot) (s : AtExit (ended_of 3 SendMidi.ps SendMidi.r) κs) (c : Settings) (o : Own)
     → SendMidi·contract.Post κs a r s
-    → Follows (whole c a.1.0 a.0 a.1.1.0 (own_midi (own_setups o a.1.1.1.1.1.0.now) a.1.1.1.1.1.1.0.now)) (midi_send a.1.1.1.0 a.1.1.1.1.0.now) r.refusal (whole c a.1.0 r.state r.packers (own_midi (own_setups o a.1.1.1.1.1.0.now) s.1.1.1.1.1.1.0.now))
+    → Follows (whole c a.1.0 a.0 a.1.1.0 (own_midi (own_setups o a.1.1.1.1.1.0.now) a.1.1.1.1.1.1.0.now)) (midi_send a.1.1.1.0 a.1.1.1.1.0.now) (midi_sent_by a.0 a.1.1.0 r).refusal (whole c a.1.0 (midi_sent_by a.0 a.1.1.0 r).state (midi_sent_by a.0 a.1.1.0 r).packers (own_midi (own_setups o a.1.1.1.1.1.0.now) s.1.1.1.1.1.1.0.now))
 unfolding step number_of midi_sent
 send_midi_follows κs a r s c o q =
     sends _ (midi_send a.1.1.1.0 a.1.1.1.1.0.now) _ _ _ refl refl (q.done c o)
@@ -123,7 +122,7 @@ send_midi_met = SendMidi·proof.met
 
 pub send_serial_follows : (κs : Lfts 3) (a : Dens κs SendSerial.ps) (r : (res_t SendSerial.r κs).Denot) (s : AtExit (ended_of 3 SendSerial.ps SendSerial.r) κs) (c : Settings) (o : Own)
     → SendSerial·contract.Post κs a r s
-    → Follows (whole c a.1.0 a.0 a.1.1.0 (own_serial (own_setups o a.1.1.1.1.0.now) a.1.1.1.1.1.0.now)) (serial_send a.1.1.1.0.now) r.refusal (whole c a.1.0 r.state a.1.1.0 (own_serial (own_setups o a.1.1.1.1.0.now) s.1.1.1.1.1.0.now))
+    → Follows (whole c a.1.0 a.0 a.1.1.0 (own_serial (own_setups o a.1.1.1.1.0.now) a.1.1.1.1.1.0.now)) (serial_send a.1.1.1.0.now) (stored_by a.0 r).refusal (whole c a.1.0 (stored_by a.0 r).state a.1.1.0 (own_serial (own_setups o a.1.1.1.1.0.now) s.1.1.1.1.1.0.now))
 unfolding step number_of serial_sent
 send_serial_follows κs a r s c o q =
     sends _ (serial_send a.1.1.1.0.now) _ _ _ refl refl (q.done c o)
@@ -135,7 +134,7 @@ send_serial_met = SendSerial·proof.met
 
 pub give_frame_follows : (κs : Lfts 3) (a : Dens κs GiveFrame.ps) (r : (res_t GiveFrame.r κs).Denot) (s : AtExit (ended_of 3 GiveFrame.ps GiveFrame.r) κs) (c : Settings) (o : Own)
     → GiveFrame·contract.Post κs a r s
-    → Follows (whole c a.1.0 a.0 a.1.1.0 (own_setups o a.1.1.1.1.0.now)) (frame_give a.1.1.1.0.now a.1.1.1.1.1.0.now) r.refusal (whole c a.1.0 r.state a.1.1.0 (own_setups o a.1.1.1.1.0.now))
+    → Follows (whole c a.1.0 a.0 a.1.1.0 (own_setups o a.1.1.1.1.0.now)) (frame_give a.1.1.1.0.now a.1.1.1.1.1.0.now) (stored_by a.0 r).refusal (whole c a.1.0 (stored_by a.0 r).state a.1.1.0 (own_setups o a.1.1.1.1.0.now))
 unfolding step number_of given
 give_frame_follows κs a r s c o q =
     sends _ (frame_give a.1.1.1.0.now a.1.1.1.1.1.0.now) _ _ _ refl refl (q.done c o)
@@ -147,7 +146,7 @@ give_frame_met = GiveFrame·proof.met
 
 pub take_frame_follows : (κs : Lfts 2) (a : Dens κs TakeFrame.ps) (r : (res_t TakeFrame.r κs).Denot) (s : AtExit (ended_of 2 TakeFrame.ps TakeFrame.r) κs) (c : Settings) (o : Own)
     → TakeFrame·contract.Post κs a r s
-    → Follows (whole c a.1.0 a.0 a.1.1.0 (own_setups o a.1.1.1.0.now)) (frame_take a.1.1.1.1.0.now) r.refusal (whole c a.1.0 r.state a.1.1.0 (own_setups o a.1.1.1.0.now))
+    → Follows (whole c a.1.0 a.0 a.1.1.0 (own_setups o a.1.1.1.0.now)) (frame_take a.1.1.1.1.0.now) (taken_frame_by a.0 r).refusal (whole c a.1.0 (taken_frame_by a.0 r).state a.1.1.0 (own_setups o a.1.1.1.0.now))
 unfolding step number_of taken_frame
 take_frame_follows κs a r s c o q =
     record { answers = ap (λ (x : Taken). x.refusal) (q.done c o); leaves = ap (λ (x : Taken). x.host) (q.done c o) }
@@ -159,7 +158,7 @@ take_frame_met = TakeFrame·proof.met
 
 pub read_device_follows : (κs : Lfts 2) (a : Dens κs ReadDevice.ps) (r : (res_t ReadDevice.r κs).Denot) (s : AtExit (ended_of 2 ReadDevice.ps ReadDevice.r) κs) (c : Settings) (o : Own)
     → ReadDevice·contract.Post κs a r s
-    → Follows (whole c a.1.0 a.0 a.1.1.0 (own_setups o a.1.1.1.0.now)) (device_read a.1.1.1.1.0.now a.1.1.1.1.1.0 a.1.1.1.1.1.1.0) r.refusal (whole c a.1.0 a.0 a.1.1.0 (own_setups o a.1.1.1.0.now))
+    → Follows (whole c a.1.0 a.0 a.1.1.0 (own_setups o a.1.1.1.0.now)) (device_read a.1.1.1.1.0.now a.1.1.1.1.1.0 a.1.1.1.1.1.1.0) (value_of r).refusal (whole c a.1.0 a.0 a.1.1.0 (own_setups o a.1.1.1.0.now))
 unfolding step number_of C.device_read
 read_device_follows κs a r s c o q =
     record { answers = ap (λ (x : Read). x.refusal) (q.done c o); leaves = ap (λ (x : Read). x.host) (q.done c o) }
@@ -171,7 +170,7 @@ read_device_met = ReadDevice·proof.met
 
 pub write_device_follows : (κs : Lfts 2) (a : Dens κs WriteDevice.ps) (r : (res_t WriteDevice.r κs).Denot) (s : AtExit (ended_of 2 WriteDevice.ps WriteDevice.r) κs) (c : Settings) (o : Own)
     → WriteDevice·contract.Post κs a r s
-    → Follows (whole c a.1.0 a.0 a.1.1.0 (own_setups o a.1.1.1.0.now)) (device_write a.1.1.1.1.0.now a.1.1.1.1.1.0 a.1.1.1.1.1.1.0 a.1.1.1.1.1.1.1.0) r.refusal (whole c a.1.0 r.state a.1.1.0 (own_setups o a.1.1.1.0.now))
+    → Follows (whole c a.1.0 a.0 a.1.1.0 (own_setups o a.1.1.1.0.now)) (device_write a.1.1.1.1.0.now a.1.1.1.1.1.0 a.1.1.1.1.1.1.0 a.1.1.1.1.1.1.1.0) (stored_by a.0 r).refusal (whole c a.1.0 (stored_by a.0 r).state a.1.1.0 (own_setups o a.1.1.1.0.now))
 unfolding step number_of device_written
 write_device_follows κs a r s c o q =
     sends _ (device_write a.1.1.1.1.0.now a.1.1.1.1.1.0 a.1.1.1.1.1.1.0 a.1.1.1.1.1.1.1.0) _ _ _ refl refl (q.done c o)

@@ -11,7 +11,7 @@ use Rattle.record.specs.declared.Settings.{Settings}
 use Rattle.record.specs.Record.{counter_at, counter_of, out_frames}
 use Rattle.model.specs.Marks.{audio_mark, audio_out_retired}
 use Rattle.usbhost.specs.declared.Host.{Host}
-use Rattle.usbhost.specs.declared.Created.{Created}
+use Rattle.usbhost.specs.Answers.{Created}
 use Rattle.usbhost.specs.Host.{new_host, settled, no_settings, created}
 use Rattle.usbhost.specs.Calls as C
 use Rattle.usbhost.specs.Calls.{midi_number, midi_queued, midi_sent, serial_number, serial_queued, serial_sent, give_number, frame_given, given, holds_frame, frame_taken, taken_frame, access_number, with_flag, device_written}

@@ -32,7 +32,7 @@ use Rattle.bounds.specs.Bounds.{asked_ok, held_ok, counted_ok, audio_ok, areas_o
 use Rattle.bounds.proofs.Laws.{in_ring}
 use Rattle.kept.proofs.Audio.{audio_output}
 use Rattle.usbhost.specs.declared.Host.{Host}
-use Rattle.usbhost.specs.declared.Created.{Created}
+use Rattle.usbhost.specs.Answers.{Created}
 use Rattle.usbhost.specs.Host.{state_of, new_host, settled, no_settings, created}
 use Rattle.usbhost.specs.Calls as C
 use Rattle.usbhost.specs.Calls.{unless, few_spans, bounded, midi_number, midi_queued, midi_sent, serial_number, serial_queued, serial_sent, sending_length, give_number, frame_put, frame_given, given, given_ring, take_number, frame_taken, oldest, holds_frame, taken_frame, access_number, registers_of, with_flag, device_written}

@@ -183,21 +183,19 @@ fn send_first(
     requires { (at ≤ 40000) × (((state.queued ≤ 4096) × (state.length ≤ 65536)) × (count ≤ length bytes.now)) }
     ensures { ((result.state.queued ≤ 4096) × (result.state.length ≤ 65536)) × (result.at ≤ 65536) }
 {
-    let timers = state.timers;
-    let sent = midi::send(state.packer, 0, &bytes[..count], queue, state.queued);
-    let end = text::outcome(out, at, sent.refusal);
-    let packer = sent.packer;
-    let next = State {
-        run: state.run,
-        length: state.length,
-        line: state.line,
-        timers,
-        packer,
-        queued: sent.held,
-    };
-    Next {
-        state: next,
-        at: end,
+    match midi::send(state.packer, 0, &bytes[..count], queue, state.queued) {
+        Ok(sent) => Next {
+            state: State {
+                packer: sent.packer,
+                queued: sent.held,
+                ..state
+            },
+            at: text::outcome(out, at, 0),
+        },
+        Err(refusal) => Next {
+            state,
+            at: text::outcome(out, at, refusal.number()),
+        },
     }
 }
 

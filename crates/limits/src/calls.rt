@@ -2,13 +2,22 @@
 ghost use Rattle.std.specs.Prelude.{◌≤◌};
 
 use crate::case;
-use crate::same::{MARK, changed, changed_words, same_packers, same_state};
+use crate::same::{MARK, changed, changed_words};
+use refusal::Refusal;
 
 // What a call answered: its number, and whether it left what it must.
 #[derive(Clone, Copy)]
 pub struct Seen {
     pub number: u8,
     pub right: bool,
+}
+
+// 0, or the number of a refusal.
+pub fn number<T>(done: &Result<T, Refusal>) -> u8 {
+    match done {
+        Ok(_) => 0,
+        Err(refusal) => refusal.number(),
+    }
 }
 
 // A call of which only a refusal is judged.
@@ -94,9 +103,7 @@ pub fn midi_sent(v: [u64; case::FIELDS]) -> Seen {
     let n = least(v[case::MIDI_BYTES], 1);
     let part = &bytes[..n];
     let sent = usbhost::send_midi(state, spans, packers, cable, part, &setups, &mut queue);
-    let left = sent.packers;
-    let kept = same_state(sent.state, state) & same_packers(left, packers);
-    added(sent.refusal, kept, queued(&queue), packet_bytes(byte, n))
+    added(number(&sent), true, queued(&queue), packet_bytes(byte, n))
 }
 
 // The first of these bytes sent.
@@ -109,8 +116,7 @@ pub fn serial_sent(v: [u64; case::FIELDS], bytes: &[u8]) -> Seen {
     let spans = v[case::SPANS] as usize;
     let part = &bytes[..n];
     let sent = usbhost::send_serial(state, spans, packers, part, &setups, &mut queue);
-    let kept = same_state(sent.state, state);
-    added(sent.refusal, kept, queued(&queue), n)
+    added(number(&sent), true, queued(&queue), n)
 }
 
 // The first of these words given to the first of a ring of marks.
@@ -124,8 +130,7 @@ pub fn given(v: [u64; case::FIELDS], frame: &[u32], ring: &mut [u32]) -> Seen {
     let part = &frame[..n];
     let sending = &mut ring[..words];
     let done = usbhost::give_frame(state, spans, packers, part, &setups, sending);
-    let kept = same_state(done.state, state);
-    added(done.refusal, kept, changed_words(&*ring), 12)
+    added(number(&done), true, changed_words(&*ring), 12)
 }
 
 // A frame taken from the first of a ring.
@@ -136,9 +141,7 @@ pub fn taken(v: [u64; case::FIELDS], ring: &[u32]) -> Seen {
     let setups = addresses();
     let spans = v[case::SPANS] as usize;
     let done = usbhost::take_frame(state, spans, packers, &setups, &ring[..words]);
-    let frame = done.frame;
-    let kept = same_state(done.state, state) & !done.empty & (frame[0] == 0);
-    judged(done.refusal, kept)
+    judged(number(&done), true)
 }
 
 pub fn device_read(v: [u64; case::FIELDS], page: &[u8]) -> Seen {
@@ -151,7 +154,7 @@ pub fn device_read(v: [u64; case::FIELDS], page: &[u8]) -> Seen {
     let size = low(v[case::SIZE]);
     let part = &page[..n];
     let done = usbhost::read_device(state, spans, packers, &setups, part, off, size);
-    judged(done.refusal, done.value == 0)
+    judged(number(&done), true)
 }
 
 // On the first of a page of marks.
@@ -165,6 +168,5 @@ pub fn device_written(v: [u64; case::FIELDS], page: &mut [u8]) -> Seen {
     let size = low(v[case::SIZE]);
     let part = &mut page[..n];
     let done = usbhost::write_device(state, spans, packers, &setups, part, off, size, 0x0102_0304);
-    let kept = same_state(done.state, state);
-    added(done.refusal, kept, changed(&*page), size as usize)
+    added(number(&done), true, changed(&*page), size as usize)
 }

@@ -1,7 +1,7 @@
 // A microframe on real areas of the lengths of a case.
-use crate::calls::{Seen, addresses, are_addresses, judged, least};
+use crate::calls::{Seen, addresses, are_addresses, judged, least, number};
 use crate::case;
-use crate::same::{MARK, changed, changed_words, marks, same_state, word_marks};
+use crate::same::{MARK, changed, changed_words, marks, word_marks};
 
 fn same_arrays(
     setups: &[u8; record::SETUP_BYTES],
@@ -58,7 +58,7 @@ fn run(
         0,
     );
     let arrays = same_arrays(&setups, &midi, &serial, &device);
-    judged(done.refusal, arrays & same_state(done.state, state))
+    judged(number(&done), arrays)
 }
 
 // On the first of each area, as much as the case says.

@@ -1,5 +1,5 @@
 // A row written: its fields, and what each call answered. Every function answers false where a write failed, and writes nothing more.
-use crate::calls::Seen;
+use crate::calls::{Seen, number};
 use crate::case::Row;
 use crate::same::{MARK, word_marks};
 use crate::{calls, case, frame};
@@ -125,5 +125,5 @@ pub fn created(rt: HostRuntime, spans: usize) -> bool {
     let shown = print(rt, b"new with gone spans ")
         && print_number(rt, spans as u64)
         && print(rt, b": ");
-    shown && print_number(rt, bits::widest(made.refusal)) && print(rt, b"\n")
+    shown && print_number(rt, bits::widest(number(&made))) && print(rt, b"\n")
 }

@@ -10,11 +10,9 @@ use lib.Dec.{eqb, leb}
 use borrow.Author.Tests.{leb-false, eqb-false, leb-true}
 use Rattle.bits.specs.Pick.{pick, pick_both}
 use Rattle.midi.specs.declared.Packer.{Packer}
-use Rattle.midi.specs.declared.Event.{Event}
-use Rattle.midi.specs.declared.Event.TheVariants.{Quiet, Packet}
+use Rattle.std.specs.Prelude.{Some, None}
 use Rattle.midi.specs.declared.Fed.{Fed}
-use Rattle.midi.specs.declared.Sent.{Sent}
-use Rattle.midi.specs.Packer.{packet_count, sent_of, within, message_length, message_code, running_of, held_bytes, holding, packet, sysex_of, message_of, so_far, fed_data, fed_status, feed_of, fed_all, made, events_of, code_of, header, packet_bytes, packets_of, fresh, PackerBound, AllBytes, PackerBytes}
+use Rattle.midi.specs.Packer.{Event, Sent, packet_count, sent_of, within, message_length, message_code, running_of, held_bytes, holding, packet, sysex_of, message_of, so_far, fed_data, fed_status, feed_of, fed_all, made, events_of, code_of, header, packet_bytes, packets_of, fresh, PackerBound, AllBytes, PackerBytes}
 use Rattle.midi.proofs.Laws.{flat_map_append}
 
 -- a choice by its test
@@ -45,7 +43,7 @@ message_code_lem : (p : Packer) (bs : List ℕ) → code_of (message_of p bs).ev
 message_code_lem p bs =
     pick_both (λ (f : Fed). code_of f.event < 16) (leb (message_length p.status) (length bs)) (code_below_16 p.status) (omega arith)
 
-data_code : (p : Packer) (b : ℕ) → code_of (fed_data p b).event < 16
+pub data_code : (p : Packer) (b : ℕ) → code_of (fed_data p b).event < 16
 data_code p b =
     pick_both (λ (f : Fed). code_of f.event < 16) (eqb p.status 0) (omega arith) (message_code_lem p (so_far p b))
 
@@ -64,10 +62,6 @@ code_any p b =
 
 pub code_below : (p : Packer) (b : ℕ) → p.status < 256 → code_of (feed_of p b).event < 16
 code_below p b h = code_any p b
-
--- what `feed` ensures, from its first clause
-pub fed_coded : (p : Packer) (b : ℕ) (r : Fed) → p.status < 256 → r ≡ feed_of p b → (r ≡ feed_of p b) × (code_of r.event < 16)
-fed_coded p b r h e = (e, rw e (code_below p b h))
 
 -- ---- number 5's bound of a packer
 
@@ -252,8 +246,8 @@ feed_bytes p b h hb =
 
 made_bytes : (cable : ℕ) (e : Event) → AllBytes (packet_bytes cable e) → AllBytes (flat_map (packet_bytes cable) (made e))
 unfolding flat_map
-made_bytes cable Quiet h = none_bytes
-made_bytes cable (Packet code x y z) h = h
+made_bytes cable None h = none_bytes
+made_bytes cable (Some e) h = h
 
 -- a packer fed bytes is made of bytes
 pub fed_all_bytes : (p : Packer) (bs : List ℕ) → PackerBytes p → AllBytes bs → PackerBytes (fed_all p bs)

@@ -12,10 +12,9 @@ use borrow.Author.Tests.{le-leb, lt-leb}
 use Rattle.bits.proofs.Lists.{sets_append}
 use Rattle.bits.specs.Pick.{pick_both}
 use Rattle.midi.specs.declared.Packer.{Packer}
-use Rattle.midi.specs.declared.Event.{Event}
-use Rattle.midi.specs.declared.Event.TheVariants.{Quiet, Packet}
+use Rattle.std.specs.Prelude.{Some, None}
 use Rattle.midi.specs.declared.Fed.{Fed}
-use Rattle.midi.specs.Packer.{feed_of, fed_all, made, events_of, packet_count, packet_bytes, written, packets_of, sent_of, queue_after}
+use Rattle.midi.specs.Packer.{Event, feed_of, fed_all, made, events_of, packet_count, packet_bytes, written, packets_of, sent_of, queue_after}
 
 -- ---- the bytes of a list of packets
 
@@ -84,8 +83,8 @@ packet_count_append p xs ys = ap length (events_of_append p xs ys) ∙ simp leng
 
 made_size : (cable : ℕ) (e : Event) → length (flat_map (packet_bytes cable) (made e)) ≡ 4 * length (made e)
 unfolding flat_map
-made_size cable Quiet = refl
-made_size cable (Packet code x y z) = refl
+made_size cable None = refl
+made_size cable (Some e) = refl
 
 -- a packet is four bytes
 pub packets_size : (cable : ℕ) (p : Packer) (bs : List ℕ) → length (packets_of cable p bs) ≡ 4 * packet_count p bs
@@ -99,8 +98,8 @@ packets_size cable p (b ∷ bs) =
     omega (arith, cut, made_size cable e, packets_size cable (feed_of p b).next bs, length-append (made e) rest)
 
 made_few : (e : Event) → length (made e) ≤ 1
-made_few Quiet = omega arith
-made_few (Packet code x y z) = omega arith
+made_few None = omega arith
+made_few (Some e) = omega arith
 
 -- a byte makes at most one packet
 pub count_le : (p : Packer) (bs : List ℕ) → packet_count p bs ≤ length bs

@@ -9,10 +9,8 @@ use lib.Seq.{length-take-le, take_at, drop_at, drop-append-add, drop-append-le, 
 use borrow.Author.Tests.{leb-true}
 use Rattle.bits.specs.Pick.{pick}
 use Rattle.midi.specs.declared.Packer.{Packer}
-use Rattle.midi.specs.declared.Event.{Event}
-use Rattle.midi.specs.declared.Event.TheVariants.{Quiet, Packet}
-use Rattle.midi.specs.declared.Sent.{Sent}
-use Rattle.midi.specs.Packer.{feed_of, made, events_of, packet_count, packet_bytes, packets_of, is_cable, room_for, sent_of, sent_on, queue_after, queue_on, Sends}
+use Rattle.std.specs.Prelude.{Some, None}
+use Rattle.midi.specs.Packer.{Event, Sent, feed_of, made, events_of, packet_count, packet_bytes, packets_of, is_cable, room_for, sent_of, sent_on, queue_after, queue_on, Sends}
 use Rattle.midi.specs.Claims.{Written}
 use Rattle.midi.proofs.Laws.{packets_size, sent_fits, queue_fits}
 
@@ -20,13 +18,13 @@ use Rattle.midi.proofs.Laws.{packets_size, sent_fits, queue_fits}
 
 -- packet i of es is the four bytes from 4 * i on
 abbrev At : ℕ → List Event → ℕ → Type 0
-At cable es i = take 4 (drop (4 * i) (flat_map (packet_bytes cable) es)) ≡ packet_bytes cable (get_or es i Quiet)
+At cable es i = take 4 (drop (4 * i) (flat_map (packet_bytes cable) es)) ≡ packet_bytes cable (get_or es i None)
 
 one_more : (cable : ℕ) (e : Event) (es : List Event) → ((i : ℕ) → i < length es → At cable es i) → (i : ℕ) → i < length (made e ++ es) → At cable (made e ++ es) i
 unfolding flat_map
-one_more cable Quiet es h i l = h i l
-one_more cable (Packet code x y z) es h zero l = refl
-one_more cable (Packet code x y z) es h (suc i) l =
+one_more cable None es h i l = h i l
+one_more cable (Some e) es h zero l = refl
+one_more cable (Some e) es h (suc i) l =
     let four : 4 * suc i ≡ suc (suc (suc (suc (4 * i)))) = omega arith in
     rw four (h i (omega arith))
 
@@ -54,7 +52,7 @@ module _ (cable : ℕ) (p : Packer) (bs : List ℕ) (held : ℕ) (q q' : List �
   joined : q' ≡ front ++ (packets ++ rest)
   joined = parts ∙ append_assoc front packets rest
 
-  packet_there : (i : ℕ) → i < packet_count p bs → take 4 (drop (held + 4 * i) q') ≡ packet_bytes cable (get_or (events_of p bs) i Quiet)
+  packet_there : (i : ℕ) → i < packet_count p bs → take 4 (drop (held + 4 * i) q') ≡ packet_bytes cable (get_or (events_of p bs) i None)
   unfolding packets_of
   packet_there i l =
       let size = packets_size cable p bs in

@@ -1,13 +1,14 @@
 -- MIDI bytes to USB-MIDI event packets: the two tables of USB MIDI 1.0, the packer of a cable, its packets, and a send into the queue.
-use Rattle.std.specs.Prelude.{ℕ, ◌+◌, ◌*◌, ◌/◌, ◌%◌, ◌≤◌, ◌<◌, ◌≡◌, Bool, true, false, ◌&&◌, ◌||◌, length, get_or, eqb, leb, ltb}
+use Rattle.std.specs.Prelude.{ℕ, ◌+◌, ◌*◌, ◌/◌, ◌%◌, ◌≤◌, ◌<◌, ◌≡◌, Bool, true, false, ◌&&◌, ◌||◌, Option, Some, None, Result, Ok, Err, length, get_or, eqb, leb, ltb}
 use mathlib.Core.List.{List, [], ◌∷◌, ◌++◌, flat_map}
 use Rattle.std.proofs.lemmas.List.Edits.{sets}
 use Rattle.bits.specs.Pick.{pick}
 use Rattle.midi.specs.declared.Packer.{Packer}
-use Rattle.midi.specs.declared.Event.{Event}
-use Rattle.midi.specs.declared.Event.TheVariants.{Quiet, Packet}
+use Rattle.midi.specs.declared.Packet.{Packet}
 use Rattle.midi.specs.declared.Fed.{Fed}
-use Rattle.midi.specs.declared.Sent.{Sent}
+use Rattle.midi.specs.declared.Sent.{Sent as Accepted}
+use Rattle.refusal.specs.declared.Refusal.{Refusal}
+use Rattle.refusal.specs.Number.{number}
 
 -- USB MIDI 1.0, table 4-1: the bytes of a packet by its code, from code 0 to code F; 0 and 1 are reserved there and hold none here (source, lines 799 to 804)
 abbrev pub byte_counts : List ℕ
@@ -45,9 +46,13 @@ holding s x bs = record { status = s; first = get_or bs 0 0; second = get_or bs 
 abbrev pub fresh : Packer
 fresh = holding 0 false []
 
+-- what one byte may make: at most one packet
+abbrev pub Event : Type 0
+Event = Option Packet
+
 -- source, lines 114 to 117: the packet of up to three bytes under a code, filled up with 0
 abbrev pub packet : ℕ → List ℕ → Event
-packet code bs = Packet code (get_or bs 0 0) (get_or bs 1 0) (get_or bs 2 0)
+packet code bs = Some (record { code = code; first = get_or bs 0 0; second = get_or bs 1 0; third = get_or bs 2 0 })
 
 -- what one byte leaves: the next packer and at most one packet
 abbrev pub fed : Packer → Event → Fed
@@ -58,7 +63,7 @@ abbrev pub sysex_of : Packer → ℕ → List ℕ → Fed
 sysex_of p b bs =
     pick (eqb b 0xF7) (fed (holding p.status false []) (packet (4 + length bs) bs))
     (pick (eqb (length bs) 3) (fed (holding p.status true []) (packet 4 bs))
-    (fed (holding p.status true bs) Quiet))
+    (fed (holding p.status true bs) None))
 
 -- document 01, "MIDI packer": inside SysEx every byte below F8 but F7 is data, status bytes too
 abbrev pub fed_sysex : Packer → ℕ → Fed
@@ -70,7 +75,7 @@ abbrev pub message_of : Packer → List ℕ → Fed
 message_of p bs =
     pick (leb (message_length p.status) (length bs))
     (fed (holding (running_of p.status) false []) (packet (message_code p.status) bs))
-    (fed (holding p.status false bs) Quiet)
+    (fed (holding p.status false bs) None)
 
 -- source, lines 144 to 147: the message with its next data byte; the status stands first in it
 abbrev pub so_far : Packer → ℕ → List ℕ
@@ -78,15 +83,15 @@ so_far p b = pick (eqb p.held 0) (p.status ∷ []) (held_bytes p) ++ (b ∷ [])
 
 -- source, line 143: a data byte with no status is dropped
 abbrev pub fed_data : Packer → ℕ → Fed
-fed_data p b = pick (eqb p.status 0) (fed p Quiet) (message_of p (so_far p b))
+fed_data p b = pick (eqb p.status 0) (fed p None) (message_of p (so_far p b))
 
 -- source, lines 133 to 142: F0 begins SysEx; F6 is whole by itself and leaves the held bytes; any other status drops them and waits for data
 abbrev pub fed_status : Packer → ℕ → Fed
 fed_status p b =
-    pick (eqb b 0xF0) (fed (holding 0 true (b ∷ [])) Quiet)
+    pick (eqb b 0xF0) (fed (holding 0 true (b ∷ [])) None)
     (pick (eqb b 0xF6)
     (fed (record { status = 0; first = p.first; second = p.second; held = p.held; sysex = p.sysex }) (packet 5 (b ∷ [])))
-    (fed (holding b false []) Quiet))
+    (fed (holding b false []) None))
 
 -- source, lines 119 to 159: one byte; a realtime byte is a packet anywhere and changes nothing
 unfoldable pub feed_of : Packer → ℕ → Fed
@@ -102,8 +107,8 @@ fed_all p (b ∷ bs) = fed_all (feed_of p b).next bs
 
 -- the packet of an event, if it is one
 abbrev pub made : Event → List Event
-made Quiet = []
-made (Packet code x y z) = Packet code x y z ∷ []
+made None = []
+made (Some e) = Some e ∷ []
 
 -- the packets that bs makes, in order
 unfoldable pub events_of : Packer → List ℕ → List Event
@@ -116,8 +121,8 @@ packet_count p bs = length (events_of p bs)
 
 -- the code of a packet; 0 where there is none
 abbrev pub code_of : Event → ℕ
-code_of Quiet = 0
-code_of (Packet code x y z) = code
+code_of None = 0
+code_of (Some e) = e.code
 
 -- USB MIDI 1.0, section 4: a packet's first byte has the cable's number in its high half and the code in its low half
 abbrev pub header : ℕ → ℕ → ℕ
@@ -125,8 +130,8 @@ header cable code = cable % 16 * 16 + code
 
 -- USB MIDI 1.0, section 4: a packet's four bytes
 abbrev pub packet_bytes : ℕ → Event → List ℕ
-packet_bytes cable Quiet = []
-packet_bytes cable (Packet code x y z) = header cable code ∷ x ∷ y ∷ z ∷ []
+packet_bytes cable None = []
+packet_bytes cable (Some e) = header cable e.code ∷ e.first ∷ e.second ∷ e.third ∷ []
 
 -- what a form of writing makes of the packets of bs, one packet after the other
 abbrev pub written : (Event → List ℕ) → Packer → List ℕ → List ℕ
@@ -154,6 +159,17 @@ QUEUE = 4096
 -- document 01, number 7: whether the packets of bs fit a queue that holds held
 abbrev pub room_for : Packer → List ℕ → ℕ → Bool
 room_for p bs held = leb (held + 4 * packet_count p bs) QUEUE
+
+-- a send's answer by numbers: 0 or the number of its refusal, the next packer, and the bytes then held in the queue
+pub record Sent : Type 0 where
+  pub refusal : ℕ
+  pub packer : Packer
+  pub held : ℕ
+
+-- the answer that a result stands for: a refused send leaves the packer and the bytes held as they were
+abbrev pub sent_by : Packer → ℕ → Result Accepted Refusal → Sent
+sent_by p held (Ok s) = record { refusal = 0; packer = s.packer; held = s.held }
+sent_by p held (Err r) = record { refusal = number r; packer = p; held = held }
 
 -- document 01, number 7: a send's answer, 0 with all of it done, or 7 with all as it was
 unfoldable pub sent_of : Packer → List ℕ → ℕ → Sent

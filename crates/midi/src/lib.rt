@@ -4,7 +4,9 @@
 ghost use Rattle.std.specs.Prelude.{◌≡◌, [], ◌∷◌, length, ◌+◌, ◌*◌, ◌≤◌, ◌<◌};
 ghost use Rattle.std.proofs.lemmas.List.Edits.{sets};
 ghost use Rattle.midi.specs.Packer as P;
-ghost use Rattle.midi.specs.Packer.{feed_of, fed_sysex, fed_data, fed_status, holding, fresh, message_length, message_code, byte_count, running_of, code_of, packet_count, Puts, Sends};
+ghost use Rattle.midi.specs.Packer.{fed, packet, feed_of, fed_sysex, fed_data, fed_status, holding, fresh, message_length, message_code, byte_count, running_of, code_of, packet_count, packet_bytes, Puts, Sends, sent_by};
+
+use refusal::Refusal;
 
 // Bytes of the queue.
 pub const QUEUE: usize = 4096;
@@ -22,20 +24,24 @@ pub struct Packer {
     pub sysex: bool,
 }
 
-// At most one packet: its code and three bytes.
+// An event packet: its code and three bytes.
 #[derive(Clone, Copy)]
-pub enum Event {
-    Quiet,
-    Packet(u8, u8, u8, u8),
+pub struct Packet {
+    pub code: u8,
+    pub first: u8,
+    pub second: u8,
+    pub third: u8,
 }
 
+// What one byte leaves: the next packer, and at most one packet.
 #[derive(Clone, Copy)]
 pub struct Fed {
     pub next: Packer,
-    pub event: Event,
+    pub event: Option<Packet>,
 }
 
 // The bytes of a message that starts with the status `s` (USB MIDI 1.0, table 4-1).
+#[tactic(auto, unfolding(crate::specs::Packer::message_length))]
 pub fn message_length(s: u8) -> u8
     ensures { result ≡ message_length s }
 {
@@ -46,6 +52,7 @@ pub fn message_length(s: u8) -> u8
 }
 
 // The code of a whole message with the status `s` (USB MIDI 1.0, table 4-1).
+#[tactic(auto, unfolding(crate::specs::Packer::message_length, crate::specs::Packer::message_code))]
 pub fn message_code(s: u8) -> u8
     ensures { result ≡ message_code s }
 {
@@ -57,6 +64,7 @@ pub fn message_code(s: u8) -> u8
 }
 
 // The bytes of a received packet with the code `code` (USB MIDI 1.0, table 4-1).
+#[tactic(auto, unfolding(crate::specs::Packer::byte_count))]
 pub fn byte_count(code: u8) -> u8
     ensures { result ≡ byte_count code }
 {
@@ -69,6 +77,7 @@ pub fn byte_count(code: u8) -> u8
 }
 
 // The status that runs on after a whole message: a channel message's own, and none after a system common one.
+#[tactic(auto, unfolding(crate::specs::Packer::running_of))]
 fn running(s: u8) -> u8
     ensures { result ≡ running_of s }
 {
@@ -78,79 +87,96 @@ fn running(s: u8) -> u8
     }
 }
 
-// The packer with no byte held.
-fn empty(status: u8, sysex: bool) -> Packer
-    ensures { result ≡ holding status sysex [] }
-{
-    Packer {
-        status,
-        first: 0,
-        second: 0,
-        held: 0,
-        sysex,
-    }
-}
-
-// The packer with one byte held.
-fn one_held(status: u8, first: u8, sysex: bool) -> Packer
-    ensures { result ≡ holding status sysex (first ∷ []) }
-{
-    Packer {
-        status,
-        first,
-        second: 0,
-        held: 1,
-        sysex,
-    }
-}
-
-// The packer with two bytes held.
-fn two_held(status: u8, first: u8, second: u8, sysex: bool) -> Packer
-    ensures { result ≡ holding status sysex (first ∷ second ∷ []) }
-{
-    Packer {
-        status,
-        first,
-        second,
-        held: 2,
-        sysex,
-    }
-}
-
 impl Packer {
+    // The packer of a cable on which nothing was sent.
     pub fn new() -> Packer
         ensures { result ≡ fresh }
     {
-        empty(0, false)
+        Packer {
+            status: 0,
+            first: 0,
+            second: 0,
+            held: 0,
+            sysex: false,
+        }
+    }
+
+    // The packer with no byte held.
+    fn empty(status: u8, sysex: bool) -> Packer
+        ensures { result ≡ holding status sysex [] }
+    {
+        Packer {
+            status,
+            sysex,
+            ..Packer::new()
+        }
+    }
+
+    // The packer with one byte held.
+    fn one_held(status: u8, sysex: bool, first: u8) -> Packer
+        ensures { result ≡ holding status sysex (first ∷ []) }
+    {
+        Packer {
+            first,
+            held: 1,
+            ..Packer::empty(status, sysex)
+        }
+    }
+
+    // The packer with two bytes held.
+    fn two_held(status: u8, sysex: bool, first: u8, second: u8) -> Packer
+        ensures { result ≡ holding status sysex (first ∷ second ∷ []) }
+    {
+        Packer {
+            second,
+            held: 2,
+            ..Packer::one_held(status, sysex, first)
+        }
+    }
+
+    // A byte that ends no packet leaves the packer alone.
+    fn quiet(self) -> Fed
+        ensures { result ≡ fed self None }
+    {
+        Fed {
+            next: self,
+            event: None,
+        }
+    }
+
+    // A byte that ends a packet leaves the packer and the packet.
+    fn with_packet(self, code: u8, first: u8, second: u8, third: u8) -> Fed
+        ensures { result ≡ fed self (packet code (first ∷ second ∷ third ∷ [])) }
+    {
+        let packet = Packet {
+            code,
+            first,
+            second,
+            third,
+        };
+        Fed {
+            next: self,
+            event: Some(packet),
+        }
     }
 
     // A byte below F8 inside SysEx.
     fn in_sysex(self, b: u8) -> Fed
         ensures { result ≡ fed_sysex self b }
     {
-        let n = self.held;
+        let s = self.status;
         if b == 0xF7 {
-            let next = empty(self.status, false);
-            let event = match n {
-                0 => Event::Packet(5, b, 0, 0),
-                1 => Event::Packet(6, self.first, b, 0),
-                _ => Event::Packet(7, self.first, self.second, b),
+            let next = Packer::empty(s, false);
+            return match self.held {
+                0 => next.with_packet(5, b, 0, 0),
+                1 => next.with_packet(6, self.first, b, 0),
+                _ => next.with_packet(7, self.first, self.second, b),
             };
-            return Fed { next, event };
         }
-        match n {
-            0 => Fed {
-                next: one_held(self.status, b, true),
-                event: Event::Quiet,
-            },
-            1 => Fed {
-                next: two_held(self.status, self.first, b, true),
-                event: Event::Quiet,
-            },
-            _ => Fed {
-                next: empty(self.status, true),
-                event: Event::Packet(4, self.first, self.second, b),
-            },
+        match self.held {
+            0 => Packer::one_held(s, true, b).quiet(),
+            1 => Packer::two_held(s, true, self.first, b).quiet(),
+            _ => Packer::empty(s, true).with_packet(4, self.first, self.second, b),
         }
     }
 
@@ -159,71 +185,43 @@ impl Packer {
         ensures { result ≡ fed_status self b }
     {
         match b {
-            0xF0 => Fed {
-                next: one_held(0, b, true),
-                event: Event::Quiet,
-            },
-            0xF6 => Fed {
-                next: Packer {
-                    status: 0,
-                    first: self.first,
-                    second: self.second,
-                    held: self.held,
-                    sysex: self.sysex,
-                },
-                event: Event::Packet(5, b, 0, 0),
-            },
-            _ => Fed {
-                next: empty(b, false),
-                event: Event::Quiet,
-            },
+            0xF0 => Packer::one_held(0, true, b).quiet(),
+            0xF6 => Packer { status: 0, ..self }.with_packet(5, b, 0, 0),
+            _ => Packer::empty(b, false).quiet(),
         }
     }
 
     // A data byte outside SysEx.
+    #[tactic(auto, using(crate::proofs::Bounds::message_length_le))]
     fn at_data(self, b: u8) -> Fed
         ensures { result ≡ fed_data self b }
     {
         let s = self.status;
         if s == 0 {
-            return Fed {
-                next: self,
-                event: Event::Quiet,
-            };
+            return self.quiet();
         }
         let n = self.held;
-        let need = message_length(s);
         let code = message_code(s);
+        let next = Packer::empty(running(s), false);
         if 2 <= n {
-            return Fed {
-                next: empty(running(s), false),
-                event: Event::Packet(code, self.first, self.second, b),
-            };
+            return next.with_packet(code, self.first, self.second, b);
         }
         let head = if n == 0 { s } else { self.first };
-        if need <= 2 {
-            Fed {
-                next: empty(running(s), false),
-                event: Event::Packet(code, head, b, 0),
-            }
+        if message_length(s) <= 2 {
+            next.with_packet(code, head, b, 0)
         } else {
-            Fed {
-                next: two_held(s, head, b, false),
-                event: Event::Quiet,
-            }
+            Packer::two_held(s, false, head, b).quiet()
         }
     }
 
     // One byte: the next packer, and at most one packet.
+    #[tactic(auto, using(crate::proofs::Bounds::data_code), unfolding(crate::specs::Packer::feed_of))]
     pub fn feed(self, b: u8) -> Fed
         ensures value { result ≡ feed_of self b }
         ensures event_bound { code_of result.event < 16 }
     {
         match b {
-            0xF8..=0xFF => Fed {
-                next: self,
-                event: Event::Packet(0x0F, b, 0, 0),
-            },
+            0xF8..=0xFF => self.with_packet(0x0F, b, 0, 0),
             _ => {
                 if self.sysex {
                     self.in_sysex(b)
@@ -247,33 +245,31 @@ pub fn header(cable: u8, code: u8) -> u8
 }
 
 // How many packets `bytes` makes.
+#[tactic(auto, using(crate::proofs::Laws::count_at, crate::proofs::Laws::count_past))]
 pub fn count_packets(p: Packer, bytes: &[u8]) -> usize
     ensures { result ≡ packet_count p bytes.now }
 {
     let mut packer = p;
     let mut count: usize = 0;
-    let mut i = 0;
-    while i < bytes.len() {
-        let fed = packer.feed(bytes[i]);
-        let event = fed.event;
-        if let Event::Packet(_, _, _, _) = event {
+    for b in bytes {
+        let fed = packer.feed(*b);
+        if fed.event.is_some() {
             count += 1;
         }
         packer = fed.next;
-        i += 1;
     }
     count
 }
 
 // A packet's four bytes from the place `at` on.
-fn put_packet(queue: &mut [u8], at: usize, cable: u8, code: u8, x: u8, y: u8, z: u8)
-    requires { (at + 4 ≤ length queue.old) × (code < 16) }
-    ensures { queue.new ≡ sets queue.old at (P.header cable code ∷ x ∷ y ∷ z ∷ []) }
+fn put_packet(queue: &mut [u8], at: usize, cable: u8, packet: Packet)
+    requires { (at + 4 ≤ length queue.old) × (packet.code < 16) }
+    ensures { queue.new ≡ sets queue.old at (packet_bytes cable (Some packet)) }
 {
-    queue[at] = header(cable, code);
-    queue[at + 1] = x;
-    queue[at + 2] = y;
-    queue[at + 3] = z;
+    queue[at] = header(cable, packet.code);
+    queue[at + 1] = packet.first;
+    queue[at + 2] = packet.second;
+    queue[at + 3] = packet.third;
 }
 
 // The packer after a run of bytes, and the place past their packets.
@@ -290,59 +286,43 @@ fn put_packets(p: Packer, cable: u8, bytes: &[u8], queue: &mut [u8], held: usize
 {
     let mut packer = p;
     let mut at = held;
-    let mut i = 0;
-    while i < bytes.len() {
-        let fed = packer.feed(bytes[i]);
-        let event = fed.event;
-        if let Event::Packet(code, x, y, z) = event {
-            put_packet(queue, at, cable, code, x, y, z);
+    for b in bytes {
+        let fed = packer.feed(*b);
+        if let Some(packet) = fed.event {
+            put_packet(queue, at, cable, packet);
             at += 4;
         }
         packer = fed.next;
-        i += 1;
     }
     Placed { packer, held: at }
 }
 
-// A send's answer: 0 or the number of its refusal, the next packer, and the bytes then held in the queue.
+// What an accepted send leaves: the next packer, and the bytes then held in the queue.
 #[derive(Clone, Copy)]
 pub struct Sent {
-    pub refusal: u8,
     pub packer: Packer,
     pub held: usize,
 }
 
 // Counts the packets of `bytes` and puts them behind the `held` bytes of the queue, or changes nothing where there is no such cable or they do not fit.
-pub fn send(p: Packer, cable: u8, bytes: &[u8], queue: &mut [u8; QUEUE], held: usize) -> Sent
-    ensures { Sends cable p bytes.now held queue.old queue.new result }
+#[tactic(auto, unfolding(crate::specs::Packer::sent_on, crate::specs::Packer::queue_on, crate::specs::Packer::sent_of, crate::specs::Packer::queue_after))]
+pub fn send(
+    p: Packer,
+    cable: u8,
+    bytes: &[u8],
+    queue: &mut [u8; QUEUE],
+    held: usize,
+) -> Result<Sent, Refusal>
+    ensures { Sends cable p bytes.now held queue.old queue.new (sent_by p held result) }
 {
-    if 15 < cable {
-        return Sent {
-            refusal: 8,
-            packer: p,
-            held,
-        };
-    }
-    if QUEUE < held {
-        return Sent {
-            refusal: 7,
-            packer: p,
-            held,
-        };
-    }
+    refusal::unless(usize::from(cable) < CABLES, Refusal::Cable)?;
+    refusal::unless(held <= QUEUE, Refusal::Space)?;
     let count = count_packets(p, bytes);
-    if (QUEUE - held) / 4 < count {
-        return Sent {
-            refusal: 7,
-            packer: p,
-            held,
-        };
-    }
+    refusal::unless(count <= (QUEUE - held) / 4, Refusal::Space)?;
     let placed = put_packets(p, cable, bytes, queue, held);
     let packer = placed.packer;
-    Sent {
-        refusal: 0,
+    Ok(Sent {
         packer,
         held: placed.held,
-    }
+    })
 }

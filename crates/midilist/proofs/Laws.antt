@@ -1,17 +1,15 @@
 -- Laws of the listing's text: a packet's line is twelve bytes.
-use Rattle.std.proofs.Common.{◌≡◌, ℕ, ◌*◌, ◌≤◌, List, [], ◌∷◌, length, refl, ap, ◌∙◌, arith, length-append}
+use Rattle.std.proofs.Common.{◌≡◌, ℕ, ◌*◌, ◌≤◌, Some, None, List, [], ◌∷◌, length, refl, ap, ◌∙◌, arith, length-append}
 use mathlib.Core.List.{flat_map}
 use Rattle.midi.specs.declared.Packer.{Packer}
-use Rattle.midi.specs.declared.Event.{Event}
-use Rattle.midi.specs.declared.Event.TheVariants.{Quiet, Packet}
-use Rattle.midi.specs.Packer.{feed_of, made, events_of, packet_count}
+use Rattle.midi.specs.Packer.{Event, feed_of, made, events_of, packet_count}
 use Rattle.midi.proofs.Laws.{flat_map_append, count_le}
 use Rattle.midilist.specs.Listing.{line_of, text_of}
 
 made_size : (e : Event) → length (flat_map line_of (made e)) ≡ 12 * length (made e)
 unfolding flat_map
-made_size Quiet = refl
-made_size (Packet code x y z) = refl
+made_size None = refl
+made_size (Some e) = refl
 
 -- a packet's line is twelve bytes
 pub text_size : (p : Packer) (bs : List ℕ) → length (text_of p bs) ≡ 12 * packet_count p bs

@@ -1,9 +1,7 @@
 -- The text of a list of packets: document 01, "Worked examples", the program `midilist`.
-use Rattle.std.specs.Prelude.{◌≡◌, ℕ, ◌/◌, ◌%◌, List, [], ◌∷◌, ◌++◌, length, drop, slice_index}
+use Rattle.std.specs.Prelude.{◌≡◌, ℕ, ◌/◌, ◌%◌, Some, None, List, [], ◌∷◌, ◌++◌, length, drop, slice_index}
 use Rattle.midi.specs.declared.Packer.{Packer}
-use Rattle.midi.specs.declared.Event.{Event}
-use Rattle.midi.specs.declared.Event.TheVariants.{Quiet, Packet}
-use Rattle.midi.specs.Packer.{header, fed_all, packet_count, written}
+use Rattle.midi.specs.Packer.{Event, header, fed_all, packet_count, written}
 
 -- the hexadecimal digits in ASCII, in upper case
 abbrev pub digits : List ℕ
@@ -21,8 +19,8 @@ abbrev pub line : ℕ → ℕ → ℕ → ℕ → List ℕ
 line code x y z = byte_text (header 0 code) 0x20 ++ (byte_text x 0x20 ++ (byte_text y 0x20 ++ byte_text z 0x0A))
 
 abbrev pub line_of : Event → List ℕ
-line_of Quiet = []
-line_of (Packet code x y z) = line code x y z
+line_of None = []
+line_of (Some e) = line e.code e.first e.second e.third
 
 -- the lines of the packets that bs makes
 unfoldable pub text_of : Packer → List ℕ → List ℕ

@@ -5,7 +5,7 @@ ghost use Rattle.std.specs.Prelude.{◌≡◌, ◌+◌, ◌*◌, ◌<◌, ◌≤
 ghost use Rattle.std.proofs.lemmas.List.Edits.{sets};
 ghost use Rattle.midilist.specs.Listing.{digit_of, byte_text, line, Lists};
 
-use midi::{Event, Packer};
+use midi::Packer;
 use std::fmt::Write;
 use stdio::{Input, Output};
 
@@ -57,9 +57,8 @@ fn list_piece(p: Packer, bytes: &[u8], out: &mut [u8]) -> Piece
     let mut end: usize = 0;
     for b in bytes {
         let fed = packer.feed(*b);
-        let event = fed.event;
-        if let Event::Packet(code, x, y, z) = event {
-            put_line(out, end, code, x, y, z);
+        if let Some(packet) = fed.event {
+            put_line(out, end, packet.code, packet.first, packet.second, packet.third);
             end += 12;
             packets += 1;
         }

@@ -12,8 +12,7 @@ use Rattle.bits.proofs.Tests.{false_true}
 use Rattle.bits.proofs.Lists.{sets_append}
 use Rattle.bus.specs.Steps.{replay, replay_append, exec_then}
 use Rattle.midi.specs.declared.Packer.{Packer}
-use Rattle.midi.specs.declared.Event.TheVariants.{Packet}
-use Rattle.midi.specs.Packer.{byte_count, header, code_of, feed_of}
+use Rattle.midi.specs.Packer.{packet, byte_count, header, code_of, feed_of}
 use Rattle.midi.proofs.Bounds.{code_any}
 use Rattle.dtd.specs.Dtd.{Run, endpoint, run_dtds}
 use Rattle.record.specs.declared.Phase.{Phase}
@@ -375,6 +374,6 @@ module _ (cable code x y z : ℕ) (is-cable : cable < 16) (is_code : code < 16) 
       }
 
 -- S-2, law 7: what a packer makes on a cable comes back with that cable beside each byte
-pub cable_returns : (cable : ℕ) (p : Packer) (b code x y z : ℕ) → cable < 16 → (feed_of p b).event ≡ Packet code x y z → Returns cable code x y z
+pub cable_returns : (cable : ℕ) (p : Packer) (b code x y z : ℕ) → cable < 16 → (feed_of p b).event ≡ packet code (x ∷ y ∷ z ∷ []) → Returns cable code x y z
 cable_returns cable p b code x y z is-cable e =
     packet_returns cable code x y z is-cable (subst (λ (n : ℕ). n < 16) (ap code_of e) (code_any p b))

@@ -3,8 +3,7 @@ use Rattle.std.specs.Prelude.{ℕ, zero, suc, ◌+◌, ◌*◌, ◌/◌, ◌≤�
 use Rattle.std.proofs.lemmas.List.Edits.{sets}
 use Rattle.bits.specs.Pick.{pick}
 use Rattle.bus.specs.Steps.{replay}
-use Rattle.midi.specs.declared.Event.TheVariants.{Packet}
-use Rattle.midi.specs.Packer.{byte_count, packet_bytes}
+use Rattle.midi.specs.Packer.{byte_count, packet, packet_bytes}
 use Rattle.dtd.specs.Dtd.{endpoint, run_dtds}
 use Rattle.record.specs.declared.Settings.{Settings}
 use Rattle.record.specs.World.{World, bus_of}
@@ -69,5 +68,5 @@ pub record Fronts (packets : List ℕ) (w v : World) : Type 0 where
 
 -- S-2: read back, a packet of a cable gives its bytes, and the cable beside each
 pub record Returns (cable code x y z : ℕ) : Type 0 where
-  pub bytes : decoded 1 (packet_bytes cable (Packet code x y z)) ≡ take (byte_count code) (x ∷ y ∷ z ∷ [])
-  pub cables : cables_of 1 (packet_bytes cable (Packet code x y z)) ≡ replicate (byte_count code) cable
+  pub bytes : decoded 1 (packet_bytes cable (packet code (x ∷ y ∷ z ∷ []))) ≡ take (byte_count code) (x ∷ y ∷ z ∷ [])
+  pub cables : cables_of 1 (packet_bytes cable (packet code (x ∷ y ∷ z ∷ []))) ≡ replicate (byte_count code) cable

@@ -6,9 +6,9 @@ use crate::log::Came;
 use crate::{log, turns};
 use midi::{CABLES, Packer};
 use record::{Settings, State};
+use refusal::Refusal;
 use script::parse::Word;
 use script::{hash, parse, text, windows};
-use usbhost::TakenFrame;
 
 // What a run holds beside its areas: `length` bytes of dynamic memory, `space` frames of the sending ring, the microframes that are still asked
 // for, how many calls were refused and bytes dropped, and what came in all. A run that is not live passes over its lines; behind a bad line all
@@ -94,16 +94,31 @@ pub fn bad(run: Run, out: &mut [u8; 65536], at: usize) -> Next
     Next { run: next, at: end }
 }
 
-// What a call of a part answers: its refusal or `ok`.
-fn stored(run: Run, state: State, refusal: u8, out: &mut [u8; 65536], at: usize) -> Next
+// What a call of a part answers: its refusal or `ok`. A refused one leaves the state as it was.
+fn stored(
+    run: Run,
+    done: Result<State, Refusal>,
+    out: &mut [u8; 65536],
+    at: usize,
+) -> Next
     requires { at ≤ 40000 }
     ensures { result.at ≤ 65536 }
 {
-    let end = text::outcome(out, at, refusal);
-    let refused = turns::counted(run.refused, refusal);
-    let mut next = with_state(run, state);
-    next.refused = refused;
-    Next { run: next, at: end }
+    match done {
+        Ok(state) => Next {
+            run: with_state(run, state),
+            at: text::outcome(out, at, 0),
+        },
+        Err(refusal) => {
+            let number = refusal.number();
+            let mut next = run;
+            next.refused = turns::counted(run.refused, number);
+            Next {
+                run: next,
+                at: text::outcome(out, at, number),
+            }
+        }
+    }
 }
 
 // The number behind a line's letter, good where nothing follows it.
@@ -186,12 +201,13 @@ fn device_read(
             off.value,
             size.value,
         );
-        if read.refusal != 0 {
-            let state = run.state;
-            return stored(run, state, read.refusal, out, at);
-        }
-        let end = text::single(out, at, b'r', read.value as u64);
-        return Next { run, at: end };
+        return match read {
+            Ok(value) => Next {
+                run,
+                at: text::single(out, at, b'r', u64::from(value)),
+            },
+            Err(refusal) => stored(run, Err(refusal), out, at),
+        };
     }
     bad(run, out, at)
 }
@@ -223,7 +239,7 @@ fn device_write(
             size.value,
             value.value,
         );
-        return stored(run, written.state, written.refusal, out, at);
+        return stored(run, written, out, at);
     }
     bad(run, out, at)
 }
@@ -331,20 +347,23 @@ fn midi_queue(
     requires { (at ≤ 40000) × (count ≤ length bytes.now) }
     ensures { result.at ≤ 65536 }
 {
-    let before = run.packers;
     let sent = usbhost::send_midi(
         run.state,
         run.settings.spans,
-        before,
+        run.packers,
         cable,
         &bytes[..count],
         setups,
         midi,
     );
-    let packers = sent.packers;
-    let mut next = run;
-    next.packers = packers;
-    stored(next, sent.state, sent.refusal, out, at)
+    match sent {
+        Ok(sent) => {
+            let mut next = run;
+            next.packers = sent.packers;
+            stored(next, Ok(sent.state), out, at)
+        }
+        Err(refusal) => stored(run, Err(refusal), out, at),
+    }
 }
 
 // The first `count` bytes of a buffer for the serial queue.
@@ -360,16 +379,15 @@ fn serial_queue(
     requires { (at ≤ 40000) × (count ≤ length bytes.now) }
     ensures { result.at ≤ 65536 }
 {
-    let packers = run.packers;
     let sent = usbhost::send_serial(
         run.state,
         run.settings.spans,
-        packers,
+        run.packers,
         &bytes[..count],
         setups,
         serial,
     );
-    stored(run, sent.state, sent.refusal, out, at)
+    stored(run, sent, out, at)
 }
 
 // The cable of a line that sends, and the place of its bytes.
@@ -473,7 +491,7 @@ fn frame_give(
             setups,
             &mut sending[..space],
         );
-        return stored(run, given.state, given.refusal, out, at);
+        return stored(run, given, out, at);
     }
     bad(run, out, at)
 }
@@ -502,42 +520,28 @@ fn frame_take(
     requires { at ≤ 40000 }
     ensures { result.at ≤ 65536 }
 {
-    let packers = run.packers;
-    let taken = usbhost::take_frame(run.state, run.settings.spans, packers, setups, received);
-    if taken.refusal != 0 {
-        return stored(run, taken.state, taken.refusal, out, at);
-    }
-    if taken.empty {
-        let end = text::append(out, at, b"t empty\n");
-        return Next { run, at: end };
-    }
-    let words = taken.frame;
-    let end = show_frame(words, out, at);
-    Next {
-        run: with_state(run, taken.state),
-        at: end,
+    match usbhost::take_frame(run.state, run.settings.spans, run.packers, setups, received) {
+        Ok(taken) => {
+            let end = match taken.frame {
+                Some(words) => show_frame(words, out, at),
+                None => text::append(out, at, b"t empty\n"),
+            };
+            Next {
+                run: with_state(run, taken.next),
+                at: end,
+            }
+        }
+        Err(refusal) => stored(run, Err(refusal), out, at),
     }
 }
 
-// Frames taken: how many, the hash of their words, and the number of a call that was refused, or 0.
+// Frames taken: how many, the hash of their words, and the reason of a call that was refused.
 #[derive(Clone, Copy)]
 struct Drained {
     state: State,
     count: u64,
     hash: u64,
-    refusal: u8,
-}
-
-// One frame more.
-fn with_frame(before: Drained, taken: TakenFrame) -> Drained {
-    let state = taken.state;
-    let words = taken.frame;
-    Drained {
-        state,
-        count: std::num::wrapping_add_u64(before.count, 1),
-        hash: log::mixed_frame(before.hash, &words, 0),
-        refusal: 0,
-    }
+    refusal: Option<Refusal>,
 }
 
 // The same, unless there is none or the call is refused.
@@ -548,13 +552,22 @@ fn drain_one(
     setups: &[u8; record::SETUP_BYTES],
     received: &[u32],
 ) -> Drained {
-    let taken = usbhost::take_frame(before.state, spans, packers, setups, received);
-    if taken.empty | (taken.refusal != 0) {
-        let mut next = before;
-        next.refusal = taken.refusal;
-        return next;
+    match usbhost::take_frame(before.state, spans, packers, setups, received) {
+        Ok(taken) => match taken.frame {
+            Some(words) => Drained {
+                state: taken.next,
+                count: std::num::wrapping_add_u64(before.count, 1),
+                hash: log::mixed_frame(before.hash, &words, 0),
+                refusal: None,
+            },
+            None => before,
+        },
+        Err(refusal) => {
+            let mut next = before;
+            next.refusal = Some(refusal);
+            next
+        }
     }
-    with_frame(before, taken)
 }
 
 // Up to `most` frames, until the ring is empty.
@@ -574,9 +587,9 @@ fn drain(
         state,
         count: 0,
         hash: hash::START,
-        refusal: 0,
+        refusal: None,
     };
-    while left > 0 && drained.refusal == 0 {
+    while left > 0 && drained.refusal.is_none() {
         drained = drain_one(drained, spans, packers, setups, received);
         left -= 1;
     }
@@ -589,8 +602,8 @@ fn show_drained(run: Run, drained: Drained, out: &mut [u8; 65536], at: usize) ->
     ensures { result.at ≤ 65536 }
 {
     let state = drained.state;
-    if drained.refusal != 0 {
-        return stored(run, state, drained.refusal, out, at);
+    if let Some(refusal) = drained.refusal {
+        return stored(with_state(run, state), Err(refusal), out, at);
     }
     let mut end = text::put(out, at, b'T');
     end = text::field(out, end, drained.count);

@@ -7,7 +7,7 @@ use crate::log::Came;
 use crate::start::Start;
 use crate::turns::{Asked, Turned};
 use crate::{calls, log, start, turns};
-use record::{Counter, State};
+use record::{Answer, Counter, State};
 use script::{parse, text, windows};
 use std::num::{wrapping_add_u64, wrapping_sub_u64};
 
@@ -349,13 +349,24 @@ pub fn go_on(
             &sending[..space],
             turned.time,
         );
-        state = done.state;
+        let mut number = 0;
+        match done {
+            Ok(next) => state = next,
+            Err(refusal) => {
+                number = refusal.number();
+                state.answer = Answer {
+                    received: 0,
+                    dropped: 0,
+                    retired: 0,
+                };
+            }
+        }
         turned = turns::turned_once(
             turned,
             settings.cdc,
             run.through,
             asked.step,
-            done.refusal,
+            number,
             state.answer,
             &*receive,
         );

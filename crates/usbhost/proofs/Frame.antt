@@ -1,7 +1,7 @@
 -- The microframe's promise, by its ways from the number of refusal on; what an accepted one knows; and the call by value.
 use Prim.Native.Nat.{ℕ, suc, ◌≤◌}
 use mathlib.Core.Path.{◌≡◌, refl, sym, ap, ◌∙◌}
-use mathlib.Core.Bool.{Bool, true, false}
+use mathlib.Core.Bool.{Bool, true, false, ◌&&◌}
 use mathlib.Core.List.{List}
 use native.Mathlib.Omega.{arith}
 use lib.Dec.{eqb, leb, ltb}
@@ -10,6 +10,8 @@ use borrow.Author.Tests.{eqb-true, leb-true, ne_eqb}
 use Rattle.bits.specs.Pick.{pick}
 use Rattle.bus.specs.Sized.{Sized, is_sized}
 use Rattle.bus.proofs.Sizes.{and_true, is_sized_lem}
+use Rattle.refusal.specs.declared.Refusal.{Refusal}
+use Rattle.refusal.specs.Number.{number}
 use Rattle.midi.specs.declared.Packer.{Packer}
 use Rattle.record.specs.declared.Settings.{Settings}
 use Rattle.record.specs.declared.State.{State}
@@ -21,12 +23,12 @@ use Rattle.frames.specs.Promises.{Fit, Long, Frame}
 use Rattle.frames.proofs.Fit.{fit_of}
 use Rattle.record.specs.World.{Own, Lent, World, world}
 use Rattle.usbhost.specs.declared.Host.{Host}
-use Rattle.usbhost.specs.declared.Stored.{Stored}
-use Rattle.usbhost.specs.declared.Framed.{Framed}
+use Rattle.usbhost.specs.Answers.{Stored, Framed}
 use Rattle.usbhost.specs.Host.{state_of, host_of, own_of, host_with}
-use Rattle.usbhost.specs.Calls.{bounded, few_spans, sending_length}
+use Rattle.usbhost.specs.Calls.{unless, bounded, few_spans, sending_length}
 use Rattle.usbhost.specs.Frame.{world_of, lengths_ok, area_lengths, bounds_ok, frame_bounds, frame_number, framed, frame_answer}
-use Rattle.usbhost.specs.Promises.{bare, FramePromise}
+use Rattle.usbhost.specs.Promises.{bare, unanswered, FramePromise}
+use Rattle.usbhost.proofs.Laws.{refused}
 
 -- ---- an accepted microframe
 
@@ -119,6 +121,15 @@ pub bare_number : (s : State) (c : Settings) (packers : List Packer) (o : Own) (
 unfolding frame_number bounds_ok in_bounds enumerating_ok counts_ok areas_ok
 bare_number s c packers o l = refl
 
+-- and is given by the tests of its parts
+pub frame_tests : (f : State) (spans : ℕ) (packers : List Packer) (setups : List ℕ) (l : Lent) {sized : Bool} → sized ≡ is_sized l.memory
+    → unless 1 sized (unless 2 (area_lengths l) (unless 3 (leb spans 16)
+    (unless 5 (in_bounds f packers setups && (areas_ok f (length l.reply) (length l.config) && (received_ok f && sending_ok f (length l.sending))))
+    (unless 6 (ltb f.port.uf MOST) 0))))
+    ≡ frame_number (bare f spans packers setups) l
+unfolding frame_number bounds_ok in_bounds enumerating_ok counts_ok areas_ok
+frame_tests f spans packers setups l e = rw e refl
+
 module _ (t : ℕ) (h : Host) (l : Lent) {n : ℕ} (e : n ≡ frame_number h l) where
   pub frame_stops : (n ≡ 0 → ⊥) → FramePromise t h l (record { refusal = n; state = state_of h }) (own_of h) l
   unfolding framed
@@ -175,3 +186,14 @@ module _ (t : ℕ) (h : Host) (l : Lent) (m : frame_number h l ≡ 0 → ⊥) wh
 
   pub lent_refused : (framed t h l).lent ≡ l
   lent_refused = ap (λ (w : World). w.lent) stays
+
+-- the call by value, where it is refused
+pub frame_entry_refused : (t : ℕ) (h : Host) (l : Lent) {s : State} → s ≡ state_of h → (r : Refusal) (o : Own) (l' : Lent)
+    → FramePromise t (host_with h s) l (record { refusal = number r; state = unanswered s }) o l'
+    → ◌≡◌ {A = Framed} (record { refusal = number r; received = 0; dropped = 0; retired = 0; host = h }) (frame_answer t h l) × (l' ≡ (framed t h l).lent)
+frame_entry_refused t h l e r o l' d =
+    let p = rw e at d in (
+      ap (λ (n : ℕ). record { refusal = n; received = 0; dropped = 0; retired = 0; host = h }) p.number
+          ∙ sym (frame_refused t h l (λ z. refused r (p.number ∙ z))),
+      ap (λ (w : World). w.lent) p.outcome,
+    )

@@ -1,5 +1,6 @@
 -- The promise of each call on parts, by its ways from the number of refusal on; and what a call that is accepted knows.
-use mathlib.Core.Path.{◌≡◌, refl, sym, ap, ◌∙◌}
+use Rattle.std.specs.Prelude.{Result, Ok, Err, IfOk}
+use mathlib.Core.Path.{◌≡◌, refl, sym, ap, subst, ◌∙◌}
 use mathlib.Core.Bool.{Bool, true, false, ◌&&◌}
 use mathlib.Core.List.{List}
 use Prim.Native.Nat.{ℕ, ◌+◌, ◌*◌, ◌/◌, ◌%◌, ◌≤◌, ◌<◌}
@@ -11,12 +12,14 @@ use lib.Seq.{sets, set-get_or}
 use borrow.Author.Tests.{eq-eqb, ne_eqb, le-leb, lt-leb, lt-ltb, eqb-true, leb-true, ltb-true}
 use Rattle.bounds.proofs.Laws.{in_ring}
 use Rattle.bus.proofs.Sizes.{and_true}
+use Rattle.refusal.specs.declared.Refusal.{Refusal}
+use Rattle.refusal.specs.Number.{number, number_of}
 use Rattle.midi.specs.declared.Packer.{Packer}
-use Rattle.midi.specs.declared.Sent as Midi
+use Rattle.midi.specs.Packer as Midi
 use Rattle.midi.specs.Packer.{is_cable, packer_at, fresh, Sends, room_for, sent_of, queue_after, sent_on, queue_on}
-use Rattle.usbdev.specs.Answers.{Value, Written}
+use Rattle.usbdev.specs.Answers.{Written, value_of}
 use Rattle.usbdev.specs.Registers.{registers}
-use Rattle.usbdev.specs.Access.{fits, refusal, reading, writing, written}
+use Rattle.usbdev.specs.Access.{fits, refusal, read_sized, writing, written}
 use Rattle.record.specs.declared.Lengths.{Lengths}
 use Rattle.record.specs.declared.Settings.{Settings}
 use Rattle.record.specs.declared.State.{State}
@@ -28,7 +31,7 @@ use Rattle.usbhost.specs.declared.Host.{Host}
 use Rattle.usbhost.specs.Host.{host_of, state_of}
 use Rattle.usbhost.specs.Calls.{unless, few_spans, bounded, midi_number, midi_queued, midi_sent, serial_number, serial_queued, serial_sent, sending_length, give_number, frame_put, frame_given, given, given_ring, take_number, frame_taken, oldest, holds_frame, taken_frame, access_number, device_read, with_flag, device_written, written_page}
 use Rattle.usbhost.specs.Promises.{with_spans, bare, MidiPromise, SerialPromise, GivePromise, TakePromise, ReadPromise, WritePromise}
-use Rattle.usbhost.proofs.Laws.{cable_stands, cable_stops, met, goes, stops, by_test, same_bounds}
+use Rattle.usbhost.proofs.Laws.{cable_stands, cable_stops, met, goes, stops, refused, by_test, same_bounds}
 
 -- ---- sends
 
@@ -79,6 +82,15 @@ module _ (s : State) (spans : ℕ) (packers : List Packer) (cable : ℕ) (bs set
             (λ room. rw (d.answer, d.queue, number) (simp (there, room)))
             (λ full. rw (d.answer, d.queue, number) (simp (there, full, set-get_or packers cable fresh)));
       }
+
+  -- a send that does not fit leaves all as it was
+  pub midi_full : n ≡ 0 → (r : Refusal) (midi' : List ℕ)
+      → Sends cable (packer_at packers cable) bs s.lengths.midi midi midi' (record { refusal = number r; packer = packer_at packers cable; held = s.lengths.midi })
+      → MidiPromise s spans packers cable bs setups midi (record { refusal = number r; state = s; packers = packers }) midi'
+  midi_full z r midi' d =
+      subst (λ (ps : List Packer). MidiPromise s spans packers cable bs setups midi (record { refusal = number r; state = s; packers = ps }) midi')
+      (set-get_or packers cable fresh)
+      (midi_goes z _ midi' d)
 
 bounded_queues : (s : State) (packers : List Packer) (setups : List ℕ) → in_bounds s packers setups ≡ true → queues_ok s.lengths ≡ true
 unfolding in_bounds
@@ -271,34 +283,33 @@ module _ (s : State) (spans : ℕ) (packers : List Packer) (setups received : Li
 -- ---- device access
 
 -- an accepted access is one that the register page accepts
-accepted_access : (h : Host) (len off size : ℕ) → access_number h len off size ≡ 0 → refusal len off size ≡ 0
-unfolding access_number refusal
-accepted_access h len off size e =
-    let five = unless 5 (bounded h) 0 in
-    let one = met 1 (eqb len 4096) (unless 3 (few_spans h) (unless 4 (fits off size) five)) (omega arith) e in
-    let three = met 3 (few_spans h) (unless 4 (fits off size) five) (omega arith) one.1 in
+accepted_access : (len spans off size : ℕ) (ok : Bool) → unless 1 (eqb len 4096) (unless 3 (leb spans 16) (unless 4 (fits off size) (unless 5 ok 0))) ≡ 0 → refusal len off size ≡ 0
+unfolding refusal
+accepted_access len spans off size ok e =
+    let five = unless 5 ok 0 in
+    let one = met 1 (eqb len 4096) (unless 3 (leb spans 16) (unless 4 (fits off size) five)) (omega arith) e in
+    let three = met 3 (leb spans 16) (unless 4 (fits off size) five) (omega arith) one.1 in
     simp (one.0, (met 4 (fits off size) five (omega arith) three.1).0)
 
-module _ (s : State) (spans : ℕ) (packers : List Packer) (setups page : List ℕ) (off size : ℕ) {n : ℕ} (e : n ≡ access_number (bare s spans packers setups) (length page) off size) where
-  accepts : n ≡ 0 → refusal (length page) off size ≡ 0
-  accepts z = accepted_access (bare s spans packers setups) (length page) off size (sym e ∙ z)
+module _ (s : State) (spans : ℕ) (packers : List Packer) (setups page : List ℕ) (off size : ℕ) {n : ℕ} (e : n ≡ unless 1 (eqb (length page) 4096) (unless 3 (leb spans 16) (unless 4 (fits off size) (unless 5 (in_bounds s packers setups) 0)))) where
+  pub accepts : n ≡ 0 → refusal (length page) off size ≡ 0
+  accepts z = accepted_access (length page) spans off size (in_bounds s packers setups) (sym e ∙ z)
 
   accessed_number : (k : Settings) (o : Own) → access_number (host_of s (with_spans k spans) packers (own_setups o setups)) (length page) off size ≡ n
   unfolding access_number
-  accessed_number k o = sym e
+  accessed_number k o = rw (same_bounds s (with_spans k spans) packers (own_setups o setups)) (sym e)
 
   pub read_stops : (n ≡ 0 → ⊥) → ReadPromise s spans packers setups page off size (record { refusal = n; value = 0 })
   unfolding device_read
   read_stops m = record { done = λ k o. simp (accessed_number k o, ne_eqb n 0 m) }
 
-  pub read_goes : n ≡ 0 → (v : Value) → v ≡ reading page off size → ReadPromise s spans packers setups page off size (record { refusal = v.refusal; value = v.value })
-  unfolding device_read reading
+  pub read_goes : n ≡ 0 → (v : ℕ) → v ≡ read_sized page off size → ReadPromise s spans packers setups page off size (record { refusal = 0; value = v })
+  unfolding device_read
   read_goes z v d =
-      let right = accepts z in
       record {
         done = λ k o.
             let number = accessed_number k o ∙ z in
-            rw d (simp (right, number));
+            rw d (simp number);
       }
 
   module _ (v : ℕ) where
@@ -326,3 +337,10 @@ module _ (s : State) (spans : ℕ) (packers : List Packer) (setups page : List �
               let number = accessed_number k o ∙ z in
               rw d.1 (simp (right, number));
         }
+
+-- a read, by what it answers
+pub read_promise : (s : State) (spans : ℕ) (packers : List Packer) (setups page : List ℕ) (off size : ℕ) (r : Result ℕ Refusal)
+    → number_of r ≡ unless 1 (eqb (length page) 4096) (unless 3 (leb spans 16) (unless 4 (fits off size) (unless 5 (in_bounds s packers setups) 0)))
+    → IfOk r (λ v. v ≡ read_sized page off size) → ReadPromise s spans packers setups page off size (value_of r)
+read_promise s spans packers setups page off size (Ok v) e d = read_goes s spans packers setups page off size e refl v d
+read_promise s spans packers setups page off size (Err r) e d = read_stops s spans packers setups page off size e (refused r)

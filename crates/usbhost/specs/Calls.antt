@@ -13,9 +13,7 @@ use Rattle.record.specs.Sizes.{QUEUE, FRAMES, WORDS, RING}
 use Rattle.record.specs.Change.{taken_from}
 use Rattle.bounds.specs.Bounds.{in_bounds, received_ok, sending_ok}
 use Rattle.usbhost.specs.declared.Host.{Host}
-use Rattle.usbhost.specs.declared.Sent.{Sent}
-use Rattle.usbhost.specs.declared.Taken.{Taken}
-use Rattle.usbhost.specs.declared.Read.{Read}
+use Rattle.usbhost.specs.Answers.{Sent, Taken, Read}
 use Rattle.usbhost.specs.Host.{state_of, host_of, own_of, host_with}
 
 -- ---- numbers 3 and 5 of a record

@@ -9,7 +9,7 @@ use Rattle.record.specs.Change.{left}
 use Rattle.bounds.specs.Bounds.{MOST, areas_ok, received_ok, sending_ok}
 use Rattle.model.specs.Microframe as M
 use Rattle.usbhost.specs.declared.Host.{Host}
-use Rattle.usbhost.specs.declared.Framed.{Framed}
+use Rattle.usbhost.specs.Answers.{Framed}
 use Rattle.usbhost.specs.Host.{state_of, host_of, own_of}
 use Rattle.usbhost.specs.Calls.{few_spans, bounded, unless, sending_length}
 

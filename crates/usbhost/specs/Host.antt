@@ -1,6 +1,8 @@
 -- The host record, a new one, and its state by parts (document 01, "Host record"; usbhost.rs 207-354).
-use Rattle.std.specs.Prelude.{ℕ, ◌-◌, false, List, ◌++◌, leb, take, replicate}
+use Rattle.std.specs.Prelude.{ℕ, ◌-◌, false, Result, Ok, Err, List, ◌++◌, leb, take, replicate}
 use Rattle.bits.specs.Pick.{pick}
+use Rattle.refusal.specs.declared.Refusal.{Refusal}
+use Rattle.refusal.specs.Number.{number}
 use Rattle.midi.specs.declared.Packer.{Packer}
 use Rattle.midi.specs.Packer.{CABLES, fresh}
 use Rattle.gptimers.specs.Timer.{none}
@@ -13,7 +15,7 @@ use Rattle.record.specs.Record.{COUNTERS, no_span}
 use Rattle.record.specs.World.{Own, own}
 use Rattle.record.specs.Sizes.{SETUP_BYTES, QUEUE, DEVICE}
 use Rattle.usbhost.specs.declared.Host.{Host}
-use Rattle.usbhost.specs.declared.Created.{Created}
+use Rattle.usbhost.specs.Answers.{Created}
 
 -- the state by its parts, with an answer of nothing received, dropped or retired
 abbrev pub state_of : Host → State
@@ -95,6 +97,11 @@ new_host c =
 unfoldable pub created : Settings → Created
 created c =
     pick (leb c.spans 16) (record { refusal = 0; host = new_host (settled c) }) (record { refusal = 3; host = new_host no_settings })
+
+-- what the result of `new` stands for
+abbrev pub created_by : Result Host Refusal → Created
+created_by (Ok h) = record { refusal = 0; host = h }
+created_by (Err r) = record { refusal = number r; host = new_host no_settings }
 
 -- ---- the record by its parts: a state, whose answer is no part of it, settings, packers, and the arrays
 

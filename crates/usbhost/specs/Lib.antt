@@ -1,3 +1,4 @@
+pub mod Answers
 pub mod Host
 pub mod Calls
 pub mod Promises

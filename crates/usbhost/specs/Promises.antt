@@ -2,17 +2,13 @@
 -- goes as Calls says, and the state's answer, which is no part of the record, stays but in a microframe.
 use Rattle.std.specs.Prelude.{ℕ, ◌≡◌, List, []}
 use Rattle.midi.specs.declared.Packer.{Packer}
+use Rattle.usbdev.specs.Answers.{Value}
 use Rattle.record.specs.declared.Settings.{Settings}
 use Rattle.record.specs.declared.State.{State}
+use Rattle.record.specs.Record.{with_answer}
 use Rattle.record.specs.World.{Own, Lent, world, own, own_setups, own_midi, own_serial}
 use Rattle.usbhost.specs.declared.Host.{Host}
-use Rattle.usbhost.specs.declared.Sent.{Sent}
-use Rattle.usbhost.specs.declared.Taken.{Taken}
-use Rattle.usbhost.specs.declared.Read.{Read}
-use Rattle.usbhost.specs.declared.MidiSent.{MidiSent}
-use Rattle.usbhost.specs.declared.Stored.{Stored}
-use Rattle.usbhost.specs.declared.TakenFrame.{TakenFrame}
-use Rattle.usbhost.specs.declared.Value.{Value}
+use Rattle.usbhost.specs.Answers.{Sent, Taken, Read, MidiSent, Stored, TakenFrame}
 use Rattle.usbhost.specs.Host.{host_of, with_gone_spans, no_settings}
 use Rattle.usbhost.specs.Calls.{midi_sent, serial_sent, given, given_ring, taken_frame, device_read, device_written, written_page}
 use Rattle.usbhost.specs.Frame.{frame_number, framed}
@@ -70,6 +66,10 @@ pub record WritePromise (s : State) (spans : ℕ) (packers : List Packer) (setup
       → page' ≡ written_page (host_of s (with_spans c spans) packers (own_setups o setups)) page off size v
 
 -- ---- the microframe
+
+-- the state that a microframe begins with: nothing received, dropped or retired yet
+abbrev pub unanswered : State → State
+unanswered s = with_answer s (record { received = 0; dropped = 0; retired = 0 })
 
 -- the record h and what it is lent go as Frame says; the state's answer is the call's
 pub record FramePromise (t : ℕ) (h : Host) (l : Lent) (r : Stored) (o : Own) (l' : Lent) : Type 0 where

@@ -1,20 +1,22 @@
 // The host record, and the calls on it: microframe, MIDI and serial send, frames given and taken, device access.
 #![tactic(auto)]
 
-ghost use Rattle.std.specs.Prelude.{◌≡◌, ◌++◌, ℕ, ◌+◌, ◌-◌, ◌*◌, ◌≤◌, length, take, drop, replicate, leb};
+ghost use Rattle.std.specs.Prelude.{◌≡◌, ◌&&◌, ◌++◌, ℕ, ◌+◌, ◌-◌, ◌*◌, ◌≤◌, length, take, drop, replicate, eqb, leb, ltb, IfOk};
 ghost use Rattle.std.proofs.lemmas.List.Edits.{sets};
-ghost use Rattle.bits.specs.Pick.{pick};
+ghost use Rattle.refusal.specs.Number.{number_of};
+ghost use Rattle.usbdev.specs.Access.{fits, read_sized};
+ghost use Rattle.usbdev.specs.Answers.{value_of};
 ghost use Rattle.midi.specs.Packer.{is_cable};
-ghost use Rattle.bounds.specs.Bounds.{in_bounds};
+ghost use Rattle.bounds.specs.Bounds.{MOST, in_bounds, areas_ok, received_ok, sending_ok};
 ghost use Rattle.model.specs.Microframe.{streaming as Microframe·streaming};
-ghost use Rattle.usbhost.specs.Calls.{unless, sending_length, midi_sent, serial_sent, given, given_ring, give_number, taken_frame, take_number, device_read, device_written, written_page, access_number};
-ghost use Rattle.usbhost.specs.Promises.{bare, MidiPromise, SerialPromise, GivePromise, TakePromise, ReadPromise, WritePromise, FramePromise};
-ghost use Rattle.usbhost.specs.Frame.{lengths_ok, bounds_ok, frame_number, framed, frame_answer};
+ghost use Rattle.usbhost.specs.Answers.{sent_by, taken_by, read_by, framed_by, midi_sent_by, stored_by, taken_frame_by};
+ghost use Rattle.usbhost.specs.Calls.{unless, sending_length, midi_sent, serial_sent, given, given_ring, give_number, taken_frame, take_number, device_read, device_written, written_page};
+ghost use Rattle.usbhost.specs.Promises.{bare, unanswered, MidiPromise, SerialPromise, GivePromise, TakePromise, ReadPromise, WritePromise, FramePromise};
+ghost use Rattle.usbhost.specs.Frame.{lengths_ok, framed, frame_answer};
 ghost use Rattle.bus.specs.Memory.{shown};
-ghost use Rattle.record.specs.Record.{no_span, with_answer, counter_of, in_frames, out_frames};
-ghost use Rattle.record.specs.World.{Own, own, own_setups, lent};
-ghost use Rattle.record.specs.declared.Settings.{Settings as Record-as-Settings};
-ghost use Rattle.usbhost.specs.Host.{state_of, host_of, host_with, no_settings, new_host, created};
+ghost use Rattle.record.specs.Record.{no_span, counter_of, in_frames, out_frames};
+ghost use Rattle.record.specs.World.{own, lent};
+ghost use Rattle.usbhost.specs.Host.{state_of, host_of, host_with, no_settings, new_host, created, created_by};
 
 use gptimers::{Timer, Timers};
 use midi::{CABLES, Packer};
@@ -22,6 +24,7 @@ use record::{
     Answer, Audio, Control, Counter, DEVICE, Lengths, Phase, Port, QUEUE, RECEIVE, REPLY, RING,
     RING_FRAMES, Ring, SETUP_BYTES, SPANS, Settings, Span, Stage, State,
 };
+use refusal::Refusal;
 
 // The host record (usbhost.rs 205-288). Its fields are read by calls and written by no one outside.
 #[derive(Clone, Copy)]
@@ -41,97 +44,28 @@ pub struct Host {
     device: [u8; DEVICE],
 }
 
-// The answer of `new`: 0 or 3, and the host.
+// A frame taken, or none from an empty ring, and what is next: the record, or its state.
 #[derive(Clone, Copy)]
-pub struct Created {
-    pub refusal: u8,
-    pub host: Host,
+pub struct Taken<T> {
+    pub frame: Option<[u32; Host::CHANNELS]>,
+    pub next: T,
 }
 
-// A call's answer: 0 or the number of its refusal, and the next record.
-#[derive(Clone, Copy)]
-pub struct Sent {
-    pub refusal: u8,
-    pub host: Host,
-}
-
-// A frame taken: 0 or the number of its refusal, whether the ring was empty, the frame, and the next record.
-#[derive(Clone, Copy)]
-pub struct Taken {
-    pub refusal: u8,
-    pub empty: bool,
-    pub frame: [u32; Host::CHANNELS],
-    pub host: Host,
-}
-
-// A device read: 0 or the number of its refusal, the value, and the record.
-#[derive(Clone, Copy)]
-pub struct Read {
-    pub refusal: u8,
-    pub value: u32,
-    pub host: Host,
-}
-
-// A microframe: 0 or the number of its refusal, how many MIDI or serial bytes stand in the receive area, the bytes that no window took, the
-// descriptors retired, and the next record.
+// A microframe: how many MIDI or serial bytes stand in the receive area, the bytes that no window took, the descriptors retired, and the next
+// record.
 #[derive(Clone, Copy)]
 pub struct Framed {
-    pub refusal: u8,
     pub received: usize,
     pub dropped: u64,
     pub retired: u64,
     pub host: Host,
 }
 
-// What a device read gives: 0 or the number of its refusal, and the value.
-#[derive(Clone, Copy)]
-pub struct Value {
-    pub refusal: u8,
-    pub value: u32,
-}
-
-// Whether the phase is that of streaming.
-fn is_stream(p: Phase) -> bool
-    ensures { result ≡ Microframe·streaming p }
-{
-    match p {
-        Phase::Idle => false,
-        Phase::Vbus => false,
-        Phase::Reset => false,
-        Phase::Enumerate => false,
-        Phase::Stream => true,
-    }
-}
-
-// A send of MIDI bytes: 0 or the number of its refusal, and what follows it.
+// What a send of MIDI bytes leaves.
 #[derive(Clone, Copy)]
 pub struct MidiSent {
-    pub refusal: u8,
     pub state: State,
     pub packers: [Packer; CABLES],
-}
-
-// A call that changes the state alone.
-#[derive(Clone, Copy)]
-pub struct Stored {
-    pub refusal: u8,
-    pub state: State,
-}
-
-// A frame taken.
-#[derive(Clone, Copy)]
-pub struct TakenFrame {
-    pub refusal: u8,
-    pub empty: bool,
-    pub frame: [u32; Host::CHANNELS],
-    pub state: State,
-}
-
-// What follows, or the number of a test that failed.
-fn first_of(ok: bool, next: u8, number: u8) -> u8
-    ensures { result ≡ pick ok next number }
-{
-    if ok { next } else { number }
 }
 
 // Stores words from a place on.
@@ -139,11 +73,7 @@ fn put_words(ring: &mut [u32], at: usize, words: &[u32])
     requires { at + length words.now ≤ length ring.old }
     ensures { ring.new ≡ sets ring.old at words.now }
 {
-    let mut i = 0;
-    while i < words.len() {
-        ring[at + i] = words[i];
-        i += 1;
-    }
+    ring[at..at + words.len()].copy_from_slice(words);
 }
 
 // The frame of twelve words at a place.
@@ -151,9 +81,8 @@ fn frame_at(ring: &[u32], at: usize) -> [u32; Host::CHANNELS]
     requires { at + 12 ≤ length ring.now }
     ensures { result ≡ take 12 (drop at ring.now) }
 {
-    let mut frame = [0u32; Host::CHANNELS];
-    let end = at + Host::CHANNELS;
-    put_words(&mut frame, 0, &ring[at..end]);
+    let mut frame = [0; Host::CHANNELS];
+    frame.copy_from_slice(&ring[at..at + Host::CHANNELS]);
     frame
 }
 
@@ -184,6 +113,7 @@ pub fn no_settings() -> Settings
 }
 
 // An audio stream with no credit and empty rings, in blocks of the usual length.
+#[tactic(auto, unfolding(crate::specs::Host::new_host))]
 fn new_audio() -> Audio
     ensures { result ≡ (new_host no_settings).audio }
 {
@@ -199,6 +129,7 @@ fn new_audio() -> Audio
 }
 
 // A port at which nothing has happened.
+#[tactic(auto, unfolding(crate::specs::Host::new_host))]
 fn new_port() -> Port
     ensures { result ≡ (new_host no_settings).port }
 {
@@ -213,6 +144,7 @@ fn new_port() -> Port
 }
 
 // The state that a host starts with.
+#[tactic(auto, unfolding(crate::specs::Host::new_host))]
 pub fn new_state() -> State
     ensures { result ≡ state_of (new_host no_settings) }
 {
@@ -250,83 +182,55 @@ pub fn new_state() -> State
     }
 }
 
-// The record by its parts.
-fn host_of(
-    s: State,
-    c: Settings,
-    packers: [Packer; CABLES],
-    setups: [u8; SETUP_BYTES],
-    midi: [u8; QUEUE],
-    serial: [u8; QUEUE],
-    device: [u8; DEVICE],
-) -> Host
-    ensures { result ≡ host_of s c packers (own setups midi serial device) }
-{
-    let phase = s.phase;
-    let port = s.port;
-    let audio = s.audio;
-    let control = s.control;
-    let timers = s.timers;
-    let stats = s.stats;
-    let lengths = s.lengths;
-    Host {
-        phase,
-        port,
-        audio,
-        control,
-        timers,
-        stats,
-        lengths,
-        packers,
-        settings: c,
-        setups,
-        midi,
-        serial,
-        device,
-    }
-}
-
 // A host that has done nothing, under settings.
 fn new_host(c: Settings) -> Host
     ensures { result ≡ new_host c }
 {
-    host_of(
-        new_state(),
-        c,
-        [Packer::new(); CABLES],
-        [0; 2056],
-        [0; QUEUE],
-        [0; QUEUE],
-        [0; DEVICE],
-    )
+    let s = new_state();
+    let stats = s.stats;
+    Host {
+        phase: s.phase,
+        port: s.port,
+        audio: s.audio,
+        control: s.control,
+        timers: s.timers,
+        stats,
+        lengths: s.lengths,
+        packers: [Packer::new(); CABLES],
+        settings: c,
+        setups: [0; 2056],
+        midi: [0; QUEUE],
+        serial: [0; QUEUE],
+        device: [0; DEVICE],
+    }
 }
 
-// Numbers 3 and 5 of a record, or 0.
-fn record_number(
+// Numbers 3 and 5 of a record.
+fn record_passes(
     s: State,
     spans: usize,
     packers: [Packer; CABLES],
     setups: &[u8; SETUP_BYTES],
-) -> u8
-    ensures { result ≡ unless 3 (leb spans 16) (unless 5 (in_bounds s packers setups.now) 0) }
+) -> Result<(), Refusal>
+    ensures { number_of result ≡ unless 3 (leb spans 16) (unless 5 (in_bounds s packers setups.now) 0) }
 {
-    let five = first_of(bounds::in_bounds(s, packers, setups), 0, 5);
-    first_of(spans <= 16, five, 3)
+    refusal::unless(spans <= 16, Refusal::Spans)?;
+    refusal::unless(bounds::in_bounds(s, packers, setups), Refusal::Bounds)
 }
 
-// Numbers 3, 8 and 5 of a send on a cable, or 0.
-fn cable_number(
+// Numbers 3, 8 and 5 of a send on a cable.
+fn cable_passes(
     s: State,
     spans: usize,
     packers: [Packer; CABLES],
     cable: u8,
     setups: &[u8; SETUP_BYTES],
-) -> u8
-    ensures { result ≡ unless 3 (leb spans 16) (unless 8 (is_cable cable) (unless 5 (in_bounds s packers setups.now) 0)) }
+) -> Result<(), Refusal>
+    ensures { number_of result ≡ unless 3 (leb spans 16) (unless 8 (is_cable cable) (unless 5 (in_bounds s packers setups.now) 0)) }
 {
-    let five = first_of(bounds::in_bounds(s, packers, setups), 0, 5);
-    let eight = first_of(cable < 16, five, 8);
-    first_of(spans <= 16, eight, 3)
+    refusal::unless(spans <= 16, Refusal::Spans)?;
+    refusal::unless(usize::from(cable) < CABLES, Refusal::Cable)?;
+    refusal::unless(bounds::in_bounds(s, packers, setups), Refusal::Bounds)
 }
 
 // Sends MIDI bytes on a cable: their packets go behind those that wait.
@@ -338,30 +242,20 @@ pub fn send_midi(
     bytes: &[u8],
     setups: &[u8; SETUP_BYTES],
     midi: &mut [u8; QUEUE],
-) -> MidiSent
-    ensures { MidiPromise s spans packers cable bytes.now setups.now midi.old result midi.new }
+) -> Result<MidiSent, Refusal>
+    ensures { MidiPromise s spans packers cable bytes.now setups.now midi.old (midi_sent_by s packers result) midi.new }
 {
-    let number = cable_number(s, spans, packers, cable, setups);
-    if number != 0 {
-        return MidiSent {
-            refusal: number,
-            state: s,
-            packers,
-        };
-    }
-    let held = s.lengths.midi;
-    let place = cable as usize;
-    let sent = midi::send(packers[place], cable, bytes, midi, held);
-    let packer = sent.packer;
+    cable_passes(s, spans, packers, cable, setups)?;
+    let place = usize::from(cable);
+    let sent = midi::send(packers[place], cable, bytes, midi, s.lengths.midi)?;
     let mut fed = packers;
-    fed[place] = packer;
+    fed[place] = sent.packer;
     let mut next = s;
     next.lengths.midi = sent.held;
-    MidiSent {
-        refusal: sent.refusal,
+    Ok(MidiSent {
         state: next,
         packers: fed,
-    }
+    })
 }
 
 // Sends serial bytes: they go behind those that wait.
@@ -372,60 +266,47 @@ pub fn send_serial(
     bytes: &[u8],
     setups: &[u8; SETUP_BYTES],
     serial: &mut [u8; QUEUE],
-) -> Stored
-    ensures { SerialPromise s spans packers bytes.now setups.now serial.old result serial.new }
+) -> Result<State, Refusal>
+    ensures { SerialPromise s spans packers bytes.now setups.now serial.old (stored_by s result) serial.new }
 {
-    let number = record_number(s, spans, packers, setups);
-    if number != 0 {
-        return Stored {
-            refusal: number,
-            state: s,
-        };
-    }
+    record_passes(s, spans, packers, setups)?;
     let held = s.lengths.serial;
-    if QUEUE - held < bytes.len() {
-        return Stored {
-            refusal: 7,
-            state: s,
-        };
-    }
+    refusal::unless(bytes.len() <= QUEUE - held, Refusal::Space)?;
     bus::put_bytes(serial, held, bytes);
-    let after = held + bytes.len();
     let mut next = s;
-    next.lengths.serial = after;
-    Stored {
-        refusal: 0,
-        state: next,
-    }
+    next.lengths.serial = held + bytes.len();
+    Ok(next)
 }
 
 // Whether so many words can be a sending ring.
+#[tactic(auto, unfolding(crate::specs::Calls::sending_length))]
 fn sending_length(n: usize) -> bool
     ensures { result ≡ sending_length n }
 {
     (Host::FRAMES_PER_BLOCK * Host::CHANNELS <= n) & ((n <= RING) & (n % Host::CHANNELS == 0))
 }
 
-// Numbers 2, 3, 5 and 7 of a frame given, or 0.
-fn give_number(
+// Numbers 2, 3, 5 and 7 of a frame given.
+#[tactic(auto, unfolding(crate::specs::Calls::give_number, bounds::specs::Bounds::in_bounds, bounds::specs::Bounds::enumerating_ok, bounds::specs::Bounds::counts_ok))]
+fn give_passes(
     s: State,
     spans: usize,
     packers: [Packer; CABLES],
     frame: &[u32],
     setups: &[u8; SETUP_BYTES],
     sending: &[u32],
-) -> u8
-    ensures { result ≡ give_number (bare s spans packers setups.now) frame.now sending.now }
+) -> Result<(), Refusal>
+    ensures { number_of result ≡ give_number (bare s spans packers setups.now) frame.now sending.now }
 {
+    let right = sending_length(sending.len());
+    refusal::unless(right & (frame.len() == Host::CHANNELS), Refusal::Areas)?;
+    refusal::unless(spans <= 16, Refusal::Spans)?;
     let ring = s.audio.sending;
     let capacity = sending.len() / Host::CHANNELS;
-    let seven = first_of(ring.len < capacity, 0, 7);
     let bounded = bounds::in_bounds(s, packers, setups);
     let inside = bounds::ring_ok(ring, capacity);
-    let five = first_of(bounded & inside, seven, 5);
-    let three = first_of(spans <= 16, five, 3);
-    let right = sending_length(sending.len());
-    first_of(right & (frame.len() == Host::CHANNELS), three, 2)
+    refusal::unless(bounded & inside, Refusal::Bounds)?;
+    refusal::unless(ring.len < capacity, Refusal::Space)
 }
 
 // Gives a frame to the sending ring: it goes behind the newest.
@@ -436,147 +317,95 @@ pub fn give_frame(
     frame: &[u32],
     setups: &[u8; SETUP_BYTES],
     sending: &mut [u32],
-) -> Stored
-    ensures { GivePromise s spans packers frame.now setups.now sending.old result sending.new }
+) -> Result<State, Refusal>
+    ensures { GivePromise s spans packers frame.now setups.now sending.old (stored_by s result) sending.new }
 {
-    let number = give_number(s, spans, packers, frame, setups, &*sending);
-    if number != 0 {
-        return Stored {
-            refusal: number,
-            state: s,
-        };
-    }
+    give_passes(s, spans, packers, frame, setups, &*sending)?;
     let capacity = sending.len() / Host::CHANNELS;
     let start = s.audio.sending.start;
     let held = s.audio.sending.len;
     let at = (start + held) % capacity * Host::CHANNELS;
     put_words(sending, at, frame);
-    let after = held + 1;
     let mut next = s;
-    next.audio.sending.len = after;
-    Stored {
-        refusal: 0,
-        state: next,
-    }
+    next.audio.sending.len = held + 1;
+    Ok(next)
 }
 
-// Numbers 2, 3 and 5 of a frame taken, or 0.
-fn take_number(
+// Numbers 2, 3 and 5 of a frame taken.
+#[tactic(auto, unfolding(crate::specs::Calls::take_number, bounds::specs::Bounds::in_bounds, bounds::specs::Bounds::enumerating_ok, bounds::specs::Bounds::counts_ok))]
+fn take_passes(
     s: State,
     spans: usize,
     packers: [Packer; CABLES],
     setups: &[u8; SETUP_BYTES],
     received: &[u32],
-) -> u8
-    ensures { result ≡ take_number (bare s spans packers setups.now) received.now }
+) -> Result<(), Refusal>
+    ensures { number_of result ≡ take_number (bare s spans packers setups.now) received.now }
 {
-    let ring = s.audio.received;
+    refusal::unless(received.len() == RING, Refusal::Areas)?;
+    refusal::unless(spans <= 16, Refusal::Spans)?;
     let bounded = bounds::in_bounds(s, packers, setups);
-    let inside = bounds::ring_ok(ring, RING_FRAMES);
-    let five = first_of(bounded & inside, 0, 5);
-    let three = first_of(spans <= 16, five, 3);
-    first_of(received.len() == RING, three, 2)
+    let inside = bounds::ring_ok(s.audio.received, RING_FRAMES);
+    refusal::unless(bounded & inside, Refusal::Bounds)
 }
 
-// No frame: the call is refused, or the ring is empty.
-fn no_frame(refusal: u8, empty: bool, s: State) -> TakenFrame
-    ensures { result ≡ record { refusal = refusal; empty = empty; frame = replicate 12 0; state = s } }
-{
-    TakenFrame {
-        refusal,
-        empty,
-        frame: [0; Host::CHANNELS],
-        state: s,
-    }
-}
-
-// Whether the areas of a microframe are as long as they must be.
-fn lengths_ok(
+// The lengths of the areas that a microframe is lent.
+#[derive(Clone, Copy)]
+struct Areas {
     reply: usize,
     config: usize,
     receive: usize,
     cables: usize,
     received: usize,
     sending: usize,
-) -> bool
-    ensures { result ≡ lengths_ok reply config receive cables received sending }
-{
-    let ring = sending_length(sending);
-    let rings = (received == RING) & ring;
-    (REPLY <= reply) & ((REPLY <= config) & ((RECEIVE <= receive) & ((RECEIVE <= cables) & rings)))
 }
 
-// Numbers 1, 2, 3, 5 and 6 of a microframe by their tests, or 0.
-fn frame_number(sized: bool, lengths: bool, few: bool, bounded: bool, before: bool) -> u8
-    ensures { result ≡ unless 1 sized (unless 2 lengths (unless 3 few (unless 5 bounded (unless 6 before 0)))) }
-{
-    let six = first_of(before, 0, 6);
-    let five = first_of(bounded, six, 5);
-    let three = first_of(few, five, 3);
-    let two = first_of(lengths, three, 2);
-    first_of(sized, two, 1)
+impl Areas {
+    // Whether each is as long as it must be.
+    #[tactic(auto, unfolding(crate::specs::Frame::lengths_ok))]
+    fn long(self) -> bool
+        ensures { result ≡ lengths_ok self.reply self.config self.receive self.cables self.received self.sending }
+    {
+        let ring = sending_length(self.sending);
+        let rings = (self.received == RING) & ring;
+        (REPLY <= self.reply)
+            & ((REPLY <= self.config)
+                & ((RECEIVE <= self.receive) & ((RECEIVE <= self.cables) & rings)))
+    }
+
+    // Whether a record is in its bounds, with areas of these lengths.
+    fn bound(self, s: State, packers: [Packer; CABLES], setups: &[u8; SETUP_BYTES]) -> bool
+        ensures { result ≡ (in_bounds s packers setups.now && (areas_ok s self.reply self.config && (received_ok s && sending_ok s self.sending))) }
+    {
+        let bounded = bounds::in_bounds(s, packers, setups);
+        let areas = bounds::areas_ok(s, self.reply, self.config);
+        let heard = bounds::ring_ok(s.audio.received, RING_FRAMES);
+        let sent = bounds::ring_ok(s.audio.sending, self.sending / Host::CHANNELS);
+        bounded & (areas & (heard & sent))
+    }
 }
 
-// Whether a record is in its bounds, with areas of these lengths.
-fn frame_bounds(
-    s: State,
-    packers: [Packer; CABLES],
-    setups: &[u8; SETUP_BYTES],
-    reply: usize,
-    config: usize,
-    sending: usize,
-) -> bool
-    ensures { (c : Record-as-Settings) (o : Own) → result ≡ bounds_ok (host_of s c packers (own_setups o setups.now)) reply config sending }
-{
-    let received = s.audio.received;
-    let ring = s.audio.sending;
-    let bounded = bounds::in_bounds(s, packers, setups);
-    let areas = bounds::areas_ok(s, reply, config);
-    let heard = bounds::ring_ok(received, RING_FRAMES);
-    let sent = bounds::ring_ok(ring, sending / Host::CHANNELS);
-    bounded & (areas & (heard & sent))
-}
-
-// Numbers 1, 2, 3, 5 and 6 of a microframe, or 0.
-fn microframe_number(
+// Numbers 1, 2, 3, 5 and 6 of a microframe: whether the three windows have their lengths, the lengths of the areas, and the record.
+fn microframe_passes(
+    sized: bool,
+    areas: Areas,
     s: State,
     spans: usize,
     packers: [Packer; CABLES],
     setups: &[u8; SETUP_BYTES],
-    dynamic: &[u8],
-    sram: &[u8],
-    page: &[u8],
-    reply: &[u8],
-    config: &[u8],
-    receive: &[u8],
-    cables: &[u8],
-    received: &[u32],
-    sending: &[u32],
-) -> u8
-    ensures { result ≡ frame_number (bare s spans packers setups.now) (lent (shown dynamic.now sram.now page.now) reply.now config.now receive.now cables.now received.now sending.now) }
+) -> Result<(), Refusal>
+    ensures { number_of result ≡ unless 1 sized (unless 2 (lengths_ok areas.reply areas.config areas.receive areas.cables areas.received areas.sending) (unless 3 (leb spans 16) (unless 5 (in_bounds s packers setups.now && (areas_ok s areas.reply areas.config && (received_ok s && sending_ok s areas.sending))) (unless 6 (ltb s.port.uf MOST) 0)))) }
 {
-    let sized = bus::sized(dynamic, sram, page);
-    let lengths = lengths_ok(
-        reply.len(),
-        config.len(),
-        receive.len(),
-        cables.len(),
-        received.len(),
-        sending.len(),
-    );
-    let bounded = frame_bounds(s, packers, setups, reply.len(), config.len(), sending.len());
-    frame_number(
-        sized,
-        lengths,
-        spans <= 16,
-        bounded,
-        s.port.uf < 1_099_511_627_776,
-    )
+    refusal::unless(sized, Refusal::Windows)?;
+    refusal::unless(areas.long(), Refusal::Areas)?;
+    refusal::unless(spans <= 16, Refusal::Spans)?;
+    refusal::unless(areas.bound(s, packers, setups), Refusal::Bounds)?;
+    refusal::unless(s.port.uf < 1_099_511_627_776, Refusal::Microframes)
 }
 
 // The state with nothing received, dropped or retired yet.
 fn unanswered(s: State) -> State
-    ensures { result ≡ with_answer s (record { received = 0; dropped = 0; retired = 0 }) }
+    ensures { result ≡ unanswered s }
 {
     let none = Answer {
         received: 0,
@@ -607,29 +436,25 @@ pub fn run_microframe(
     received: &mut [u32],
     sending: &[u32],
     time: u64,
-) -> Stored
-    ensures { FramePromise time (host_of s c packers (own setups.old midi.old serial.old device.old)) (lent (shown dynamic.old sram.old page.old) reply.old config.old receive.old cables.old received.old sending.now) result (own setups.new midi.new serial.new device.new) (lent (shown dynamic.new sram.new page.new) reply.new config.new receive.new cables.new received.new sending.now) }
+) -> Result<State, Refusal>
+    ensures { FramePromise time (host_of s c packers (own setups.old midi.old serial.old device.old)) (lent (shown dynamic.old sram.old page.old) reply.old config.old receive.old cables.old received.old sending.now) (stored_by (unanswered s) result) (own setups.new midi.new serial.new device.new) (lent (shown dynamic.new sram.new page.new) reply.new config.new receive.new cables.new received.new sending.now) }
 {
-    let spans = c.spans;
     let fresh = unanswered(s);
-    let number = microframe_number(
-        fresh, spans, packers, &*setups, &*dynamic, &*sram, &*page, &*reply, &*config, &*receive,
-        &*cables, &*received, sending,
-    );
-    if number != 0 {
-        return Stored {
-            refusal: number,
-            state: fresh,
-        };
-    }
+    let sized = bus::sized(&*dynamic, &*sram, &*page);
+    let areas = Areas {
+        reply: reply.len(),
+        config: config.len(),
+        receive: receive.len(),
+        cables: cables.len(),
+        received: received.len(),
+        sending: sending.len(),
+    };
+    microframe_passes(sized, areas, fresh, c.spans, packers, &*setups)?;
     let next = frames::microframe(
         fresh, c, setups, midi, serial, device, dynamic, sram, page, reply, config, receive,
         cables, received, sending, time,
     );
-    Stored {
-        refusal: 0,
-        state: next,
-    }
+    Ok(next)
 }
 
 // Takes the oldest frame from the received ring, or finds it empty.
@@ -639,34 +464,33 @@ pub fn take_frame(
     packers: [Packer; CABLES],
     setups: &[u8; SETUP_BYTES],
     received: &[u32],
-) -> TakenFrame
-    ensures { TakePromise s spans packers setups.now received.now result }
+) -> Result<Taken<State>, Refusal>
+    ensures { TakePromise s spans packers setups.now received.now (taken_frame_by s result) }
 {
-    let number = take_number(s, spans, packers, setups, received);
-    if number != 0 {
-        return no_frame(number, false, s);
-    }
+    take_passes(s, spans, packers, setups, received)?;
     let start = s.audio.received.start;
     let held = s.audio.received.len;
     if held == 0 {
-        return no_frame(0, true, s);
+        return Ok(Taken {
+            frame: None,
+            next: s,
+        });
     }
     let frame = frame_at(received, start * Host::CHANNELS);
-    let second = (start + 1) % RING_FRAMES;
-    let after = held - 1;
     let mut next = s;
-    next.audio.received.start = second;
-    next.audio.received.len = after;
-    TakenFrame {
-        refusal: 0,
-        empty: false,
-        frame,
-        state: next,
-    }
+    next.audio.received = Ring {
+        start: (start + 1) % RING_FRAMES,
+        len: held - 1,
+    };
+    Ok(Taken {
+        frame: Some(frame),
+        next,
+    })
 }
 
-// Numbers 1, 3, 4 and 5 of a device access, or 0. Number 4 is that of a read at the same place.
-fn access_number(
+// Numbers 1, 3, 4 and 5 of a device access, and what a read at its place gives.
+#[tactic(auto, unfolding(usbdev::specs::Access::reading, usbdev::specs::Access::refusal))]
+fn access(
     s: State,
     spans: usize,
     packers: [Packer; CABLES],
@@ -674,14 +498,15 @@ fn access_number(
     page: &[u8],
     off: u32,
     size: u32,
-) -> u8
-    ensures { result ≡ access_number (bare s spans packers setups.now) (length page.now) off size }
+) -> Result<u32, Refusal>
+    ensures number { number_of result ≡ unless 1 (eqb (length page.now) 4096) (unless 3 (leb spans 16) (unless 4 (fits off size) (unless 5 (in_bounds s packers setups.now) 0))) }
+    ensures value { IfOk result (λ v. v ≡ read_sized page.now off size) }
 {
-    let seen = usbdev::read(page, off, size).is_ok();
-    let five = first_of(bounds::in_bounds(s, packers, setups), 0, 5);
-    let four = first_of(seen, five, 4);
-    let three = first_of(spans <= 16, four, 3);
-    first_of(page.len() == bus::PAGE, three, 1)
+    refusal::unless(page.len() == bus::PAGE, Refusal::Windows)?;
+    refusal::unless(spans <= 16, Refusal::Spans)?;
+    let value = usbdev::read(page, off, size)?;
+    refusal::unless(bounds::in_bounds(s, packers, setups), Refusal::Bounds)?;
+    Ok(value)
 }
 
 // What the device reads on the register page.
@@ -693,23 +518,10 @@ pub fn read_device(
     page: &[u8],
     off: u32,
     size: u32,
-) -> Value
-    ensures { ReadPromise s spans packers setups.now page.now off size result }
+) -> Result<u32, Refusal>
+    ensures { ReadPromise s spans packers setups.now page.now off size (value_of result) }
 {
-    let number = access_number(s, spans, packers, setups, page, off, size);
-    if number != 0 {
-        return Value {
-            refusal: number,
-            value: 0,
-        };
-    }
-    match usbdev::read(page, off, size) {
-        Ok(value) => Value { refusal: 0, value },
-        Err(refusal) => Value {
-            refusal: refusal.number(),
-            value: 0,
-        },
-    }
+    access(s, spans, packers, setups, page, off, size)
 }
 
 // What the device writes on the register page.
@@ -722,24 +534,14 @@ pub fn write_device(
     off: u32,
     size: u32,
     v: u32,
-) -> Stored
-    ensures { WritePromise s spans packers setups.now page.old off size v result page.new }
+) -> Result<State, Refusal>
+    ensures { WritePromise s spans packers setups.now page.old off size v (stored_by s result) page.new }
 {
-    let number = access_number(s, spans, packers, setups, &*page, off, size);
-    if number != 0 {
-        return Stored {
-            refusal: number,
-            state: s,
-        };
-    }
-    let line = s.port.line;
-    let written = usbdev::write(page, off, size, v, line);
+    access(s, spans, packers, setups, &*page, off, size)?;
+    let line = usbdev::write(page, off, size, v, s.port.line)?;
     let mut next = s;
-    next.port.line = written.unwrap_or(line);
-    Stored {
-        refusal: 0,
-        state: next,
-    }
+    next.port.line = line;
+    Ok(next)
 }
 
 impl Host {
@@ -750,20 +552,13 @@ impl Host {
     pub const BLOCK: usize = Audio::BLOCK;
 
     // A host under settings of at most 16 gone spans.
-    pub fn new(c: Settings) -> Created
-        ensures { result ≡ created c }
+    #[tactic(auto, unfolding(crate::specs::Host::created, crate::specs::Host::settled))]
+    pub fn new(c: Settings) -> Result<Host, Refusal>
+        ensures { created_by result ≡ created c }
     {
-        if SPANS < c.spans {
-            return Created {
-                refusal: 3,
-                host: new_host(no_settings()),
-            };
-        }
+        refusal::unless(c.spans <= SPANS, Refusal::Spans)?;
         let gone = first_spans(c.gone, c.spans);
-        Created {
-            refusal: 0,
-            host: new_host(Settings { gone, ..c }),
-        }
+        Ok(new_host(Settings { gone, ..c }))
     }
 
     // The counters, each at its place.
@@ -797,29 +592,22 @@ impl Host {
     pub fn streaming(self) -> bool
         ensures { result ≡ Microframe·streaming self.phase }
     {
-        let phase = self.phase;
-        is_stream(phase)
+        matches!(self.phase, Phase::Stream)
     }
 
     // The state by its parts.
     pub fn state(self) -> State
         ensures { result ≡ state_of self }
     {
-        let phase = self.phase;
-        let port = self.port;
-        let audio = self.audio;
-        let control = self.control;
-        let timers = self.timers;
         let stats = self.stats;
-        let lengths = self.lengths;
         State {
-            phase,
-            port,
-            audio,
-            control,
-            timers,
+            phase: self.phase,
+            port: self.port,
+            audio: self.audio,
+            control: self.control,
+            timers: self.timers,
             stats,
-            lengths,
+            lengths: self.lengths,
             answer: Answer {
                 received: 0,
                 dropped: 0,
@@ -832,18 +620,22 @@ impl Host {
     fn with_state(self, s: State) -> Host
         ensures { result ≡ host_with self s }
     {
-        let settings = self.settings;
-        let packers = self.packers;
-        let setups = self.setups;
-        let midi = self.midi;
-        let serial = self.serial;
-        let device = self.device;
-        host_of(s, settings, packers, setups, midi, serial, device)
+        let stats = s.stats;
+        Host {
+            phase: s.phase,
+            port: s.port,
+            audio: s.audio,
+            control: s.control,
+            timers: s.timers,
+            stats,
+            lengths: s.lengths,
+            ..self
+        }
     }
 
     // One microframe of 125 microseconds at a time.
     pub fn microframe(
-        self,
+        mut self,
         time: u64,
         dynamic: &mut [u8],
         sram: &mut [u8],
@@ -854,24 +646,17 @@ impl Host {
         cables: &mut [u8],
         received: &mut [u32],
         sending: &[u32],
-    ) -> Framed
-        ensures { (result ≡ frame_answer time self (lent (shown dynamic.old sram.old page.old) reply.old config.old receive.old cables.old received.old sending.now)) × (lent (shown dynamic.new sram.new page.new) reply.new config.new receive.new cables.new received.new sending.now ≡ (framed time self (lent (shown dynamic.old sram.old page.old) reply.old config.old receive.old cables.old received.old sending.now)).lent) }
+    ) -> Result<Framed, Refusal>
+        ensures { (framed_by self result ≡ frame_answer time self (lent (shown dynamic.old sram.old page.old) reply.old config.old receive.old cables.old received.old sending.now)) × (lent (shown dynamic.new sram.new page.new) reply.new config.new receive.new cables.new received.new sending.now ≡ (framed time self (lent (shown dynamic.old sram.old page.old) reply.old config.old receive.old cables.old received.old sending.now)).lent) }
     {
-        let s = self.state();
-        let settings = self.settings;
-        let packers = self.packers;
-        let mut setups = self.setups;
-        let mut midi = self.midi;
-        let mut serial = self.serial;
-        let mut device = self.device;
-        let done = run_microframe(
-            s,
-            settings,
-            packers,
-            &mut setups,
-            &mut midi,
-            &mut serial,
-            &mut device,
+        let state = run_microframe(
+            self.state(),
+            self.settings,
+            self.packers,
+            &mut self.setups,
+            &mut self.midi,
+            &mut self.serial,
+            &mut self.device,
             dynamic,
             sram,
             page,
@@ -882,123 +667,88 @@ impl Host {
             received,
             sending,
             time,
-        );
-        let state = done.state;
+        )?;
         let answer = state.answer;
-        Framed {
-            refusal: done.refusal,
+        Ok(Framed {
             received: answer.received,
             dropped: answer.dropped,
             retired: answer.retired,
-            host: host_of(state, settings, packers, setups, midi, serial, device),
-        }
+            host: self.with_state(state),
+        })
     }
 
     // Sends MIDI bytes to the device on a cable.
-    pub fn midi_send(self, cable: u8, bytes: &[u8]) -> Sent
-        ensures { result ≡ midi_sent self cable bytes.now }
+    pub fn midi_send(mut self, cable: u8, bytes: &[u8]) -> Result<Host, Refusal>
+        ensures { sent_by self result ≡ midi_sent self cable bytes.now }
     {
-        let s = self.state();
-        let settings = self.settings;
-        let spans = settings.spans;
-        let packers = self.packers;
-        let setups = self.setups;
-        let mut midi = self.midi;
-        let serial = self.serial;
-        let device = self.device;
-        let done = send_midi(s, spans, packers, cable, bytes, &setups, &mut midi);
-        let state = done.state;
-        let fed = done.packers;
-        Sent {
-            refusal: done.refusal,
-            host: host_of(state, settings, fed, setups, midi, serial, device),
-        }
+        let sent = send_midi(
+            self.state(),
+            self.settings.spans,
+            self.packers,
+            cable,
+            bytes,
+            &self.setups,
+            &mut self.midi,
+        )?;
+        let packers = sent.packers;
+        self.packers = packers;
+        Ok(self.with_state(sent.state))
     }
 
     // Sends serial bytes to the device.
-    pub fn serial_send(self, bytes: &[u8]) -> Sent
-        ensures { result ≡ serial_sent self bytes.now }
+    pub fn serial_send(mut self, bytes: &[u8]) -> Result<Host, Refusal>
+        ensures { sent_by self result ≡ serial_sent self bytes.now }
     {
-        let s = self.state();
-        let settings = self.settings;
-        let spans = settings.spans;
-        let packers = self.packers;
-        let setups = self.setups;
-        let midi = self.midi;
-        let mut serial = self.serial;
-        let device = self.device;
-        let done = send_serial(s, spans, packers, bytes, &setups, &mut serial);
-        let state = done.state;
-        Sent {
-            refusal: done.refusal,
-            host: host_of(state, settings, packers, setups, midi, serial, device),
-        }
+        let state = send_serial(
+            self.state(),
+            self.settings.spans,
+            self.packers,
+            bytes,
+            &self.setups,
+            &mut self.serial,
+        )?;
+        Ok(self.with_state(state))
     }
 
     // Gives a frame to the device: it waits in the sending ring.
-    pub fn frame_give(self, frame: &[u32], sending: &mut [u32]) -> Sent
-        ensures { (result ≡ given self frame.now sending.old) × (sending.new ≡ given_ring self frame.now sending.old) }
+    pub fn frame_give(self, frame: &[u32], sending: &mut [u32]) -> Result<Host, Refusal>
+        ensures { (sent_by self result ≡ given self frame.now sending.old) × (sending.new ≡ given_ring self frame.now sending.old) }
     {
         let s = self.state();
         let spans = self.settings.spans;
-        let packers = self.packers;
-        let setups = self.setups;
-        let done = give_frame(s, spans, packers, frame, &setups, sending);
-        let state = done.state;
-        Sent {
-            refusal: done.refusal,
-            host: self.with_state(state),
-        }
+        let state = give_frame(s, spans, self.packers, frame, &self.setups, sending)?;
+        Ok(self.with_state(state))
     }
 
     // Takes the oldest frame that came from the device.
-    pub fn frame_take(self, received: &[u32]) -> Taken
-        ensures { result ≡ taken_frame self received.now }
+    pub fn frame_take(self, received: &[u32]) -> Result<Taken<Host>, Refusal>
+        ensures { taken_by self result ≡ taken_frame self received.now }
     {
         let s = self.state();
         let spans = self.settings.spans;
-        let packers = self.packers;
-        let setups = self.setups;
-        let done = take_frame(s, spans, packers, &setups, received);
-        let frame = done.frame;
-        let state = done.state;
-        Taken {
-            refusal: done.refusal,
-            empty: done.empty,
-            frame,
-            host: self.with_state(state),
-        }
+        let taken = take_frame(s, spans, self.packers, &self.setups, received)?;
+        Ok(Taken {
+            frame: taken.frame,
+            next: self.with_state(taken.next),
+        })
     }
 
     // What the device reads on the register page.
-    pub fn device_read(self, page: &[u8], off: u32, size: u32) -> Read
-        ensures { result ≡ device_read self page.now off size }
+    pub fn device_read(self, page: &[u8], off: u32, size: u32) -> Result<u32, Refusal>
+        ensures { read_by self result ≡ device_read self page.now off size }
     {
         let s = self.state();
         let spans = self.settings.spans;
-        let packers = self.packers;
-        let setups = self.setups;
-        let seen = read_device(s, spans, packers, &setups, page, off, size);
-        Read {
-            refusal: seen.refusal,
-            value: seen.value,
-            host: self,
-        }
+        read_device(s, spans, self.packers, &self.setups, page, off, size)
     }
 
     // What the device writes on the register page.
-    pub fn device_write(self, page: &mut [u8], off: u32, size: u32, v: u32) -> Sent
-        ensures { (result ≡ device_written self page.old off size v) × (page.new ≡ written_page self page.old off size v) }
+    pub fn device_write(self, page: &mut [u8], off: u32, size: u32, v: u32) -> Result<Host, Refusal>
+        ensures { (sent_by self result ≡ device_written self page.old off size v) × (page.new ≡ written_page self page.old off size v) }
     {
         let s = self.state();
         let spans = self.settings.spans;
-        let packers = self.packers;
-        let setups = self.setups;
-        let done = write_device(s, spans, packers, &setups, page, off, size, v);
-        let state = done.state;
-        Sent {
-            refusal: done.refusal,
-            host: self.with_state(state),
-        }
+        let state = write_device(s, spans, self.packers, &self.setups, page, off, size, v)?;
+        Ok(self.with_state(state))
     }
 }

@@ -7,7 +7,7 @@ use Rattle.midi.proofs.Laws.{written_size_at, writing_more, writing_end, writing
 use Rattle.midilist.specs.Listing.{line_of, text_of}
 use Rattle.midilist.proofs.Laws.{text_le}
 use Rattle.midilist.proofs.list_piece.Goals as goal
-use Rattle.midilist.proofs.list_piece.Goals.{in-Packet, in_default}
+use Rattle.midilist.proofs.list_piece.Goals.{in-Some, in_default}
 
 pub loop-b-init : goal.loop-b-init
 unfolding text_of
@@ -23,7 +23,7 @@ put_line-requires c =
     let fed = c.feed-fed in
     let loop = c.loop-b in
     let a = c.args in
-    let event = c.in-Packet.is in
+    let event = c.in-Some.is in
     let step = written_size_at line_of loop.packer a.bytes.now loop.b-index (omega arith) fed.result fed.ensures.value in
     let twelve = ap (λ e. length (flat_map line_of (made e))) event in
     (omega (arith, step, twelve, loop.invariant.0.room), omega (arith, fed.ensures.event_bound, ap code_of event))
@@ -36,10 +36,10 @@ loop-b-preserved c =
     let fed = c.feed-fed in
     let more = writing_more loop.invariant.0 c.loop-b-test.true fed.result fed.ensures.value in
     let step = count_at loop.packer a.bytes.now loop.b-index (omega arith) fed.result fed.ensures.value in
-    elim c.match-event.branch [
-      | in-Packet w ↦
-          let event = sym w.in-Packet.is in
-          let one = ap (λ e. length (made e)) w.in-Packet.is in (
+    elim c.match-fed.branch [
+      | in-Some w ↦
+          let event = sym w.in-Some.is in
+          let one = ap (λ e. length (made e)) w.in-Some.is in (
             more _ (w.out-is ∙ w.put_line.ensures ∙ ap (λ e. sets loop.out loop.end (flat_map line_of (made e))) event)
                 _ (w.end-is ∙ ap (λ e. loop.end + length (flat_map line_of (made e))) event),
             omega (arith, step, one),

@@ -1,44 +1,47 @@
 -- `usbhost::give_frame` meets its contract.
-use native.Mathlib.Omega.{arith}
+use Rattle.std.proofs.Common.{refl, arith}
+use Rattle.std.proofs.lemmas.Result.{err_from_is_err_and}
+use Rattle.usbhost.proofs.Laws.{refused}
 use Rattle.usbhost.proofs.Outcomes.{gives, newest_inside, give_stops, give_goes}
 use Rattle.usbhost.proofs.give_frame.Goals as goal
 
-pub returns-then-number-ne0 : goal.returns-then-number-ne0
-returns-then-number-ne0 c =
+pub returns-in_err-give_passes : goal.returns-in_err-give_passes
+returns-in_err-give_passes c =
     let a = c.args in
-    give_stops a.s a.spans a.packers a.setups.now a.frame.now a.sending.now c.give_number-number.ensures c.if-number-ne0.true
+    let p = err_from_is_err_and c.from_residual.result c.from_residual.ensures.1 in
+    rw (p.1, p.2) (give_stops a.s a.spans a.packers a.setups.now a.frame.now a.sending.now c.in_err-give_passes.ensures (refused _))
 
 pub overflow_add-at : goal.overflow_add-at
 overflow_add-at c =
     let a = c.args in
-    let g = gives a.s a.spans a.packers a.setups.now a.frame.now a.sending.now c.give_number-number.ensures c.if-number-ne0.false in
+    let g = gives a.s a.spans a.packers a.setups.now a.frame.now a.sending.now c.in_ok-give_passes.ensures refl in
     omega (arith, g.inside, g.room, g.most)
 
 pub nonzero_rem-at : goal.nonzero_rem-at
 nonzero_rem-at c =
     let a = c.args in
-    let g = gives a.s a.spans a.packers a.setups.now a.frame.now a.sending.now c.give_number-number.ensures c.if-number-ne0.false in
+    let g = gives a.s a.spans a.packers a.setups.now a.frame.now a.sending.now c.in_ok-give_passes.ensures refl in
     omega (arith, g.least)
 
 pub overflow_mul-at : goal.overflow_mul-at
 overflow_mul-at c =
     let a = c.args in
-    let g = gives a.s a.spans a.packers a.setups.now a.frame.now a.sending.now c.give_number-number.ensures c.if-number-ne0.false in
-    omega (arith, newest_inside a.s a.spans a.packers a.setups.now a.frame.now a.sending.now c.give_number-number.ensures c.if-number-ne0.false, g.most)
+    let g = gives a.s a.spans a.packers a.setups.now a.frame.now a.sending.now c.in_ok-give_passes.ensures refl in
+    omega (arith, newest_inside a.s a.spans a.packers a.setups.now a.frame.now a.sending.now c.in_ok-give_passes.ensures refl, g.most)
 
 pub put_words-requires : goal.put_words-requires
 put_words-requires c =
     let a = c.args in
-    let g = gives a.s a.spans a.packers a.setups.now a.frame.now a.sending.now c.give_number-number.ensures c.if-number-ne0.false in
-    omega (arith, newest_inside a.s a.spans a.packers a.setups.now a.frame.now a.sending.now c.give_number-number.ensures c.if-number-ne0.false, g.whole)
+    let g = gives a.s a.spans a.packers a.setups.now a.frame.now a.sending.now c.in_ok-give_passes.ensures refl in
+    omega (arith, newest_inside a.s a.spans a.packers a.setups.now a.frame.now a.sending.now c.in_ok-give_passes.ensures refl, g.whole)
 
-pub overflow_add-after : goal.overflow_add-after
-overflow_add-after c =
+pub overflow_add-next : goal.overflow_add-next
+overflow_add-next c =
     let a = c.args in
-    let g = gives a.s a.spans a.packers a.setups.now a.frame.now a.sending.now c.give_number-number.ensures c.if-number-ne0.false in
+    let g = gives a.s a.spans a.packers a.setups.now a.frame.now a.sending.now c.in_ok-give_passes.ensures refl in
     omega (arith, g.room, g.most)
 
 pub returns : goal.returns
 returns c =
     let a = c.args in
-    give_goes a.s a.spans a.packers a.setups.now a.frame.now a.sending.now c.give_number-number.ensures c.if-number-ne0.false _ c.put_words.ensures
+    give_goes a.s a.spans a.packers a.setups.now a.frame.now a.sending.now c.in_ok-give_passes.ensures refl _ c.put_words.ensures

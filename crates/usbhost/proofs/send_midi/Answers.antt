@@ -1,13 +1,25 @@
 -- `usbhost::send_midi` meets its contract.
-use Rattle.usbhost.proofs.Outcomes.{midi_stops, midi_goes}
+use Rattle.std.proofs.Common.{refl}
+use Rattle.std.proofs.lemmas.Result.{err_from_is_err_and}
+use Rattle.usbhost.proofs.Laws.{refused}
+use Rattle.usbhost.proofs.Outcomes.{midi_stops, midi_full, midi_goes}
 use Rattle.usbhost.proofs.send_midi.Goals as goal
 
-pub returns-then-number-ne0 : goal.returns-then-number-ne0
-returns-then-number-ne0 c =
+pub returns-in_err-cable_passes : goal.returns-in_err-cable_passes
+returns-in_err-cable_passes c =
     let a = c.args in
-    midi_stops a.s a.spans a.packers a.cable a.bytes.now a.setups.now a.midi.now c.cable_number-number.ensures c.if-number-ne0.true
+    let p = err_from_is_err_and c.from_residual.result c.from_residual.ensures.1 in
+    rw (p.1, p.2) (midi_stops a.s a.spans a.packers a.cable a.bytes.now a.setups.now a.midi.now c.in_err-cable_passes.ensures (refused _))
+
+pub returns-in_err-sent : goal.returns-in_err-sent
+returns-in_err-sent c =
+    let a = c.args in
+    let p = err_from_is_err_and c.from_residual-in_err-sent.result c.from_residual-in_err-sent.ensures.1 in
+    let sent = rw c.from-place.ensures at c.in_err-sent.ensures in
+    rw (p.1, p.2) (midi_full a.s a.spans a.packers a.cable a.bytes.now a.setups.now a.midi.now c.in_ok-cable_passes.ensures refl _ _ sent)
 
 pub returns : goal.returns
 returns c =
     let a = c.args in
-    midi_goes a.s a.spans a.packers a.cable a.bytes.now a.setups.now a.midi.now c.cable_number-number.ensures c.if-number-ne0.false c.send-sent.result _ c.send-sent.ensures
+    let sent = rw c.from-place.ensures at c.in_ok-sent.ensures in
+    rw c.from-place.ensures (midi_goes a.s a.spans a.packers a.cable a.bytes.now a.setups.now a.midi.now c.in_ok-cable_passes.ensures refl _ _ sent)

@@ -1,29 +1,41 @@
 -- `usbhost::send_serial` meets its contract.
-use native.Mathlib.Omega.{arith}
+use Rattle.std.proofs.Common.{refl, arith}
+use Rattle.std.proofs.lemmas.Result.{err_from_is_err_and}
+use borrow.Author.Tests.{leb-true, leb-false}
+use Rattle.usbhost.proofs.Laws.{refused, failed, passed}
 use Rattle.usbhost.proofs.Outcomes.{serial_few, serial_stops, serial_full, serial_goes}
 use Rattle.usbhost.proofs.send_serial.Goals as goal
 
-pub returns-then-number-ne0 : goal.returns-then-number-ne0
-returns-then-number-ne0 c =
+pub returns-in_err-record_passes : goal.returns-in_err-record_passes
+returns-in_err-record_passes c =
     let a = c.args in
-    serial_stops a.s a.spans a.packers a.bytes.now a.setups.now a.serial.now c.record_number-number.ensures c.if-number-ne0.true
+    let p = err_from_is_err_and c.from_residual.result c.from_residual.ensures.1 in
+    rw (p.1, p.2) (serial_stops a.s a.spans a.packers a.bytes.now a.setups.now a.serial.now c.in_err-record_passes.ensures (refused _))
 
 pub overflow_sub-held : goal.overflow_sub-held
 overflow_sub-held c =
     let a = c.args in
-    omega (arith, serial_few a.s a.spans a.packers a.bytes.now a.setups.now a.serial.now c.record_number-number.ensures c.if-number-ne0.false)
+    omega (arith, serial_few a.s a.spans a.packers a.bytes.now a.setups.now a.serial.now c.in_ok-record_passes.ensures refl)
 
-pub returns-then-held-bytes : goal.returns-then-held-bytes
-returns-then-held-bytes c =
+pub returns-in_err-unless : goal.returns-in_err-unless
+returns-in_err-unless c =
     let a = c.args in
-    serial_full a.s a.spans a.packers a.bytes.now a.setups.now a.serial.now c.record_number-number.ensures c.if-number-ne0.false (omega (arith, serial_few a.s a.spans a.packers a.bytes.now a.setups.now a.serial.now c.record_number-number.ensures c.if-number-ne0.false))
+    let few = serial_few a.s a.spans a.packers a.bytes.now a.setups.now a.serial.now c.in_ok-record_passes.ensures refl in
+    let p = err_from_is_err_and c.from_residual-in_err-unless.result c.from_residual-in_err-unless.ensures.1 in
+    let f = failed _ _ _ c.in_err-unless.ensures in
+    let more = leb-false _ _ f.0 in
+    rw (p.1, p.2, f.1) (serial_full a.s a.spans a.packers a.bytes.now a.setups.now a.serial.now c.in_ok-record_passes.ensures refl (omega (arith, few, more)))
 
 pub put_bytes-requires : goal.put_bytes-requires
 put_bytes-requires c =
     let a = c.args in
-    omega (arith, serial_few a.s a.spans a.packers a.bytes.now a.setups.now a.serial.now c.record_number-number.ensures c.if-number-ne0.false)
+    let few = serial_few a.s a.spans a.packers a.bytes.now a.setups.now a.serial.now c.in_ok-record_passes.ensures refl in
+    let room = leb-true _ _ (passed _ _ _ c.in_ok-unless.ensures) in
+    omega (arith, few, room)
 
 pub returns : goal.returns
 returns c =
     let a = c.args in
-    serial_goes a.s a.spans a.packers a.bytes.now a.setups.now a.serial.now c.record_number-number.ensures c.if-number-ne0.false (omega (arith, serial_few a.s a.spans a.packers a.bytes.now a.setups.now a.serial.now c.record_number-number.ensures c.if-number-ne0.false)) _ c.put_bytes.ensures
+    let few = serial_few a.s a.spans a.packers a.bytes.now a.setups.now a.serial.now c.in_ok-record_passes.ensures refl in
+    let room = leb-true _ _ (passed _ _ _ c.in_ok-unless.ensures) in
+    serial_goes a.s a.spans a.packers a.bytes.now a.setups.now a.serial.now c.in_ok-record_passes.ensures refl (omega (arith, few, room)) _ c.put_bytes.ensures

@@ -1,24 +1,26 @@
--- `usbhost::write_device` meets its contract.
-use mathlib.Core.Path.{◌≡◌, refl}
-use Rattle.std.specs.Prelude.{Bool, Result, Ok, Err}
-use Rattle.std.specs.Result.{result_unwrap_or}
-use Rattle.refusal.specs.declared.Refusal.{Refusal}
-use Rattle.usbdev.specs.Answers.{written_of}
-use Rattle.usbhost.proofs.Outcomes.{write_stops, write_goes}
+-- `usbhost::write_device` meets its contract. Behind the tests the page takes the access.
+use Rattle.std.proofs.Common.{refl, ap, ◌∙◌}
+use Rattle.std.proofs.lemmas.Result.{err_from_is_err_and}
+use Rattle.usbdev.specs.Access.{writing}
+use Rattle.usbdev.specs.Answers.{Written}
+use Rattle.usbhost.proofs.Laws.{refused}
+use Rattle.usbhost.proofs.Outcomes.{accepts, write_stops, write_goes}
 use Rattle.usbhost.proofs.write_device.Goals as goal
 
-pub returns-then-number-ne0 : goal.returns-then-number-ne0
-returns-then-number-ne0 c =
+pub returns-in_err-access : goal.returns-in_err-access
+returns-in_err-access c =
     let a = c.args in
-    write_stops a.s a.spans a.packers a.setups.now a.page.now a.off a.size c.access_number-number.ensures a.v c.if-number-ne0.true
+    let p = err_from_is_err_and c.from_residual.result c.from_residual.ensures.1 in
+    rw (p.1, p.2) (write_stops a.s a.spans a.packers a.setups.now a.page.now a.off a.size c.in_err-access.ensures.number a.v (refused _))
 
--- the flag that is stored: that of an answer, or the one that went in
-flag_of : (r : Result Bool Refusal) (flag : Bool) → result_unwrap_or r flag ≡ (written_of flag r).line
-flag_of (Ok l) flag = refl
-flag_of (Err r) flag = refl
+pub returns-in_err-line : goal.returns-in_err-line
+unfolding writing
+returns-in_err-line c =
+    let a = c.args in
+    let none = accepts a.s a.spans a.packers a.setups.now a.page.now a.off a.size c.in_ok-access.ensures.number refl in
+    absurd (refused _ (ap (λ (w : Written). w.refusal) c.in_err-line.ensures.0 ∙ none))
 
 pub returns : goal.returns
 returns c =
     let a = c.args in
-    rw (c.unwrap_or-next.ensures, flag_of)
-    (write_goes a.s a.spans a.packers a.setups.now a.page.now a.off a.size c.access_number-number.ensures a.v c.if-number-ne0.false _ _ c.write-written.ensures)
+    write_goes a.s a.spans a.packers a.setups.now a.page.now a.off a.size c.in_ok-access.ensures.number a.v refl _ _ c.in_ok-line.ensures

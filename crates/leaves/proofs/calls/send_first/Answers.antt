@@ -1,11 +1,13 @@
 -- A send keeps the queue within 4,096 bytes.
-use Rattle.std.proofs.Common.{take, arith, rules}
-use Rattle.midi.specs.Packer.{sent_on}
+use Rattle.std.proofs.Common.{take, ap, arith, rules}
+use Rattle.midi.specs.Packer.{Sent, sent_on}
 use Rattle.midi.proofs.Bounds.{sent_most}
 use Rattle.leaves.proofs.calls.send_first.Goals as goal
 
-pub returns : goal.returns
+pub returns-in-Ok : goal.returns-in-Ok
 unfolding sent_on
-returns c =
+returns-in-Ok c =
     let a = c.args in
-    ((rw c.send-sent.ensures.answer (sent_most a.state.packer (take a.count a.bytes.now) a.state.queued (omega arith)), search rules), search rules)
+    let most = sent_most a.state.packer (take a.count a.bytes.now) a.state.queued (omega arith) in
+    let held = ap (λ (s : Sent). s.held) c.in-Ok.ensures.answer in
+    ((omega (arith, most, held), search rules), search rules)
