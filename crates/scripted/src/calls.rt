@@ -95,12 +95,7 @@ pub fn bad(run: Run, out: &mut [u8; 65536], at: usize) -> Next
 }
 
 // What a call of a part answers: its refusal or `ok`. A refused one leaves the state as it was.
-fn stored(
-    run: Run,
-    done: Result<State, Refusal>,
-    out: &mut [u8; 65536],
-    at: usize,
-) -> Next
+fn stored(run: Run, done: Result<State, Refusal>, out: &mut [u8; 65536], at: usize) -> Next
     requires { at ≤ 40000 }
     ensures { result.at ≤ 65536 }
 {
@@ -359,7 +354,8 @@ fn midi_queue(
     match sent {
         Ok(sent) => {
             let mut next = run;
-            next.packers = sent.packers;
+            let packers = sent.packers;
+            next.packers = packers;
             stored(next, Ok(sent.state), out, at)
         }
         Err(refusal) => stored(run, Err(refusal), out, at),
