@@ -1,7 +1,8 @@
 -- The contracts of the calls beside the list's step: what the code of each ensures of its result is the number and the record that
 -- `number_of` and `step` give, so that the claims about lists of calls are about what the code leaves. `met`: the code meets its contract.
 use Prim.Native.Nat.{ℕ}
-use mathlib.Core.Path.{◌≡◌, refl, ap}
+use Rattle.std.specs.Prelude.{Result, Ok, Err}
+use mathlib.Core.Path.{◌≡◌, refl, sym, ap, ◌∙◌}
 use seplogic.Ra.Ura.{Ura}
 use base.Logic.{SProp}
 use prog.Memory.{Memory}
@@ -63,6 +64,8 @@ use Rattle.usbhost.proofs.Host.new.Kinds as New
 use Rattle.usbhost.proofs.Host.new.Reads as New·contract
 use Rattle.usbhost.proofs.Host.new.Statement as New·code
 use Rattle.usbhost.proofs.Host.new.Met as New·proof
+use Rattle.refusal.specs.declared.Refusal.{Refusal}
+use Rattle.thin.specs.declared.Answered.{Answered}
 use Rattle.thin.specs.Thin.{answered}
 use Rattle.history.specs.Calls.{Call, microframe, midi_send, serial_send, frame_give, frame_take, device_read, device_write, step}
 use Rattle.history.specs.Accepts.{number_of, BytesLent}
@@ -132,12 +135,17 @@ pub thin_ensures : {M : Type 1} {𝓤 : Ura M} (𝓛 : Logic 𝓤) (mem : Memory
     → (Thin·spec.clauses 𝓛 mem run κs a).ensures tt r s ≡ fact 𝓤 (ThinPost κs a r s)
 thin_ensures 𝓛 mem run κs a r s = refl
 
+-- the record of its answer, refused or not
+answered_host : (r : Result Answered Refusal) (h : Host) → (answered r h).host ≡ h
+answered_host (Ok a) h = refl
+answered_host (Err e) h = refl
+
 pub thin_follows : (κs : Lfts 10) (a : Args Thin·spec.signature κs) (r : Res Thin·spec.signature κs) (s : AtExit Thin·spec.ended κs)
     → ThinPost κs a r s
     → Follows a.0.now (microframe a.1.0 (thin_lent κs a)) (answered r s.0.now).refusal s.0.now
 unfolding step number_of frame_answer
 thin_follows κs a r s p =
-    record { answers = ap (λ (x : Framed). x.refusal) p.0; leaves = ap (λ (x : Framed). x.host) p.0 }
+    record { answers = ap (λ (x : Framed). x.refusal) p.0; leaves = sym (answered_host r s.0.now) ∙ ap (λ (x : Framed). x.host) p.0 }
 
 pub thin_met : {M : Type 1} → Thin·code.statement M
 thin_met = Thin·proof.met
