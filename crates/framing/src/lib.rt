@@ -9,7 +9,7 @@ ghost use Rattle.record.specs.Change.{when};
 ghost use Rattle.record.specs.Did.{Paged};
 ghost use Rattle.model.specs.Phases.{ticks};
 ghost use Rattle.model.specs.Microframe as M;
-ghost use Rattle.midiin.specs.Promises.{Hears};
+ghost use Rattle.midiin.specs.Promises.{Room, Hears};
 ghost use Rattle.framing.specs.Promises as P;
 ghost use Rattle.record.specs.Sizes as Sizes;
 
@@ -27,7 +27,7 @@ fn midi_in(
     time: u64,
 ) -> State
     requires sized { Sized (shown dynamic.old sram.old page.old) }
-    requires received_in_bounds { (s.answer.received + 196584 ≤ length receive.old) × (s.answer.received + 196584 ≤ length cables.old) }
+    requires received_in_bounds { Room s.answer.received 196584 receive.old cables.old }
     ensures { Hears (M.midi_steps c time) s (shown dynamic.old sram.old page.old) receive.old cables.old result (shown dynamic.new sram.new page.new) receive.new cables.new }
 {
     if !c.midi_in {
@@ -101,8 +101,7 @@ pub fn streaming(
     requires in_bounds { ((Sizes.RECEIVE ≤ length receive.old) × ((Sizes.RECEIVE ≤ length cables.old) × (length received.old ≡ Sizes.RING))) × P.Flows s (length sending.now) }
     ensures { P.Transfers (M.transfers c time) s (shown dynamic.old sram.old page.old) midi.old serial.old receive.old cables.old received.old sending.now result (shown dynamic.new sram.new page.new) midi.new serial.new receive.new cables.new received.new }
 {
-    let phase = s.phase;
-    let Phase::Stream = phase else {
+    let Phase::Stream = s.phase else {
         return s;
     };
     if c.cdc {

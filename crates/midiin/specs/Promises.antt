@@ -22,6 +22,10 @@ at_cabled w s m out cs = with_cables_area (at_receive w s m out) cs
 pub record OnPage (f : Step) (p p' : List ℕ) : Type 0 where
   pub leads : (w : World) (s : State) → Leads f (at_page w s p) (at_page w s p')
 
+-- so many bytes fit behind an index of the receive area, and their cables behind the same of theirs
+abbrev pub Room : ℕ → ℕ → List ℕ → List ℕ → Type 0
+Room at n receive cables = (at + n ≤ length receive) × (at + n ≤ length cables)
+
 -- usbhost.rs 797-806, S-2: n packets of bs go into an area from index at on, and their cables into another at the same indices; the index behind them
 pub record Decodes (n : ℕ) (bs out out' cs cs' : List ℕ) (at end : ℕ) : Type 0 where
   pub area : out' ≡ sets out at (decoded n bs)

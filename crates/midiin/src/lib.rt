@@ -32,7 +32,7 @@ fn decode_packet(
     y: u8,
     z: u8,
 ) -> usize
-    requires { (at + 3 ≤ length receive.old) × (at + 3 ≤ length cables.old) }
+    requires { P.Room at 3 receive.old cables.old }
     ensures { P.Decodes 1 (header ∷ x ∷ y ∷ z ∷ []) receive.old receive.new cables.old cables.new at result }
 {
     let n = midi::byte_count(header % 16);
@@ -57,7 +57,7 @@ fn decode_packet(
 
 // The whole packets of a piece of a run.
 fn decode_piece(piece: &[u8], receive: &mut [u8], cables: &mut [u8], start: usize) -> usize
-    requires { (start + 3 * (length piece.now / 4) ≤ length receive.old) × (start + 3 * (length piece.now / 4) ≤ length cables.old) }
+    requires { P.Room start (3 * (length piece.now / 4)) receive.old cables.old }
     ensures { P.Decodes (length piece.now / 4) piece.now receive.old receive.new cables.old cables.new start result }
 {
     let mut at = start;
@@ -82,7 +82,7 @@ fn decode_some(
 ) -> usize
     requires sized { Sized (shown dynamic.now sram.now page.now) }
     requires piece_bound { from + length piece.old ≤ 32767 }
-    requires piece_in_bounds { (at + 3 * (length piece.old / 4) ≤ length receive.old) × (at + 3 * (length piece.old / 4) ≤ length cables.old) }
+    requires piece_in_bounds { P.Room at (3 * (length piece.old / 4)) receive.old cables.old }
     ensures { P.Decodes (length piece.old / 4) (T.bytes_from (shown dynamic.now sram.now page.now) pointers.now from (length piece.old)) receive.old receive.new cables.old cables.new at result }
 {
     transfer::copy_part(dynamic, sram, page, pointers, from, piece);
@@ -102,7 +102,7 @@ fn decode_run(
 ) -> usize
     requires sized { Sized (shown dynamic.now sram.now page.now) }
     requires total_bound { total ≤ 32767 }
-    requires total_in_bounds { (start + 3 * (total / 4) ≤ length receive.old) × (start + 3 * (total / 4) ≤ length cables.old) }
+    requires total_in_bounds { P.Room start (3 * (total / 4)) receive.old cables.old }
     ensures { P.Decodes (total / 4) (T.bytes_in (shown dynamic.now sram.now page.now) pointers.now total) receive.old receive.new cables.old cables.new start result }
 {
     let mut piece = [0u8; PIECE];
@@ -165,7 +165,7 @@ fn read_active(
     tok: u32,
 ) -> Read
     requires sized { Sized (shown dynamic.old sram.old page.old) }
-    requires received_in_bounds { (s.answer.received + 24573 ≤ length receive.old) × (s.answer.received + 24573 ≤ length cables.old) }
+    requires received_in_bounds { P.Room s.answer.received 24573 receive.old cables.old }
     requires page_value { D.found (D.endpoint 1 true) (shown dynamic.old sram.old page.old) ≡ Active qh td tok }
     ensures { P.ReadsOne s (shown dynamic.old sram.old page.old) receive.old cables.old result (shown dynamic.new sram.new page.new) receive.new cables.new }
 {
@@ -189,7 +189,7 @@ fn read_one(
     cables: &mut [u8],
 ) -> Read
     requires sized { Sized (shown dynamic.old sram.old page.old) }
-    requires received_in_bounds { (s.answer.received + 24573 ≤ length receive.old) × (s.answer.received + 24573 ≤ length cables.old) }
+    requires received_in_bounds { P.Room s.answer.received 24573 receive.old cables.old }
     ensures { P.ReadsOne s (shown dynamic.old sram.old page.old) receive.old cables.old result (shown dynamic.new sram.new page.new) receive.new cables.new }
 {
     match dtd::find(&*dynamic, &*sram, &*page, 1, true, MIDI_IN) {
@@ -221,7 +221,7 @@ fn read_all(
     count: u32,
 ) -> State
     requires sized { Sized (shown dynamic.old sram.old page.old) }
-    requires count_in_bounds { (s.answer.received + count * 24573 ≤ length receive.old) × (s.answer.received + count * 24573 ≤ length cables.old) }
+    requires count_in_bounds { P.Room s.answer.received (count * 24573) receive.old cables.old }
     ensures { P.Hears (M.reads count) s (shown dynamic.old sram.old page.old) receive.old cables.old result (shown dynamic.new sram.new page.new) receive.new cables.new }
 {
     let mut next = s;
@@ -271,7 +271,7 @@ pub fn midi_step(
     cables: &mut [u8],
 ) -> State
     requires sized { Sized (shown dynamic.old sram.old page.old) }
-    requires received_in_bounds { (s.answer.received + 196584 ≤ length receive.old) × (s.answer.received + 196584 ≤ length cables.old) }
+    requires received_in_bounds { P.Room s.answer.received 196584 receive.old cables.old }
     ensures { P.Hears (M.midi_in false every) s (shown dynamic.old sram.old page.old) receive.old cables.old result (shown dynamic.new sram.new page.new) receive.new cables.new }
 {
     nak(page);

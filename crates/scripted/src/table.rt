@@ -2,6 +2,7 @@
 ghost use Rattle.std.specs.Prelude.{◌+◌, ◌≤◌};
 
 use crate::calls::Run;
+use record::Counter;
 use script::text;
 use std::num::wrapping_add_u64;
 

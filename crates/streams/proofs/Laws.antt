@@ -1,15 +1,15 @@
 -- The steps of serial, MIDI and vendor transfers, from what the code does.
-use Prim.Native.Nat.{ℕ, suc, ◌+◌, ◌-◌, ◌*◌, ◌/◌, ◌≤◌, ◌<◌, min}
+use Prim.Native.Nat.{ℕ, ◌+◌, ◌-◌, ◌*◌, ◌/◌, ◌≤◌, min}
 use mathlib.Core.Bool.{Bool, true, false, not, ◌&&◌}
-use mathlib.Core.List.{List, [], ◌++◌}
+use mathlib.Core.List.{List, []}
 use mathlib.Core.Path.{◌≡◌, refl, sym, ap, ap₂, subst, ◌∙◌}
 use Rattle.std.proofs.Common.{Option, None, Some}
 use native.Mathlib.Omega.{arith}
 use native.Mathlib.Nat.{min-le_right, le_refl, le_trans, div-mul-le_self}
 use lib.Dec.{eqb}
 use borrow.Author.Tests.{eq-eqb, ne_eqb}
-use lib.ListN.{length, get_or, take, drop, set, length-drop}
-use lib.Seq.{sets, take_all, length-take-le, get_or-append-add, get_or-drop, paste, paste-suc}
+use lib.ListN.{length, take}
+use lib.Seq.{sets, take_all}
 use Rattle.bits.proofs.Tests.{and_false}
 use Rattle.bus.specs.Memory.{Memory}
 use Rattle.bus.specs.Stores as S
