@@ -1,10 +1,8 @@
 // A request on endpoint 0 that asks the device for 64 bytes, a microframe at a time: data, then status.
-ghost use Rattle.std.specs.Prelude.{◌≤◌};
 ghost use Rattle.bus.specs.Memory.{shown};
 ghost use Rattle.bus.specs.Sized.{Sized};
 
 use crate::frames;
-use runs::Filled;
 
 // A request: whether its data stage is over, and its reply so far.
 #[derive(Clone, Copy)]
@@ -31,39 +29,22 @@ pub fn posted() -> Request {
     }
 }
 
-// Input on endpoint 0 behind the first `at` bytes of a reply.
-fn fill(
-    dynamic: &mut [u8],
-    sram: &mut [u8],
-    page: &mut [u8],
-    reply: &mut [u8; 64],
-    at: usize,
-    flag: bool,
-) -> Filled
-    requires sized { Sized (shown dynamic.old sram.old page.old) }
-    requires at_bound { at ≤ 64 }
-    ensures { Sized (shown dynamic.new sram.new page.new) }
-{
-    runs::run0_in(dynamic, sram, page, reply, at, 64, flag)
-}
-
 // The data stage: input on endpoint 0, of which the reply keeps 64 bytes.
 fn data(dynamic: &mut [u8], sram: &mut [u8], page: &mut [u8], request: Request, flag: bool) -> Step
     requires { Sized (shown dynamic.old sram.old page.old) }
     ensures { Sized (shown dynamic.new sram.new page.new) }
 {
     let mut reply = request.reply;
-    let at = bits::least(request.filled, 64);
-    let filled = fill(dynamic, sram, page, &mut reply, at, flag);
+    let at = request.filled.min(64);
+    let filled = runs::run0_in(dynamic, sram, page, &mut reply, at, 64, flag);
     let ran = filled.ran;
     let end = filled.at;
-    let next = Request {
-        status: ran.done | (end == 64),
-        filled: end,
-        reply,
-    };
     Step {
-        request: next,
+        request: Request {
+            status: ran.done || end == 64,
+            filled: end,
+            reply,
+        },
         running: true,
         line: ran.line,
         dropped: ran.dropped != 0,
@@ -74,13 +55,12 @@ fn data(dynamic: &mut [u8], sram: &mut [u8], page: &mut [u8], request: Request, 
 fn status(dynamic: &mut [u8], sram: &mut [u8], page: &mut [u8], before: Step) -> Step
     requires { Sized (shown dynamic.old sram.old page.old) }
 {
-    let request = before.request;
     let ran = runs::run0_out(dynamic, sram, page, b"", before.line);
     Step {
-        request,
         running: !ran.done,
         line: ran.line,
-        dropped: before.dropped | (ran.dropped != 0),
+        dropped: before.dropped || ran.dropped != 0,
+        ..before
     }
 }
 
@@ -118,8 +98,7 @@ pub fn microframe(
 {
     let on = frames::begin(page, flag);
     let before = staged(dynamic, sram, page, request, on);
-    let after = before.request;
-    if after.status {
+    if before.request.status {
         return status(dynamic, sram, page, before);
     }
     before

@@ -1,5 +1,5 @@
 // Single runs on endpoint 2, as a microframe of a serial host does them.
-ghost use Rattle.std.specs.Prelude.{◌≡◌, ◌≤◌, length};
+ghost use Rattle.std.specs.Prelude.{◌≡◌, ◌≤◌, length, IfSome};
 ghost use Rattle.bus.specs.Memory.{shown};
 ghost use Rattle.bus.specs.Sized.{Sized};
 
@@ -30,43 +30,24 @@ fn take_in(dynamic: &[u8], sram: &[u8], page: &[u8], input: &mut [u8; 32768]) ->
     requires { Sized (shown dynamic.now sram.now page.now) }
     ensures { result ≤ 32767 }
 {
-    match dtd::find(dynamic, sram, page, 2, true, 0x4_0000) {
-        Found::Unprimed => 0,
-        Found::Ended => 0,
-        Found::Active(_, n, tok) => {
-            let count = bits::least(usbdev::total(tok) as usize, 32767);
-            let ps = transfer::pointers_for(dynamic, sram, page, bits::clear(n, 0x1F), count);
-            transfer::copy_in(dynamic, sram, page, &ps, count, input, 0);
-            count
-        }
-    }
+    let Found::Active(_, n, tok) = dtd::find(dynamic, sram, page, 2, true, 0x4_0000) else {
+        return 0;
+    };
+    let count = (usbdev::total(tok) as usize).min(32767);
+    let ps = transfer::pointers_for(dynamic, sram, page, bits::clear(n, 0x1F), count);
+    transfer::copy_in(dynamic, sram, page, &ps, count, input, 0);
+    count
 }
 
-// How many of the queued bytes go to endpoint 2's next output descriptor, and whether there is one.
-#[derive(Clone, Copy)]
-struct Asked {
-    active: bool,
-    count: usize,
-}
-
-fn wanted(dynamic: &[u8], sram: &[u8], page: &[u8], queued: usize) -> Asked
+// How many of the queued bytes go to endpoint 2's next output descriptor, where there is one.
+fn wanted(dynamic: &[u8], sram: &[u8], page: &[u8], queued: usize) -> Option<usize>
     requires { Sized (shown dynamic.now sram.now page.now) }
-    ensures { result.count ≤ queued }
+    ensures { IfSome result (λ count. count ≤ queued) }
 {
-    match dtd::find(dynamic, sram, page, 2, false, 4) {
-        Found::Unprimed => Asked {
-            active: false,
-            count: 0,
-        },
-        Found::Ended => Asked {
-            active: false,
-            count: 0,
-        },
-        Found::Active(_, _, tok) => Asked {
-            active: true,
-            count: bits::least(bits::least(usbdev::total(tok) as usize, 512), queued),
-        },
-    }
+    let Found::Active(_, _, tok) = dtd::find(dynamic, sram, page, 2, false, 4) else {
+        return None;
+    };
+    Some((usbdev::total(tok) as usize).min(512).min(queued))
 }
 
 // Input on endpoint 2.
@@ -78,7 +59,7 @@ fn receive(
     flag: bool,
 ) -> Served
     requires { Sized (shown dynamic.old sram.old page.old) }
-    ensures received_bound { result.received ≤ 32767 }
+    ensures counted { (result.received ≤ 32767) × (result.sent ≡ 0) }
     ensures sized { Sized (shown dynamic.new sram.new page.new) }
 {
     let received = take_in(&*dynamic, &*sram, &*page, input);
@@ -91,61 +72,31 @@ fn receive(
     }
 }
 
-// The first bytes of the queue go out on endpoint 2, where a descriptor is active.
-fn send(
-    dynamic: &mut [u8],
-    sram: &mut [u8],
-    page: &mut [u8],
-    queue: &[u8],
-    queued: usize,
-    before: Served,
-) -> Served
-    requires sized { Sized (shown dynamic.old sram.old page.old) }
-    requires queued_in_bounds { (queued ≤ length queue.now) × (before.received ≤ 32767) }
-    ensures { (result.received ≤ 32767) × (result.sent ≤ queued) }
-{
-    let next = wanted(&*dynamic, &*sram, &*page, queued);
-    let count = next.count;
-    if next.active {
-        let ran = dtd::run_out(dynamic, sram, page, 2, 4, &queue[..count], before.line);
-        return Served {
-            line: ran.line,
-            received: before.received,
-            sent: count,
-            dropped: before.dropped | (ran.dropped != 0),
-        };
-    }
-    Served {
-        line: before.line,
-        received: before.received,
-        sent: 0,
-        dropped: before.dropped,
-    }
-}
-
-// A microframe of a serial host that streams: input, then output where bytes are queued.
+// A microframe of a serial host that streams: input, then output where bytes are queued and a descriptor is active.
 pub fn serial(
     dynamic: &mut [u8],
     sram: &mut [u8],
     page: &mut [u8],
     queue: &[u8],
-    queued: usize,
     input: &mut [u8; 32768],
     flag: bool,
 ) -> Served
-    requires sized { Sized (shown dynamic.old sram.old page.old) }
-    requires queued_in_bounds { queued ≤ length queue.now }
-    ensures { (result.received ≤ 32767) × (result.sent ≤ queued) }
+    requires { Sized (shown dynamic.old sram.old page.old) }
+    ensures { (result.received ≤ 32767) × (result.sent ≤ length queue.now) }
 {
     let on = begin(page, flag);
     let before = receive(dynamic, sram, page, input, on);
-    if queued == 0 {
-        return Served {
-            line: before.line,
-            received: before.received,
-            sent: 0,
-            dropped: before.dropped,
-        };
+    if queue.is_empty() {
+        return before;
     }
-    send(dynamic, sram, page, queue, queued, before)
+    let Some(count) = wanted(&*dynamic, &*sram, &*page, queue.len()) else {
+        return before;
+    };
+    let ran = dtd::run_out(dynamic, sram, page, 2, 4, &queue[..count], before.line);
+    Served {
+        line: ran.line,
+        sent: count,
+        dropped: before.dropped || ran.dropped != 0,
+        ..before
+    }
 }
