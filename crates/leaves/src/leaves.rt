@@ -117,8 +117,7 @@ impl Part for Leaves {
 // The packets of some bytes behind those queued, and the packer after them.
 fn send_midi(queue: &mut Queue, packer: Packer, bytes: &[u8]) -> Result<Packer, Refusal> {
     let held = queue.held;
-    let sent = midi::send(packer, 0, bytes, &mut queue.bytes, held);
-    refusal::unless(sent.refusal == 0, Refusal::Space)?;
+    let sent = midi::send(packer, 0, bytes, &mut queue.bytes, held)?;
     queue.held = sent.held;
     Ok(sent.packer)
 }

@@ -104,11 +104,10 @@ impl<'a> Words<'a> {
     // A space and a byte string, which ends the line: its digits, two for each byte.
     pub fn digits(&mut self) -> Option<&'a [u8]> {
         let text = self.pairs()?;
-        if text.iter().all(|b| digit(*b).is_some()) {
-            Some(text)
-        } else {
-            None
+        for b in text {
+            digit(*b)?;
         }
+        Some(text)
     }
 
     // The same, stored as bytes at the start of a buffer: none is read where half the line's length does not fit.

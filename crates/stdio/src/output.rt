@@ -53,6 +53,8 @@ impl Output {
     }
 
     // Writes what the buffer holds, unless a write failed, and empties it.
+    #[cold]
+    #[inline(never)]
     pub fn flush(&mut self)
         ensures { self.new ≡ [] }
     {
