@@ -13,9 +13,8 @@ use Rattle.bus.specs.Steps.{and_then}
 use Rattle.bus.specs.Words.{word_at}
 use Rattle.bus.proofs.Sizes.{and_true}
 use Rattle.usbdev.specs.Registers.{Registers, done, raising}
-use Rattle.gptimers.specs.declared.Timer.{Timer}
 use Rattle.gptimers.specs.declared.Timers.{Timers}
-use Rattle.gptimers.specs.Timer.{ZERO, STEP, none, counting, load_register, RUN, RESET, REPEAT, load_of, after_reset, start_of, next, expired, counted_timer, ticked, ticked_both, control_of, in_range, LOWEST, HIGHEST}
+use Rattle.gptimers.specs.Timer.{Timer, ZERO, STEP, none, counting, load_register, RUN, RESET, REPEAT, load_of, after_reset, start_of, next, expired, counted_timer, ticked, ticked_both, control_of, in_range, LOWEST, HIGHEST}
 use Rattle.record.specs.World.{World}
 use Rattle.record.specs.Change.{apply, timers, popped, left, one, here}
 use Rattle.model.specs.Phases.{registers_of, counts, ticks}
