@@ -134,7 +134,15 @@ fn expire(page: &mut [u8], k: usize, bit: u32, c: u32, left: u64, flag: bool) ->
 }
 
 // Timer k after the reset, in one microframe of `step` microseconds.
-fn count(page: &mut [u8], k: usize, bit: u32, c: u32, t: Option<u64>, step: u64, flag: bool) -> Timed
+fn count(
+    page: &mut [u8],
+    k: usize,
+    bit: u32,
+    c: u32,
+    t: Option<u64>,
+    step: u64,
+    flag: bool,
+) -> Timed
     requires page_len { (length page.old ≡ PAGE) × ((k < 2) × (step ≤ 1000)) }
     requires bit_value { (bit ≡ 2 ^ (24 + k)) × (T.in_range t ≡ true) }
     ensures { (registers page.new result.line ≡ done (T.counted step k c t) (registers page.old flag)) × (result.timer ≡ T.counted_timer step k c t (registers page.old flag)) }
