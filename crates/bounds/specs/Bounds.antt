@@ -1,10 +1,9 @@
 -- The bounds of a host record (document 01, "Numbers of refusal", 5): each clause of that text stands in one of the named parts below.
-use Rattle.std.specs.Prelude.{ℕ, zero, suc, ◌+◌, ◌-◌, ◌*◌, ◌/◌, ◌%◌, ◌^◌, min, Bool, true, false, not, ◌&&◌, ◌||◌, List, [], ◌∷◌, eqb, leb, ltb}
+use Rattle.std.specs.Prelude.{Some, None, ℕ, zero, suc, ◌+◌, ◌-◌, ◌*◌, ◌/◌, ◌%◌, ◌^◌, min, Bool, true, false, not, ◌&&◌, ◌||◌, List, [], ◌∷◌, eqb, leb, ltb}
 use Rattle.midi.specs.declared.Packer.{Packer}
 use Rattle.midi.specs.Packer.{CABLES, message_length, packer_at}
-use Rattle.gptimers.specs.declared.Timer.{Timer}
 use Rattle.gptimers.specs.declared.Timers.{Timers}
-use Rattle.gptimers.specs.Timer.{ZERO}
+use Rattle.gptimers.specs.Timer.{Timer, ZERO}
 use Rattle.record.specs.declared.Ring.{Ring}
 use Rattle.record.specs.declared.Audio.{Audio}
 use Rattle.record.specs.declared.Control.{Control}
@@ -152,7 +151,8 @@ credit_ok credit n = eqb (credit % 7) 0 && leb credit (times 623 n)
 
 -- a timer that counts: not below -125 a microframe, nor above 2^24
 unfoldable pub timer_ok : Timer → ℕ → Bool
-timer_ok t n = not t.set || (leb (ZERO - times 125 n) t.count && leb t.count (ZERO + 2 ^ 24))
+timer_ok (Some count) n = leb (ZERO - times 125 n) count && leb count (ZERO + 2 ^ 24)
+timer_ok None n = true
 
 unfoldable pub timers_ok : Timers → ℕ → Bool
 timers_ok ts n = timer_ok ts.zero n && timer_ok ts.one n

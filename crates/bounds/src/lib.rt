@@ -5,7 +5,7 @@ ghost use Rattle.std.specs.Prelude.{◌≡◌, Bool, ℕ, ◌<◌};
 ghost use Rattle.record.specs.Sizes as Sizes;
 ghost use Rattle.bounds.specs.Bounds as B;
 
-use gptimers::{Timer, Timers};
+use gptimers::Timers;
 use midi::{CABLES, Packer};
 use record::{
     Audio, Control, Counter, DEVICE, Lengths, Phase, QUEUE, Ring, SETUP_BYTES, SETUPS, State,
@@ -145,23 +145,24 @@ pub fn credit_ok(credit: u64, n: u64) -> bool
 }
 
 // A timer after n microframes.
-pub fn timer_ok(t: Timer, n: u64) -> bool
-    ensures { result ≡ B.timer_ok t n }
+#[tactic(auto, unfolding(crate::specs::Bounds::timer_ok))]
+pub fn timer_ok(timer: Option<u64>, n: u64) -> bool
+    ensures { result ≡ B.timer_ok timer n }
 {
-    if !t.set {
-        return true;
+    match timer {
+        Some(count) => {
+            let least = ZERO - 125 * n.min(MOST);
+            (least <= count) & (count <= 0x4_0000_0100_0000)
+        }
+        None => true,
     }
-    let least = ZERO - 125 * n.min(MOST);
-    (least <= t.count) & (t.count <= 0x4_0000_0100_0000)
 }
 
 // Both timers.
 pub fn timers_ok(ts: Timers, n: u64) -> bool
     ensures { result ≡ B.timers_ok ts n }
 {
-    let zero = ts.zero;
-    let one = ts.one;
-    timer_ok(zero, n) & timer_ok(one, n)
+    timer_ok(ts.zero, n) & timer_ok(ts.one, n)
 }
 
 // The input budget, the block and its channels.

@@ -6,7 +6,7 @@ use mathlib.Core.Path.{◌≡◌, refl, sym, ap, subst, ◌∙◌}
 use native.Mathlib.Omega.{arith}
 use borrow.Author.Tests.{eqb-true, leb-true, lt-ltb, le-ltb}
 use lib.Dec.{eqb, leb, ltb}
-use Rattle.std.specs.Prelude.{Result, Ok, Err, OnOk}
+use Rattle.std.specs.Prelude.{Some, Result, Ok, Err, OnOk}
 use Rattle.bits.specs.Pick.{pick, pick_both}
 use Rattle.refusal.specs.declared.Refusal.{Refusal}
 use Rattle.refusal.specs.Number.{number_of}
@@ -15,17 +15,16 @@ use Rattle.bus.specs.Words.{word_at}
 use Rattle.bus.proofs.Sizes.{and_true}
 use Rattle.usbdev.specs.Registers.{Registers, registers, done, ◌then◌, raising}
 use Rattle.usbdev.proofs.Laws.{done_then}
-use Rattle.gptimers.specs.declared.Timer.{Timer}
 use Rattle.gptimers.specs.declared.Timers.{Timers}
-use Rattle.gptimers.specs.Timer.{ZERO, counting, control_register, RUN, RESET, resetting, after_reset, start_of, stopping, expiring, next, expired, counted, counted_timer, ticking, ticked, ticking_both, ticked_both, LOWEST, HIGHEST, in_range}
+use Rattle.gptimers.specs.Timer.{Timer, ZERO, counting, control_register, RUN, RESET, resetting, after_reset, start_of, stopping, expiring, next, expired, counted, counted_timer, ticking, ticked, ticking_both, ticked_both, LOWEST, HIGHEST, in_range}
 use Rattle.gptimers.specs.Checked.{refusal}
 
 -- a count that stands is within its bounds
-pub range : (t : Timer) → in_range t ≡ true → t.set ≡ true → (LOWEST ≤ t.count) × (t.count ≤ HIGHEST)
+pub range : (n : ℕ) → in_range (Some n) ≡ true → (LOWEST ≤ n) × (n ≤ HIGHEST)
 unfolding in_range
-range t e s =
-    let b = and_true (leb LOWEST t.count) (leb t.count HIGHEST) (rw s at e) in
-    (leb-true LOWEST t.count b.0, leb-true t.count HIGHEST b.1)
+range n e =
+    let b = and_true (leb LOWEST n) (leb n HIGHEST) e in
+    (leb-true LOWEST n b.0, leb-true n HIGHEST b.1)
 
 -- a reset keeps the bounds
 pub range_reset : (c : ℕ) (t : Timer) → in_range t ≡ true → in_range (after_reset c t) ≡ true

@@ -1,11 +1,10 @@
 -- The general-purpose timers in one microframe (document 01, "Timers"; usbhost.rs 741-765; MCF5441x Reference Manual, USB OTG: GPTIMERnLD, GPTIMERnCTL).
-use Rattle.std.specs.Prelude.{ℕ, ◌+◌, ◌-◌, ◌*◌, ◌^◌, Bool, true, false, ◌&&◌, List, [], ◌∷◌, leb, ltb, ℤ, pos, ◌-ℤ◌}
+use Rattle.std.specs.Prelude.{ℕ, ◌+◌, ◌-◌, ◌*◌, ◌^◌, Bool, true, ◌&&◌, Option, Some, None, List, [], ◌∷◌, leb, ltb, ℤ, pos, ◌-ℤ◌}
 use Rattle.std.specs.Int.Bits.{bit_and}
 use Rattle.bits.specs.Pick.{pick}
 use Rattle.bits.specs.Word.{clear, any}
 use Rattle.bus.specs.Words.{word_at}
 use Rattle.usbdev.specs.Registers.{Registers, put, PageStep, done, ◌then◌, raising}
-use Rattle.gptimers.specs.declared.Timer.{Timer}
 use Rattle.gptimers.specs.declared.Timers.{Timers}
 
 -- a count of microseconds is kept as a natural number: this one stands for 0, and lower ones for what is below zero
@@ -20,12 +19,21 @@ signed n = pos n -ℤ pos ZERO
 abbrev pub STEP : ℕ
 STEP = 125
 
+-- a timer: its count, where one stands
+abbrev pub Timer : Type 0
+Timer = Option ℕ
+
 -- a timer that is not loaded, and one that counts
 abbrev pub none : Timer
-none = record { set = false; count = 0 }
+none = None
 
 abbrev pub counting : ℕ → Timer
-counting n = record { set = true; count = n }
+counting n = Some n
+
+-- the count, 0 where none stands
+abbrev pub count_of : Timer → ℕ
+count_of None = 0
+count_of (Some n) = n
 
 -- 743: the offsets of timer k's load and control registers
 abbrev pub load_register : ℕ → ℕ
@@ -59,7 +67,8 @@ after_reset c t = pick (any c RESET) none t
 
 -- 752: the count of a timer t, or the load where none stands
 unfoldable pub start_of : ℕ → Timer → List ℕ → ℕ
-start_of k t p = pick t.set t.count (ZERO + load_of k p)
+start_of k (Some n) p = n
+start_of k None p = ZERO + load_of k p
 
 -- 758-759: one that does not repeat stops; the word stored is the one first read, so a reset bit returns
 unfoldable pub stopping : ℕ → ℕ → PageStep
@@ -118,4 +127,5 @@ abbrev pub HIGHEST : ℕ
 HIGHEST = ZERO + 2 ^ 24
 
 unfoldable pub in_range : Timer → Bool
-in_range t = pick t.set (leb LOWEST t.count && leb t.count HIGHEST) true
+in_range (Some n) = leb LOWEST n && leb n HIGHEST
+in_range None = true

@@ -24,24 +24,17 @@ const RESET: u32 = 0x4000_0000;
 
 const REPEAT: u32 = 0x100_0000;
 
-// A timer's count, where one stands.
-#[derive(Clone, Copy, Debug, PartialEq, Eq)]
-pub struct Timer {
-    pub set: bool,
-    pub count: u64,
-}
-
-// Both timers of the controller.
+// Both timers of the controller: the count of each, where one stands.
 #[derive(Clone, Copy, Debug, PartialEq, Eq)]
 pub struct Timers {
-    pub zero: Timer,
-    pub one: Timer,
+    pub zero: Option<u64>,
+    pub one: Option<u64>,
 }
 
 // A timer after a microframe, and the line's flag.
 #[derive(Clone, Copy)]
 pub struct Timed {
-    pub timer: Timer,
+    pub timer: Option<u64>,
     pub line: bool,
 }
 
@@ -52,47 +45,36 @@ pub struct TimedBoth {
     pub line: bool,
 }
 
-impl Timer {
-    // A timer that is not loaded.
-    pub fn none() -> Timer
-        ensures { result ≡ T.none }
-    {
-        Timer {
-            set: false,
-            count: 0,
-        }
-    }
-
-    // Whether its count is within the bounds of number 5.
-    pub fn in_range(self) -> bool
-        ensures { result ≡ T.in_range self }
-    {
-        if self.set {
-            return (0x3_8300_0000_0000 <= self.count) & (self.count <= 0x4_0000_0100_0000);
-        }
-        true
-    }
-
-    // The timer once its control word's reset bit was seen.
-    fn after_reset(self, c: u32) -> Timer
-        ensures { result ≡ T.after_reset c self }
-    {
-        if bits::any(c, RESET) {
-            return Timer::none();
-        }
-        self
+// Whether a count that stands is within the bounds of number 5.
+#[tactic(auto, unfolding(crate::specs::Timer::in_range))]
+pub fn in_range(timer: Option<u64>) -> bool
+    ensures { result ≡ T.in_range timer }
+{
+    match timer {
+        Some(count) => (0x3_8300_0000_0000 <= count) & (count <= 0x4_0000_0100_0000),
+        None => true,
     }
 }
 
+// A timer once its control word's reset bit was seen.
+#[tactic(auto, unfolding(crate::specs::Timer::after_reset))]
+fn after_reset(timer: Option<u64>, c: u32) -> Option<u64>
+    ensures { result ≡ T.after_reset c timer }
+{
+    if bits::any(c, RESET) { None } else { timer }
+}
+
 // The 24 bits of timer k's load register.
+#[tactic(auto, unfolding(crate::specs::Timer::load_of))]
 fn load_of(page: &[u8], k: usize) -> u64
     requires { (length page.now ≡ PAGE) × (k < 2) }
     ensures { (result ≡ T.load_of k page.now) × (result < 2 ^ 24) }
 {
-    (word_at(page, 0x80 + 8 * k) & 0xFF_FFFF) as u64
+    u64::from(word_at(page, 0x80 + 8 * k) & 0xFF_FFFF)
 }
 
 // Takes the reset bit out of timer k's control word.
+#[tactic(auto, unfolding(crate::specs::Timer::resetting, usbdev::specs::Registers::store))]
 fn reset(page: &mut [u8], k: usize, c: u32)
     requires { (length page.old ≡ PAGE) × (k < 2) }
     ensures { (l : Bool) → registers page.new l ≡ done (T.resetting k c) (registers page.old l) }
@@ -103,18 +85,20 @@ fn reset(page: &mut [u8], k: usize, c: u32)
 }
 
 // Where the count of timer k starts in a microframe.
-fn start_of(page: &[u8], k: usize, t: Timer) -> u64
+#[tactic(auto, using(crate::proofs::Laws::range), unfolding(crate::specs::Timer::start_of))]
+fn start_of(page: &[u8], k: usize, t: Option<u64>) -> u64
     requires page_len { (length page.now ≡ PAGE) × (k < 2) }
     requires t_value { T.in_range t ≡ true }
     ensures { (result ≡ T.start_of k t page.now) × ((1000 ≤ result) × (result ≤ T.HIGHEST)) }
 {
-    if t.set {
-        return t.count;
+    match t {
+        Some(count) => count,
+        None => ZERO + load_of(page, k),
     }
-    ZERO + load_of(page, k)
 }
 
 // Stops timer k unless it repeats: the control word is stored as first read, without its run bit.
+#[tactic(auto, unfolding(crate::specs::Timer::stopping, usbdev::specs::Registers::store))]
 fn stop(page: &mut [u8], k: usize, c: u32)
     requires { (length page.old ≡ PAGE) × (k < 2) }
     ensures { (l : Bool) → registers page.new l ≡ done (T.stopping k c) (registers page.old l) }
@@ -126,17 +110,15 @@ fn stop(page: &mut [u8], k: usize, c: u32)
 }
 
 // How timer k stands after it expired with `left` below zero.
-fn next_of(page: &[u8], k: usize, c: u32, left: u64) -> Timer
+#[tactic(auto, unfolding(crate::specs::Timer::next))]
+fn next_of(page: &[u8], k: usize, c: u32, left: u64) -> Option<u64>
     requires { (length page.now ≡ PAGE) × ((k < 2) × (left < T.ZERO)) }
     ensures { result ≡ T.next k c left page.now }
 {
     if bits::any(c, REPEAT) {
-        return Timer {
-            set: true,
-            count: left + 1 + load_of(page, k),
-        };
+        return Some(left + 1 + load_of(page, k));
     }
-    Timer::none()
+    None
 }
 
 // Timer k, whose bit of USBSTS is `bit`, expires with `left` below zero.
@@ -152,7 +134,15 @@ fn expire(page: &mut [u8], k: usize, bit: u32, c: u32, left: u64, flag: bool) ->
 }
 
 // Timer k after the reset, in one microframe of `step` microseconds.
-fn count(page: &mut [u8], k: usize, bit: u32, c: u32, t: Timer, step: u64, flag: bool) -> Timed
+fn count(
+    page: &mut [u8],
+    k: usize,
+    bit: u32,
+    c: u32,
+    t: Option<u64>,
+    step: u64,
+    flag: bool,
+) -> Timed
     requires page_len { (length page.old ≡ PAGE) × ((k < 2) × (step ≤ 1000)) }
     requires bit_value { (bit ≡ 2 ^ (24 + k)) × (T.in_range t ≡ true) }
     ensures { (registers page.new result.line ≡ done (T.counted step k c t) (registers page.old flag)) × (result.timer ≡ T.counted_timer step k c t (registers page.old flag)) }
@@ -163,10 +153,7 @@ fn count(page: &mut [u8], k: usize, bit: u32, c: u32, t: Timer, step: u64, flag:
             return expire(page, k, bit, c, left, flag);
         }
         return Timed {
-            timer: Timer {
-                set: true,
-                count: left,
-            },
+            timer: Some(left),
             line: flag,
         };
     }
@@ -177,14 +164,14 @@ fn count(page: &mut [u8], k: usize, bit: u32, c: u32, t: Timer, step: u64, flag:
 }
 
 // One microframe of timer k, whose bit of USBSTS is `bit`.
-fn gptimer(page: &mut [u8], k: usize, bit: u32, t: Timer, step: u64, flag: bool) -> Timed
+fn gptimer(page: &mut [u8], k: usize, bit: u32, t: Option<u64>, step: u64, flag: bool) -> Timed
     requires page_len { (length page.old ≡ PAGE) × ((k < 2) × (step ≤ 1000)) }
     requires bit_value { (bit ≡ 2 ^ (24 + k)) × (T.in_range t ≡ true) }
     ensures { (registers page.new result.line ≡ done (T.ticking step k t) (registers page.old flag)) × (result.timer ≡ T.ticked step k t (registers page.old flag)) }
 {
     let c = word_at(&*page, 0x84 + 8 * k);
     reset(page, k, c);
-    let kept = t.after_reset(c);
+    let kept = after_reset(t, c);
     count(page, k, bit, c, kept, step, flag)
 }
 
@@ -196,10 +183,11 @@ pub fn gptimers(page: &mut [u8], ts: Timers, step: u64, flag: bool) -> TimedBoth
 {
     let first = gptimer(page, 0, 0x100_0000, ts.zero, step, flag);
     let second = gptimer(page, 1, 0x200_0000, ts.one, step, first.line);
-    let zero = first.timer;
-    let one = second.timer;
     TimedBoth {
-        timers: Timers { zero, one },
+        timers: Timers {
+            zero: first.timer,
+            one: second.timer,
+        },
         line: second.line,
     }
 }
@@ -211,9 +199,7 @@ fn accept(ts: Timers, len: usize) -> Result<(), Refusal>
     ensures inside { OnOk result ((len ≡ PAGE) × ((T.in_range ts.zero ≡ true) × (T.in_range ts.one ≡ true))) }
 {
     unless(len == bus::PAGE, Refusal::Windows)?;
-    let zero = ts.zero;
-    let one = ts.one;
-    unless(zero.in_range() & one.in_range(), Refusal::Bounds)
+    unless(in_range(ts.zero) & in_range(ts.one), Refusal::Bounds)
 }
 
 // Both timers in one microframe at high speed, on a page of any length and with any counts. A refusal leaves timers, flag and page.

@@ -23,9 +23,8 @@ use Rattle.usbdev.specs.Registers.{Registers, PageStore, put, irq, PageStep, on_
 use Rattle.usbdev.specs.Transfer.{total_of, token_after, next_frindex}
 use Rattle.transfer.specs.Transfer.{tabulate, bytes_in}
 use Rattle.dtd.specs.Dtd.{Run, endpoint, bit_of, descriptor, token_of, moves, bytes_of, data_out, framed, closing, completing, advancing, retiring, turning, following, joined, turns, settled, run_dtds, terminates, is_active, interrupts, primed, most, queue_head, next_dtd}
-use Rattle.gptimers.specs.declared.Timer.{Timer}
 use Rattle.gptimers.specs.declared.Timers.{Timers}
-use Rattle.gptimers.specs.Timer.{ZERO, STEP, RUN, RESET, REPEAT, control_register, start_of, resetting, stopping, expiring, counted, control_of, after_reset, ticking, ticking_both}
+use Rattle.gptimers.specs.Timer.{Timer, ZERO, STEP, RUN, RESET, REPEAT, control_register, start_of, resetting, stopping, expiring, counted, control_of, after_reset, ticking, ticking_both}
 use Rattle.config.specs.Config.{Bytes as AllBytes}
 use Rattle.record.specs.World.{World, bus_of}
 use Rattle.record.specs.Change.{apply, on_page}

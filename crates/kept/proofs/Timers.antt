@@ -1,21 +1,21 @@
 -- The timers: a count that stands loses at most 125 in a microframe, and is never above 2^24 (document 01, number 5).
 use Prim.Native.Nat.{ℕ, ◌+◌, ◌-◌, ◌^◌, ◌≤◌, ◌<◌}
 use mathlib.Core.Path.{◌≡◌, refl}
-use mathlib.Core.Bool.{Bool, true, false, not, ◌&&◌, ◌||◌}
+use mathlib.Core.Bool.{Bool, true, false}
 use mathlib.Core.List.{List}
 use native.Mathlib.Omega.{arith}
 use lib.Bits.{and_le_r}
 use lib.Dec.{leb, ltb}
 use borrow.Author.Tests.{leb-true, le-leb, ltb-true}
+use Rattle.std.specs.Prelude.{Some, None}
 use Rattle.bits.specs.Pick.{pick, pick_both}
 use Rattle.bits.specs.Word.{any}
 use Rattle.bus.specs.Steps.{and_then}
 use Rattle.bus.specs.Words.{word_at}
 use Rattle.bus.proofs.Sizes.{and_true}
 use Rattle.usbdev.specs.Registers.{Registers, done, raising}
-use Rattle.gptimers.specs.declared.Timer.{Timer}
 use Rattle.gptimers.specs.declared.Timers.{Timers}
-use Rattle.gptimers.specs.Timer.{ZERO, STEP, none, counting, load_register, RUN, RESET, REPEAT, load_of, after_reset, start_of, next, expired, counted_timer, ticked, ticked_both, control_of, in_range, LOWEST, HIGHEST}
+use Rattle.gptimers.specs.Timer.{Timer, ZERO, STEP, counting, load_register, RUN, RESET, REPEAT, load_of, after_reset, start_of, next, expired, counted_timer, ticked, ticked_both, control_of, in_range, LOWEST, HIGHEST}
 use Rattle.record.specs.World.{World}
 use Rattle.record.specs.Change.{apply, timers, popped, left, one, here}
 use Rattle.model.specs.Phases.{registers_of, counts, ticks}
@@ -25,43 +25,37 @@ use Rattle.model.proofs.Holding.{holds_seq}
 use Rattle.model.proofs.Walk.{on_page_lem, adds_any, clears_any}
 use Rattle.kept.proofs.Every.{Each, every_microframe}
 
--- a timer that stands, stands within these
+-- a count that stands, stands within these
 abbrev pub Within : ℕ → Timer → Type 0
-Within low t = t.set ≡ true → (low ≤ t.count) × (t.count ≤ HIGHEST)
-
-by_set : (s : Bool) (x : Bool) → not s || x ≡ true → s ≡ true → x ≡ true
-by_set true x e h = e
-by_set false x e h = let z : ◌≡◌ {A = ℕ} 0 1 = cc in absurd (omega arith)
+Within low (Some count) = (low ≤ count) × (count ≤ HIGHEST)
+Within low None = Unit {0}
 
 pub within : (t : Timer) (n : ℕ) → timer_ok t n ≡ true → Within (ZERO - times 125 n) t
 unfolding timer_ok
-within t n e h =
-    let b = and_true (leb (ZERO - times 125 n) t.count) (leb t.count HIGHEST) (by_set t.set _ e h) in
-    (leb-true (ZERO - times 125 n) t.count b.0, leb-true t.count HIGHEST b.1)
+within (Some count) n e =
+    let b = and_true (leb (ZERO - times 125 n) count) (leb count HIGHEST) e in
+    (leb-true (ZERO - times 125 n) count b.0, leb-true count HIGHEST b.1)
+within None n e = tt
 
 pub within_ok : (t : Timer) (n : ℕ) → Within (ZERO - times 125 n) t → timer_ok t n ≡ true
 unfolding timer_ok
-within_ok t n h = by_stands t.set refl
-  where
-    by_stands : (s : Bool) → t.set ≡ s → not s || (leb (ZERO - times 125 n) t.count && leb t.count HIGHEST) ≡ true
-    by_stands true e = simp (le-leb (ZERO - times 125 n) t.count (h e).0, le-leb t.count HIGHEST (h e).1)
-    by_stands false e = refl
+within_ok (Some count) n h = simp (le-leb (ZERO - times 125 n) count h.0, le-leb count HIGHEST h.1)
+within_ok None n h = refl
+
+-- a lower bound serves too
+within_less : (low next : ℕ) (t : Timer) → next ≤ low → Within low t → Within next t
+within_less low next (Some count) l h = (omega (arith, h.0), h.1)
+within_less low next None l h = tt
 
 load_le : (k : ℕ) (p : List ℕ) → load_of k p ≤ 0xFFFFFF
 unfolding load_of
 load_le k p = and_le_r (word_at p (load_register k)) 0xFFFFFF
 
 module _ (low : ℕ) (some : 125 ≤ low) (below : low ≤ ZERO) where
-  none_within : (x : ℕ) → Within x none
-  none_within x h = let z : ◌≡◌ {A = ℕ} 0 1 = cc in absurd (omega arith)
-
   start_within : (k : ℕ) (t : Timer) (p : List ℕ) → Within low t → (low ≤ start_of k t p) × (start_of k t p ≤ HIGHEST)
   unfolding start_of
-  start_within k t p h = by_stands t.set refl
-    where
-      by_stands : (s : Bool) → t.set ≡ s → (low ≤ pick s t.count (ZERO + load_of k p)) × (pick s t.count (ZERO + load_of k p) ≤ HIGHEST)
-      by_stands true e = h e
-      by_stands false e = let l = load_le k p in (omega arith, omega arith)
+  start_within k (Some count) p h = h
+  start_within k None p h = let l = load_le k p in (omega arith, omega arith)
 
   module _ (k c : ℕ) (t : Timer) (r : Registers) (h : Within low t) where
     abbrev rest : ℕ
@@ -72,17 +66,17 @@ module _ (low : ℕ) (some : 125 ≤ low) (below : low ≤ ZERO) where
     expired_within l =
         let s = start_within k t r.page h in
         let d = load_le k (done (raising (2 ^ (24 + k))) r).page in
-        pick_both (Within (low - 125)) (any c REPEAT) (λ e. (omega arith, omega arith)) (none_within _)
+        pick_both (Within (low - 125)) (any c REPEAT) (omega arith, omega arith) tt
 
     going_within : Within (low - 125) (counting rest)
-    going_within e = let s = start_within k t r.page h in (omega arith, omega arith)
+    going_within = let s = start_within k t r.page h in (omega arith, omega arith)
 
     by_zero : (b : Bool) → ltb rest ZERO ≡ b → Within (low - 125) (pick b (expired k c rest r) (counting rest))
     by_zero true e = expired_within (ltb-true rest ZERO e)
     by_zero false e = going_within
 
     less : Within (low - 125) t
-    less e = let s = h e in (omega arith, omega arith)
+    less = within_less low (low - 125) t (omega arith) h
 
     counted_within : Within (low - 125) (counted_timer STEP k c t r)
     unfolding counted_timer
@@ -90,7 +84,7 @@ module _ (low : ℕ) (some : 125 ≤ low) (below : low ≤ ZERO) where
 
   reset_within : (c : ℕ) (t : Timer) → Within low t → Within low (after_reset c t)
   unfolding after_reset
-  reset_within c t h = pick_both (Within low) (any c RESET) (none_within low) h
+  reset_within c t h = pick_both (Within low) (any c RESET) tt h
 
   ticked_within : (k : ℕ) (t : Timer) (r : Registers) → Within low t → Within (low - 125) (ticked STEP k t r)
   unfolding ticked
@@ -109,14 +103,14 @@ both_timers ts n e = and_true (timer_ok ts.zero n) (timer_ok ts.one n) e
 module _ (n : ℕ) (few : n < MOST) where
   -- one microframe more
   next_low : (t : Timer) → Within (ZERO - times 125 n - 125) t → timer_ok t (n + 1) ≡ true
-  next_low t h = within_ok t (n + 1) (λ e. let s = h e in (omega arith, s.1))
+  next_low t h = within_ok t (n + 1) (within_less (ZERO - times 125 n - 125) (ZERO - times 125 (n + 1)) t (omega arith) h)
 
   timer_ticked : (k : ℕ) (t : Timer) (r : Registers) → timer_ok t n ≡ true → timer_ok (ticked STEP k t r) (n + 1) ≡ true
   timer_ticked k t r e =
       next_low (ticked STEP k t r) (ticked_within (ZERO - times 125 n) (omega arith) (omega arith) k t r (within t n e))
 
   timer_rests : (t : Timer) → timer_ok t n ≡ true → timer_ok t (n + 1) ≡ true
-  timer_rests t e = next_low t (λ s. let b = within t n e s in (omega arith, b.1))
+  timer_rests t e = next_low t (within_less (ZERO - times 125 n) (ZERO - times 125 n - 125) t (omega arith) (within t n e))
 
   timers_ticked : (ts : Timers) (r : Registers) → timers_ok ts n ≡ true → timers_ok (ticked_both STEP ts r) (n + 1) ≡ true
   unfolding ticked_both
@@ -199,13 +193,10 @@ timers_kept n few =
 
 range_of : (t : Timer) (n : ℕ) → n ≤ MOST → timer_ok t n ≡ true → in_range t ≡ true
 unfolding in_range
-range_of t n few e = by_stands t.set refl
-  where
-    by_stands : (s : Bool) → t.set ≡ s → pick s (leb LOWEST t.count && leb t.count HIGHEST) true ≡ true
-    by_stands true h =
-        let b = within t n e h in
-        simp (le-leb LOWEST t.count (omega arith), le-leb t.count HIGHEST b.1)
-    by_stands false h = refl
+range_of (Some count) n few e =
+    let b = within (Some count) n e in
+    simp (le-leb LOWEST count (omega (arith, b.0)), le-leb count HIGHEST b.1)
+range_of None n few e = refl
 
 pub timers_range : (ts : Timers) (n : ℕ) → n ≤ MOST → timers_ok ts n ≡ true → (in_range ts.zero ≡ true) × (in_range ts.one ≡ true)
 timers_range ts n few e =

@@ -4,7 +4,7 @@ ghost use Rattle.script.specs.Fnv.{START, mixed_all};
 ghost use Rattle.midi.specs.Packer.{held_bytes};
 
 use bench::{Memory, Part, Queue};
-use gptimers::{Timer, Timers};
+use gptimers::Timers;
 use midi::Packer;
 use refusal::Refusal;
 use script::words::{self, Words};
@@ -125,8 +125,8 @@ fn send_midi(queue: &mut Queue, packer: Packer, bytes: &[u8]) -> Result<Packer, 
 // Neither timer is loaded.
 fn no_timers() -> Timers {
     Timers {
-        zero: Timer::none(),
-        one: Timer::none(),
+        zero: None,
+        one: None,
     }
 }
 
@@ -144,13 +144,10 @@ fn device_read(line: &[u8], page: &[u8], out: &mut Output) -> Option<()> {
 }
 
 // Whether a timer is loaded, and its count in two's complement.
-fn show_timer(timer: Timer, out: &mut Output) {
-    answers::flag(out, timer.set);
-    let mut count = 0;
-    if timer.set {
-        count = timer.count.wrapping_sub(gptimers::ZERO);
-    }
-    answers::field(out, count);
+fn show_timer(timer: Option<u64>, out: &mut Output) {
+    answers::flag(out, timer.is_some());
+    let count = timer.unwrap_or(gptimers::ZERO);
+    answers::field(out, count.wrapping_sub(gptimers::ZERO));
 }
 
 fn show_timers(timers: Timers, on: bool, out: &mut Output) {

@@ -2,7 +2,6 @@
 ghost use Rattle.std.specs.Prelude.{◌≡◌, length};
 ghost use Rattle.record.specs.Sizes as Sizes;
 
-use gptimers::Timers;
 use midi::Packer;
 use record::{Audio, Lengths, Phase, Stage, State};
 use std::num::wrapping_add_usize;
@@ -87,13 +86,6 @@ fn same_lengths(a: Lengths, b: Lengths) -> bool {
         & (a.config == b.config)
 }
 
-fn same_timers(a: Timers, b: Timers) -> bool {
-    (a.zero.set == b.zero.set)
-        & (a.zero.count == b.zero.count)
-        & (a.one.set == b.one.set)
-        & (a.one.count == b.one.count)
-}
-
 // The phase and the request.
 fn same_run(a: State, b: State) -> bool {
     let phase = a.phase;
@@ -117,7 +109,7 @@ pub fn same_state(a: State, b: State) -> bool {
         & same_audio(a.audio, b.audio)
         & same_stats(a, b)
         & same_lengths(a.lengths, b.lengths)
-        & same_timers(a.timers, b.timers)
+        & (a.timers == b.timers)
 }
 
 fn same_packer(a: Packer, b: Packer) -> bool {

@@ -21,9 +21,8 @@ use Rattle.usbdev.specs.Offsets.{USBSTS, EPCR0}
 use Rattle.usbdev.specs.Registers as R
 use Rattle.usbdev.specs.Registers.{Registers, registers, PageStore, put, irq, store, PageStep, lifted, setting, following, raising}
 use Rattle.usbdev.proofs.Laws.{Inside, on_bus_lem}
-use Rattle.gptimers.specs.declared.Timer.{Timer}
 use Rattle.gptimers.specs.declared.Timers.{Timers}
-use Rattle.gptimers.specs.Timer.{ZERO, STEP, RUN, RESET, REPEAT, control_register, start_of, resetting, stopping, expiring, counted, control_of, after_reset, ticking, ticking_both}
+use Rattle.gptimers.specs.Timer.{Timer, ZERO, STEP, RUN, RESET, REPEAT, control_register, start_of, resetting, stopping, expiring, counted, control_of, after_reset, ticking, ticking_both}
 use Rattle.record.specs.declared.Settings.{Settings}
 use Rattle.record.specs.World.{World, bus_of}
 use Rattle.record.specs.Change.{Change, apply, Step, left, ◌then◌, nothing, if, one, here, on_page}

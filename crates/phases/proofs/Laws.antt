@@ -9,9 +9,8 @@ use Rattle.bus.specs.Words.{word_at, word_put}
 use Rattle.usbdev.specs.Registers as R
 use Rattle.usbdev.specs.Registers.{Registers, registers, PageStore, put, irq, PageStep, store, done, setting, following, raising}
 use Rattle.usbdev.proofs.Laws.{Inside, done_then}
-use Rattle.gptimers.specs.declared.Timer.{Timer}
 use Rattle.gptimers.specs.declared.Timers.{Timers}
-use Rattle.gptimers.specs.Timer.{ZERO, RUN, RESET, REPEAT, resetting, after_reset, start_of, stopping, expiring, counted, control_of, ticking, ticking_both}
+use Rattle.gptimers.specs.Timer.{Timer, ZERO, RUN, RESET, REPEAT, resetting, after_reset, start_of, stopping, expiring, counted, control_of, ticking, ticking_both}
 use Rattle.bits.proofs.Lists.{sets_append}
 use Rattle.record.specs.declared.Phase.{Phase}
 use Rattle.record.specs.declared.State.{State}

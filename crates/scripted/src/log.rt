@@ -1,7 +1,7 @@
 // The lines that show the host record: what a microframe logs, and an observation.
 ghost use Rattle.std.specs.Prelude.{◌+◌, ◌*◌, ◌<◌, ◌≤◌, length};
 
-use gptimers::{Timer, Timers};
+use gptimers::Timers;
 use midi::{CABLES, Packer};
 use record::{Answer, Audio, Control, Phase, Ring, Stage, State};
 use script::{hash, text};
@@ -200,19 +200,19 @@ fn show_held(state: State, out: &mut [u8; 65536], at: usize) -> usize
 }
 
 // Whether a timer is loaded, and its count in two's complement.
-fn show_timer(timer: Timer, out: &mut [u8; 65536], at: usize) -> usize
+fn show_timer(timer: Option<u64>, out: &mut [u8; 65536], at: usize) -> usize
     requires { at + 34 ≤ 65536 }
     ensures { result ≤ at + 34 }
 {
-    let end = text::flag(out, at, timer.set);
-    if timer.set {
-        return text::field(
+    let end = text::flag(out, at, timer.is_some());
+    match timer {
+        Some(count) => text::field(
             out,
             end,
-            std::num::wrapping_sub_u64(timer.count, gptimers::ZERO),
-        );
+            std::num::wrapping_sub_u64(count, gptimers::ZERO),
+        ),
+        None => text::field(out, end, 0),
     }
-    text::field(out, end, 0)
 }
 
 // Fields 17 to 23.

@@ -18,7 +18,7 @@ ghost use Rattle.record.specs.Record.{no_span, counter_of, in_frames, out_frames
 ghost use Rattle.record.specs.World.{own, lent};
 ghost use Rattle.usbhost.specs.Host.{state_of, host_of, host_with, no_settings, new_host, created, created_by};
 
-use gptimers::{Timer, Timers};
+use gptimers::Timers;
 use midi::{CABLES, Packer};
 use record::{
     Answer, Audio, Control, Counter, DEVICE, Lengths, Phase, Port, QUEUE, RECEIVE, REPLY, RING,
@@ -163,8 +163,8 @@ pub fn new_state() -> State
             t0: 0,
         },
         timers: Timers {
-            zero: Timer::none(),
-            one: Timer::none(),
+            zero: None,
+            one: None,
         },
         stats: [0; record::COUNTERS],
         lengths: Lengths {

@@ -14,7 +14,7 @@ use Rattle.usbdev.specs.Registers.{registers, store, on_bus, line_of, following,
 use Rattle.usbdev.specs.Access.{fits, refusal, listed, listing, writing_word, write_sized, written}
 use Rattle.usbdev.specs.Transfer.{next_frindex, total_of, token_after}
 use Rattle.transfer.specs.Transfer.{pointers, data_addr, stores, sending}
-use Rattle.gptimers.specs.Timer.{none, signed, load_of, resetting, after_reset, start_of, stopping, expiring, next, expired, counted, counted_timer, ticking, ticked, ticking_both, ticked_both}
+use Rattle.gptimers.specs.Timer.{none, count_of, signed, load_of, resetting, after_reset, start_of, stopping, expiring, next, expired, counted, counted_timer, ticking, ticked, ticking_both, ticked_both}
 use Rattle.config.specs.Config.{cut, member, placed, chosen, step, walked, parsed}
 use Rattle.dtd.specs.Dtd.{token_of, primed, queue_head, next_of, moves, bytes_of, data_out, framed, closing, completing, advancing, retiring, followed, turning, joined, turns, list_ends, unpriming, reporting, settling, settled, run_dtds}
 use Rattle.dtd.specs.Dtd as D
@@ -65,7 +65,7 @@ after_ticks (suc n) w = after_ticks n (left ticks w)
 
 -- what timer 0's count means, and whether its bit of USBSTS is set
 abbrev pub count : World → ℕ → ℤ
-count w n = signed (after_ticks n (repeating w)).state.timers.zero.count
+count w n = signed (count_of (after_ticks n (repeating w)).state.timers.zero)
 
 abbrev pub raised : World → ℕ → Bool
 raised w n = any (word_at (after_ticks n (repeating w)).lent.memory.page USBSTS) (2 ^ 24)
