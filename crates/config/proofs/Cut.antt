@@ -1,6 +1,6 @@
 -- Cutting bytes into descriptors: fuel for as many as there are bytes is enough, a whole descriptor is taken, anything else is the end.
 use mathlib.Core.Path.{◌≡◌, refl, sym, ap, ◌∙◌}
-use mathlib.Core.Bool.{Bool, true, false, ◌&&◌}
+use mathlib.Core.Bool.{true, false}
 use mathlib.Core.List.{List, [], ◌∷◌}
 use Prim.Native.Nat.{ℕ, zero, suc, ◌-◌, ◌≤◌}
 use native.Mathlib.Omega.{arith}
@@ -8,14 +8,9 @@ use native.Mathlib.Decide.{le_ind}
 use borrow.Author.Tests.{lt-leb, leb-true}
 use lib.ListN.{length, take, drop, length-drop}
 use lib.Dec.{leb}
+use Rattle.bits.proofs.Tests.{and_first, and_second}
 use Rattle.config.specs.Config.{Walk, at, whole, cut, descriptors, step, walked}
 use Rattle.config.proofs.Cases.{by_test}
-
-three : (a b c : Bool) → a && (b && c) ≡ true → (a ≡ true) × (b ≡ true) × (c ≡ true)
-three true true true e = (refl, refl, refl)
-three true true false e = let z : ◌≡◌ {A = ℕ} 0 1 = cc in absurd (omega arith)
-three true false c e = let z : ◌≡◌ {A = ℕ} 0 1 = cc in absurd (omega arith)
-three false b c e = let z : ◌≡◌ {A = ℕ} 0 1 = cc in absurd (omega arith)
 
 cut_more : (k : ℕ) (r : List ℕ) → length r ≤ k → cut (suc k) r ≡ cut k r
 unfolding cut
@@ -23,8 +18,8 @@ cut_more zero r h = simp (lt-leb 2 (length r) (omega arith))
 cut_more (suc k) r h =
     by_test (whole r)
     (λ w.
-    let t = three (leb 2 (length r)) (leb 2 (at r 0)) (leb (at r 0) (length r)) w in
-    rw w (ap (λ l. take (at r 0) r ∷ l) (cut_more k (drop (at r 0) r) (simp length-drop (omega (arith, leb-true 2 (at r 0) t.1))))))
+    let two = leb-true 2 (at r 0) (and_first (leb 2 (at r 0)) _ (and_second (leb 2 (length r)) _ w)) in
+    rw w (ap (λ l. take (at r 0) r ∷ l) (cut_more k (drop (at r 0) r) (simp length-drop (omega arith)))))
     (λ w. rw w)
 
 cut_enough : (k : ℕ) (r : List ℕ) → length r ≤ k → cut k r ≡ descriptors r
@@ -45,9 +40,8 @@ module _ (r : List ℕ) where
 
   cut_on : whole r ≡ true → descriptors r ≡ take (at r 0) r ∷ descriptors (drop (at r 0) r)
   cut_on w =
-      let t = three (leb 2 (length r)) (leb 2 (at r 0)) (leb (at r 0) (length r)) w in
-      let two = leb-true 2 (length r) t.0 in
-      let n = leb-true 2 (at r 0) t.1 in
+      let two = leb-true 2 (length r) (and_first (leb 2 (length r)) _ w) in
+      let n = leb-true 2 (at r 0) (and_first (leb 2 (at r 0)) _ (and_second (leb 2 (length r)) _ w)) in
       let e : length r ≡ suc (length r - 1) = omega arith in
       ap (λ (k : ℕ). cut k r) e ∙ take_one (length r - 1) w
       ∙ ap (λ l. take (at r 0) r ∷ l) (cut_enough (length r - 1) _ (simp length-drop (omega arith)))

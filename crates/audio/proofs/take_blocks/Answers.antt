@@ -1,20 +1,14 @@
 -- `audio::take_blocks` meets its contract.
-use Rattle.std.proofs.Common.{sym, refl, subst}
+use Rattle.std.proofs.Common.{refl}
 use Rattle.bus.specs.Memory.{shown}
-use Rattle.blocks.specs.declared.Decoded.{Decoded}
-use Rattle.blocks.specs.Promises.{InRing}
 use Rattle.audio.proofs.Laws.{few_bytes, input_steps}
 use Rattle.audio.proofs.take_blocks.Goals as goal
 
-pub pointers_for-ps-requires : goal.pointers_for-ps-requires
-pointers_for-ps-requires c = record { sized = c.requires.sized; total_bound = few_bytes c.args.tok _ c.total-total.ensures }
+pub pointers_for-ps-requires-clause-total_bound : goal.pointers_for-ps-requires-clause-total_bound
+pointers_for-ps-requires-clause-total_bound c = few_bytes c.args.tok _ c.total-total.ensures
 
-pub decode_run-d-requires : goal.decode_run-d-requires
-decode_run-d-requires c = record {
-  sized = c.requires.sized;
-  total_bound = few_bytes c.args.tok _ c.total-total.ensures;
-  in_ring = (subst (λ (x : Decoded). InRing x.ring) (sym c.decoded_of-before.ensures.value) c.requires.in_ring.0, c.requires.in_ring.1);
-}
+pub decode_run-d-requires-clause-total_bound : goal.decode_run-d-requires-clause-total_bound
+decode_run-d-requires-clause-total_bound c = few_bytes c.args.tok _ c.total-total.ensures
 
 pub returns : goal.returns
 returns c =
