@@ -33,15 +33,6 @@ fn answered(answer: Result<u32, Refusal>) -> u64
     }
 }
 
-fn flag(b: bool) -> u32
-    ensures { (result ≡ Answers.flag b) × (result < 2) }
-{
-    if b {
-        return 1;
-    }
-    0
-}
-
 // A device read of size bytes at an offset of the register page: refusal * 2^32 + value.
 #[unsafe(no_mangle)]
 pub extern "C" fn usb_device_read(page: &[u8], offset: u32, size: u32) -> u64
@@ -62,8 +53,8 @@ pub extern "C" fn usb_device_write(
     ensures { (result ≡ Answers.of_written (Access.writing (registers page.old line) offset size value)) × (page.new ≡ Access.written (registers page.old line) offset size value) }
 {
     match usbdev::write(page, offset, size, value, line) {
-        Ok(next) => above(0, flag(next)),
-        Err(refusal) => above(refusal.number(), flag(line)),
+        Ok(next) => above(0, u32::from(next)),
+        Err(refusal) => above(refusal.number(), u32::from(line)),
     }
 }
 
@@ -120,11 +111,11 @@ pub extern "C" fn usb_parse_config(
 fn of_packer(p: Packer) -> u64
     ensures { (result ≡ Answers.of_packer p) × (result < 2 ^ 40) }
 {
-    (flag(p.sysex) as u64) * 0x1_0000_0000
-        + (p.held as u64) * 0x100_0000
-        + (p.second as u64) * 0x1_0000
-        + (p.first as u64) * 0x100
-        + (p.status as u64)
+    u64::from(p.sysex) * 0x1_0000_0000
+        + u64::from(p.held) * 0x100_0000
+        + u64::from(p.second) * 0x1_0000
+        + u64::from(p.first) * 0x100
+        + u64::from(p.status)
 }
 
 fn packer_of(n: u64) -> Packer
