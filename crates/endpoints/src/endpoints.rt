@@ -11,14 +11,13 @@ use script::words::{self, Words};
 use script::{answers, hash};
 use stdio::Output;
 
-// A run is of a control request or of a serial host; one that is not live ignores lines up to the next `n`.
+// A run is of a control request, where there is one, or of a serial host; one that is not live ignores lines up to the next `n`.
 #[derive(Drop)]
 pub struct Endpoints {
     live: bool,
     line: bool,
     queue: Queue,
-    control: bool,
-    request: Request,
+    request: Option<Request>,
 }
 
 impl Endpoints {
@@ -27,8 +26,7 @@ impl Endpoints {
             live: false,
             line: false,
             queue: Queue::new(),
-            control: false,
-            request: control::posted(),
+            request: None,
         }
     }
 
@@ -55,13 +53,14 @@ impl Endpoints {
         dynamic: &mut [u8],
         sram: &mut [u8],
         page: &mut [u8],
+        request: Request,
         out: &mut Output,
     )
         requires { Sized (shown dynamic.old sram.old page.old) }
     {
-        let step = control::microframe(dynamic, sram, page, self.request, self.line);
+        let step = control::microframe(dynamic, sram, page, request, self.line);
         self.line = step.line;
-        self.request = step.request;
+        self.request = Some(step.request);
         self.live = step.running && !step.dropped;
         if step.dropped {
             out.append(b"outside\n");
@@ -115,10 +114,9 @@ impl Endpoints {
     // The same over windows of any lengths.
     fn serve(&mut self, dynamic: &mut [u8], sram: &mut [u8], page: &mut [u8], out: &mut Output) {
         if bus::sized(&*dynamic, &*sram, &*page) {
-            if self.control {
-                self.serve_control(dynamic, sram, page, out);
-            } else {
-                self.serve_serial(dynamic, sram, page, out);
+            match self.request {
+                Some(request) => self.serve_control(dynamic, sram, page, request, out),
+                None => self.serve_serial(dynamic, sram, page, out),
             }
         } else {
             answers::refused(out, Refusal::Windows);
@@ -133,11 +131,13 @@ impl Part for Endpoints {
         for _ in 0..3 {
             let _ = words.word();
         }
-        self.control = words.word() == Some(0);
         self.live = true;
         self.line = false;
         self.queue.clear();
-        self.request = control::posted();
+        self.request = None;
+        if words.word() == Some(0) {
+            self.request = Some(control::posted());
+        }
     }
 
     fn answer(&mut self, line: &[u8], memory: &mut Memory, out: &mut Output) -> Option<()> {

@@ -1,14 +1,11 @@
 // What a run of the leaf crates has, and their answer to each line.
-ghost use Rattle.std.specs.Prelude.{◌≡◌, ◌≤◌};
-ghost use Rattle.script.specs.Fnv.{START, mixed_all};
-ghost use Rattle.midi.specs.Packer.{held_bytes};
-
 use bench::{Memory, Part, Queue};
 use gptimers::Timers;
 use midi::Packer;
 use refusal::Refusal;
 use script::words::{self, Words};
 use script::{answers, hash};
+use shown::{held_hash, show_packer, show_timer};
 use stdio::Output;
 
 // The interrupt line, the timers, and the packer with its queue.
@@ -143,35 +140,10 @@ fn device_read(line: &[u8], page: &[u8], out: &mut Output) -> Option<()> {
     Some(())
 }
 
-// Whether a timer is loaded, and its count in two's complement.
-fn show_timer(timer: Option<u64>, out: &mut Output) {
-    answers::flag(out, timer.is_some());
-    let count = timer.unwrap_or(gptimers::ZERO);
-    answers::field(out, count.wrapping_sub(gptimers::ZERO));
-}
-
 fn show_timers(timers: Timers, on: bool, out: &mut Output) {
     out.put(b'u');
     show_timer(timers.zero, out);
     show_timer(timers.one, out);
     answers::flag(out, on);
     out.put(b'\n');
-}
-
-// The hash of the bytes that a packer holds.
-fn held_hash(packer: Packer) -> u64
-    ensures { result ≡ mixed_all START (held_bytes packer) }
-{
-    match packer.held {
-        0 => hash::START,
-        1 => hash::mixed(hash::START, packer.first),
-        _ => hash::mixed(hash::mixed(hash::START, packer.first), packer.second),
-    }
-}
-
-// The packer's status, how many bytes it holds, and whether it is inside SysEx.
-fn show_packer(packer: Packer, out: &mut Output) {
-    answers::field(out, u64::from(packer.status));
-    answers::field(out, u64::from(packer.held));
-    answers::flag(out, packer.sysex);
 }

@@ -2,7 +2,7 @@
 use Rattle.std.proofs.Common.{arith}
 use Rattle.std.proofs.lemmas.Grind.{common_steps}
 use Rattle.script.specs.Fnv.{mixed_all}
-use Rattle.leaves.proofs.leaves.held_hash.Goals as goal
+use Rattle.shown.proofs.held_hash.Goals as goal
 
 pub returns-in-0 : goal.returns-in-0
 unfolding mixed_all
