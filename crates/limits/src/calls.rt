@@ -1,51 +1,51 @@
-// Each call but the microframe on a case, with what it must leave: a refusal everything as it was, an accepted one as much new as it adds.
-ghost use Rattle.std.specs.Prelude.{◌≤◌};
-
-use crate::case;
-use crate::same::{MARK, changed, changed_words};
+// Each call but the microframe on a case, with what it must leave of what it is lent: a refusal everything, an accepted one as much new as it adds.
+use crate::case::{Field, Row};
+use crate::marks::{MARK, WORD_MARK, changed};
 use refusal::Refusal;
+use std::fmt;
 
-// What a call answered: its number, and whether it left what it must.
+// What a call answered: its refusal, or none, and whether it left what it must.
 #[derive(Clone, Copy)]
 pub struct Seen {
-    pub number: u8,
+    pub refusal: Option<Refusal>,
     pub right: bool,
 }
 
-// 0, or the number of a refusal.
-pub fn number<T>(done: &Result<T, Refusal>) -> u8 {
-    match done {
-        Ok(_) => 0,
-        Err(refusal) => refusal.number(),
+impl Seen {
+    // A call of which only a refusal is judged.
+    pub fn judged<A: Drop>(called: Result<A, Refusal>, kept: bool) -> Seen {
+        Seen {
+            right: called.is_ok() | kept,
+            refusal: called.err(),
+        }
+    }
+
+    // A call that changes so much of an area where it is accepted.
+    fn added<A: Drop>(called: Result<A, Refusal>, change: usize, adds: usize) -> Seen {
+        let expected = if called.is_ok() { adds } else { 0 };
+        Seen {
+            right: change == expected,
+            refusal: called.err(),
+        }
     }
 }
 
-// A call of which only a refusal is judged.
-pub fn judged(number: u8, kept: bool) -> Seen {
-    Seen {
-        number,
-        right: (number == 0) | kept,
+// The number of a refusal, or 0.
+pub fn number(refusal: Option<Refusal>) -> u8 {
+    refusal.map_or(0, |refusal| refusal.number())
+}
+
+// The number, with a mark where the call did not leave what it must.
+impl fmt::Display for Seen {
+    fn fmt<W: fmt::Write>(&self, f: &mut fmt::Formatter<W>) -> fmt::Result {
+        let number = number(self.refusal);
+        write!(f, "{number}")?;
+        if self.right {
+            Ok(())
+        } else {
+            f.write_str(" WRONG")
+        }
     }
-}
-
-// A call that changes so much of an area where it is accepted.
-fn added(number: u8, kept: bool, change: usize, adds: usize) -> Seen {
-    let expected = if number == 0 { adds } else { 0 };
-    Seen {
-        number,
-        right: ((number == 0) | kept) & (change == expected),
-    }
-}
-
-// As much as is asked for, and no more than there is.
-pub fn least(a: u64, b: usize) -> usize
-    ensures { result ≤ b }
-{
-    bits::least(a as usize, b)
-}
-
-fn low(v: u64) -> u32 {
-    (v % 0x1_0000_0000) as u32
 }
 
 // Byte i of a queue of addresses.
@@ -58,115 +58,99 @@ fn address(i: usize) -> u8 {
 }
 
 pub fn addresses() -> [u8; record::SETUP_BYTES] {
-    let mut queue = [0u8; record::SETUP_BYTES];
-    let mut i = 0;
-    while i < record::SETUP_BYTES {
-        queue[i] = address(i);
-        i += 1;
-    }
-    queue
-}
-
-pub fn are_addresses(queue: &[u8; record::SETUP_BYTES]) -> bool {
-    let mut i = 0;
-    while i < record::SETUP_BYTES {
-        if queue[i] != address(i) {
-            return false;
-        }
-        i += 1;
-    }
-    true
-}
-
-fn queued(queue: &[u8; record::QUEUE]) -> usize {
-    changed(queue)
+    std::array::from_fn(address)
 }
 
 // A realtime byte makes a packet whatever the packer holds; another is accepted only by rows in which it makes none.
-fn packet_bytes(byte: u8, n: usize) -> usize {
-    if byte < 0xF8 {
-        return 0;
+fn packet_bytes(bytes: &[u8]) -> usize {
+    match bytes {
+        [0xF8..=0xFF, ..] => 4,
+        _ => 0,
     }
-    if n == 0 { 0 } else { 4 }
 }
 
 // One byte sent on a cable, or none.
-pub fn midi_sent(v: [u64; case::FIELDS]) -> Seen {
-    let state = case::state(v);
-    let packers = case::packers(v);
-    let setups = addresses();
+pub fn midi_sent(row: &Row) -> Seen {
     let mut queue = [MARK; record::QUEUE];
-    let spans = v[case::SPANS] as usize;
-    let cable = case::byte(v[case::CABLE]);
-    let byte = case::byte(v[case::MIDI_BYTE]);
-    let bytes = [byte];
-    let n = least(v[case::MIDI_BYTES], 1);
-    let part = &bytes[..n];
-    let sent = usbhost::send_midi(state, spans, packers, cable, part, &setups, &mut queue);
-    added(number(&sent), true, queued(&queue), packet_bytes(byte, n))
+    let byte = [row.byte(Field::MidiByte)];
+    let bytes = row.first(Field::MidiBytes, &byte);
+    let sent = usbhost::send_midi(
+        row.state(),
+        row.size(Field::Spans),
+        row.packers(),
+        row.byte(Field::Cable),
+        bytes,
+        &addresses(),
+        &mut queue,
+    );
+    Seen::added(sent, changed(&queue, MARK), packet_bytes(bytes))
 }
 
 // The first of these bytes sent.
-pub fn serial_sent(v: [u64; case::FIELDS], bytes: &[u8]) -> Seen {
-    let n = least(v[case::BYTES], bytes.len());
-    let state = case::state(v);
-    let packers = case::packers(v);
-    let setups = addresses();
+pub fn serial_sent(row: &Row, bytes: &[u8]) -> Seen {
     let mut queue = [MARK; record::QUEUE];
-    let spans = v[case::SPANS] as usize;
-    let part = &bytes[..n];
-    let sent = usbhost::send_serial(state, spans, packers, part, &setups, &mut queue);
-    added(number(&sent), true, queued(&queue), n)
+    let part = row.first(Field::Bytes, bytes);
+    let sent = usbhost::send_serial(
+        row.state(),
+        row.size(Field::Spans),
+        row.packers(),
+        part,
+        &addresses(),
+        &mut queue,
+    );
+    Seen::added(sent, changed(&queue, MARK), part.len())
 }
 
 // The first of these words given to the first of a ring of marks.
-pub fn given(v: [u64; case::FIELDS], frame: &[u32], ring: &mut [u32]) -> Seen {
-    let n = least(v[case::FRAME], frame.len());
-    let words = least(v[case::SENDING_RING], ring.len());
-    let state = case::state(v);
-    let packers = case::packers(v);
-    let setups = addresses();
-    let spans = v[case::SPANS] as usize;
-    let part = &frame[..n];
-    let sending = &mut ring[..words];
-    let done = usbhost::give_frame(state, spans, packers, part, &setups, sending);
-    added(number(&done), true, changed_words(&*ring), 12)
+pub fn given(row: &Row, frame: &[u32], ring: &mut [u32]) -> Seen {
+    let done = usbhost::give_frame(
+        row.state(),
+        row.size(Field::Spans),
+        row.packers(),
+        row.first(Field::Frame, frame),
+        &addresses(),
+        row.first_mut(Field::SendingRing, ring),
+    );
+    Seen::added(done, changed(&*ring, WORD_MARK), 12)
 }
 
 // A frame taken from the first of a ring.
-pub fn taken(v: [u64; case::FIELDS], ring: &[u32]) -> Seen {
-    let words = least(v[case::RECEIVED_RING], ring.len());
-    let state = case::state(v);
-    let packers = case::packers(v);
-    let setups = addresses();
-    let spans = v[case::SPANS] as usize;
-    let done = usbhost::take_frame(state, spans, packers, &setups, &ring[..words]);
-    judged(number(&done), true)
+pub fn taken(row: &Row, ring: &[u32]) -> Seen {
+    let done = usbhost::take_frame(
+        row.state(),
+        row.size(Field::Spans),
+        row.packers(),
+        &addresses(),
+        row.first(Field::ReceivedRing, ring),
+    );
+    Seen::judged(done, true)
 }
 
-pub fn device_read(v: [u64; case::FIELDS], page: &[u8]) -> Seen {
-    let n = least(v[case::PAGE], page.len());
-    let state = case::state(v);
-    let packers = case::packers(v);
-    let setups = addresses();
-    let spans = v[case::SPANS] as usize;
-    let off = low(v[case::OFFSET]);
-    let size = low(v[case::SIZE]);
-    let part = &page[..n];
-    let done = usbhost::read_device(state, spans, packers, &setups, part, off, size);
-    judged(number(&done), true)
+pub fn device_read(row: &Row, page: &[u8]) -> Seen {
+    let done = usbhost::read_device(
+        row.state(),
+        row.size(Field::Spans),
+        row.packers(),
+        &addresses(),
+        row.first(Field::Page, page),
+        row.word(Field::Offset),
+        row.word(Field::Size),
+    );
+    Seen::judged(done, true)
 }
 
 // On the first of a page of marks.
-pub fn device_written(v: [u64; case::FIELDS], page: &mut [u8]) -> Seen {
-    let n = least(v[case::PAGE], page.len());
-    let state = case::state(v);
-    let packers = case::packers(v);
-    let setups = addresses();
-    let spans = v[case::SPANS] as usize;
-    let off = low(v[case::OFFSET]);
-    let size = low(v[case::SIZE]);
-    let part = &mut page[..n];
-    let done = usbhost::write_device(state, spans, packers, &setups, part, off, size, 0x0102_0304);
-    added(number(&done), true, changed(&*page), size as usize)
+pub fn device_written(row: &Row, page: &mut [u8]) -> Seen {
+    let size = row.word(Field::Size);
+    let done = usbhost::write_device(
+        row.state(),
+        row.size(Field::Spans),
+        row.packers(),
+        &addresses(),
+        row.first_mut(Field::Page, page),
+        row.word(Field::Offset),
+        size,
+        0x0102_0304,
+    );
+    Seen::added(done, changed(&*page, MARK), size as usize)
 }

@@ -1,128 +1,77 @@
 // A microframe on real areas of the lengths of a case.
-use crate::calls::{Seen, addresses, are_addresses, judged, least, number};
-use crate::case;
-use crate::same::{MARK, changed, changed_words, marks, word_marks};
+use crate::calls::{Seen, addresses};
+use crate::case::{Field, Row};
+use crate::marks::{MARK, WORD_MARK, changed};
 
-fn same_arrays(
-    setups: &[u8; record::SETUP_BYTES],
-    midi: &[u8; record::QUEUE],
-    serial: &[u8; record::QUEUE],
-    device: &[u8; record::DEVICE],
-) -> bool {
-    are_addresses(setups) & (changed(midi) == 0) & (changed(serial) == 0) & (changed(device) == 0)
+// The areas that a microframe is lent.
+#[derive(Clone, Copy)]
+struct Areas {
+    dynamic: [u8; record::RECEIVE],
+    sram: [u8; record::RECEIVE],
+    page: [u8; record::RECEIVE],
+    reply: [u8; record::RECEIVE],
+    config: [u8; record::RECEIVE],
+    receive: [u8; record::RECEIVE],
+    cables: [u8; record::RECEIVE],
+    received: [u32; 576_012],
+    sending: [u32; 576_012],
 }
 
-fn same_area(area: &[u8; record::RECEIVE]) -> bool {
-    changed(area) == 0
+impl Areas {
+    // Whether they hold marks alone.
+    fn are_marks(&self) -> bool {
+        (changed(&self.dynamic, MARK) == 0)
+            & (changed(&self.sram, MARK) == 0)
+            & (changed(&self.page, MARK) == 0)
+            & (changed(&self.reply, MARK) == 0)
+            & (changed(&self.config, MARK) == 0)
+            & (changed(&self.receive, MARK) == 0)
+            & (changed(&self.cables, MARK) == 0)
+            & (changed(&self.received, WORD_MARK) == 0)
+    }
 }
 
-fn same_ring(ring: &[u32; 576_012]) -> bool {
-    changed_words(ring) == 0
-}
-
-// On the record's own arrays.
-fn run(
-    v: [u64; case::FIELDS],
-    dynamic: &mut [u8],
-    sram: &mut [u8],
-    page: &mut [u8],
-    reply: &mut [u8],
-    config: &mut [u8],
-    receive: &mut [u8],
-    cables: &mut [u8],
-    received: &mut [u32],
-    sending: &[u32],
-) -> Seen {
-    let state = case::state(v);
+// On the first of each area, as much as the case says, and on the record's own arrays.
+fn run(row: &Row, areas: &mut Areas) -> Seen {
     let mut setups = addresses();
     let mut midi = [MARK; record::QUEUE];
     let mut serial = [MARK; record::QUEUE];
-    let mut device = [MARK; 64];
+    let mut device = [MARK; record::DEVICE];
     let done = usbhost::run_microframe(
-        state,
-        case::settings(v),
-        case::packers(v),
+        row.state(),
+        row.settings(),
+        row.packers(),
         &mut setups,
         &mut midi,
         &mut serial,
         &mut device,
-        dynamic,
-        sram,
-        page,
-        reply,
-        config,
-        receive,
-        cables,
-        received,
-        sending,
+        row.first_mut(Field::Dynamic, &mut areas.dynamic),
+        row.first_mut(Field::Static, &mut areas.sram),
+        row.first_mut(Field::Page, &mut areas.page),
+        row.first_mut(Field::ReplyArea, &mut areas.reply),
+        row.first_mut(Field::ConfigArea, &mut areas.config),
+        row.first_mut(Field::ReceiveArea, &mut areas.receive),
+        row.first_mut(Field::CablesArea, &mut areas.cables),
+        row.first_mut(Field::ReceivedRing, &mut areas.received),
+        row.first(Field::SendingRing, &areas.sending),
         0,
     );
-    let arrays = same_arrays(&setups, &midi, &serial, &device);
-    judged(number(&done), arrays)
+    let queues = (changed(&midi, MARK) == 0) & (changed(&serial, MARK) == 0);
+    let arrays = (setups == addresses()) & queues & (changed(&device, MARK) == 0);
+    Seen::judged(done, arrays & areas.are_marks())
 }
 
-// On the first of each area, as much as the case says.
-fn cut(
-    v: [u64; case::FIELDS],
-    dynamic: &mut [u8],
-    sram: &mut [u8],
-    page: &mut [u8],
-    reply: &mut [u8],
-    config: &mut [u8],
-    receive: &mut [u8],
-    cables: &mut [u8],
-    received: &mut [u32],
-    sending: &[u32],
-) -> Seen {
-    let d = least(v[case::DYNAMIC], dynamic.len());
-    let s = least(v[case::STATIC], sram.len());
-    let p = least(v[case::PAGE], page.len());
-    let r = least(v[case::REPLY_AREA], reply.len());
-    let g = least(v[case::CONFIG_AREA], config.len());
-    let e = least(v[case::RECEIVE_AREA], receive.len());
-    let c = least(v[case::CABLES_AREA], cables.len());
-    let w = least(v[case::RECEIVED_RING], received.len());
-    let x = least(v[case::SENDING_RING], sending.len());
-    run(
-        v,
-        &mut dynamic[..d],
-        &mut sram[..s],
-        &mut page[..p],
-        &mut reply[..r],
-        &mut config[..g],
-        &mut receive[..e],
-        &mut cables[..c],
-        &mut received[..w],
-        &sending[..x],
-    )
-}
-
-pub fn microframe(v: [u64; case::FIELDS]) -> Seen {
-    let mut dynamic = marks();
-    let mut sram = marks();
-    let mut page = marks();
-    let mut reply = marks();
-    let mut config = marks();
-    let mut receive = marks();
-    let mut cables = marks();
-    let mut received = word_marks();
-    let sending = word_marks();
-    let ran = cut(
-        v,
-        &mut dynamic,
-        &mut sram,
-        &mut page,
-        &mut reply,
-        &mut config,
-        &mut receive,
-        &mut cables,
-        &mut received,
-        &sending,
-    );
-    let windows = same_area(&dynamic) & same_area(&sram) & same_area(&page);
-    let areas = same_area(&reply) & same_area(&config) & same_area(&receive) & same_area(&cables);
-    judged(
-        ran.number,
-        ran.right & windows & areas & same_ring(&received),
-    )
+pub fn microframe(row: &Row) -> Seen {
+    let mut areas = Areas {
+        dynamic: [MARK; record::RECEIVE],
+        sram: [MARK; record::RECEIVE],
+        page: [MARK; record::RECEIVE],
+        reply: [MARK; record::RECEIVE],
+        config: [MARK; record::RECEIVE],
+        receive: [MARK; record::RECEIVE],
+        cables: [MARK; record::RECEIVE],
+        received: [WORD_MARK; 576_012],
+        sending: [WORD_MARK; 576_012],
+    };
+    run(row, &mut areas)
 }

@@ -4,30 +4,29 @@
 mod calls;
 mod case;
 mod frame;
+mod marks;
 mod rows;
-mod same;
 mod show;
 
-// Whether every line was written.
-fn all(rt: HostRuntime) -> bool {
-    if !show::print(
-        rt,
-        b"numbers of microframe, MIDI send, serial send, frame given, frame taken, device read, device write\n",
-    ) {
-        return false;
+use std::io;
+
+fn list(rt: &impl Print) -> io::Result<()> {
+    println!(rt;
+        "numbers of microframe, MIDI send, serial send, frame given, frame taken, device read, device write"
+    )?;
+    show::rows(rt, &rows::lengths())?;
+    show::rows(rt, &rows::fields())?;
+    show::rows(rt, &rows::cables())?;
+    for cable in 0..midi::CABLES as u64 {
+        show::rows(rt, &rows::packers(cable))?;
     }
-    let mut i = 0;
-    while i < rows::ROWS {
-        if !show::line(rt, rows::row(i)) {
-            return false;
-        }
-        i += 1;
-    }
-    show::created(rt, 16) && show::created(rt, 17)
+    show::rows(rt, &rows::rings())?;
+    show::created(rt, 16)?;
+    show::created(rt, 17)
 }
 
 fn main(rt: HostRuntime) {
-    if !all(rt) {
+    if list(&rt).is_err() {
         let _ = eprintln!(rt;
             "limits: standard output could not be written; the list is not whole"
         );

@@ -2,5 +2,5 @@
 #![tactic(auto)]
 
 fn main(rt: HostRuntime) {
-    reader::run(rt, false);
+    reader::replay(rt);
 }

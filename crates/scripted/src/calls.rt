@@ -1,695 +1,295 @@
-// The state of a run, and the calls that a line makes beside microframes.
-// An answer has at most 16,387 bytes, so that one that starts at 40,000 or before is inside the output's buffer.
-ghost use Rattle.std.specs.Prelude.{◌+◌, ◌*◌, ◌<◌, ◌≤◌, length};
+// The calls that a line makes beside microframes. A bad line has no answer, and leaves the run as it was.
+ghost use Rattle.std.specs.Prelude.{◌≡◌, IsNone};
 
-use crate::log::Came;
-use crate::{log, turns};
-use midi::{CABLES, Packer};
-use record::{Settings, State};
+use crate::areas::{Areas, first_mut};
+use crate::log;
+use crate::run::{Mode, Run};
+use crate::start::read_flag;
+use record::State;
 use refusal::Refusal;
-use script::parse::Word;
-use script::{hash, parse, text, windows};
+use script::words::Words;
+use script::{answers, hash};
+use stdio::Output;
 
-// What a run holds beside its areas: `length` bytes of dynamic memory, `space` frames of the sending ring, the microframes that are still asked
-// for, how many calls were refused and bytes dropped, and what came in all. A run that is not live passes over its lines; behind a bad line all
-// lines are passed over. A run that goes `through`, by a line of its own or because its program `always` does, stays live where a byte was dropped.
-#[derive(Clone, Copy)]
-pub struct Run {
-    pub number: u64,
-    pub live: bool,
-    pub stopped: bool,
-    pub through: bool,
-    pub always: bool,
-    pub mode: u8,
-    pub length: usize,
-    pub space: usize,
-    pub left: u64,
-    pub time: u64,
-    pub step: u64,
-    pub refused: u64,
-    pub dropped: u64,
-    pub settings: Settings,
-    pub state: State,
-    pub packers: [Packer; CABLES],
-    pub all: Came,
+// The number that ends a line.
+fn read_last(words: &mut Words) -> Option<u64> {
+    let number = words.number()?;
+    words.end()?;
+    Some(number)
 }
 
-// The run after a line, and where the output's answers end.
-#[derive(Clone, Copy)]
-pub struct Next {
-    pub run: Run,
-    pub at: usize,
-}
-
-// A run's state at its start.
-pub fn fresh(
-    number: u64,
-    live: bool,
-    through: bool,
-    length: usize,
-    space: usize,
-    settings: Settings,
-) -> Run {
-    Run {
-        number,
-        live,
-        stopped: false,
-        through,
-        always: through,
-        mode: 1,
-        length,
-        space,
-        left: 0,
-        time: 0,
-        step: 0,
-        refused: 0,
-        dropped: 0,
-        settings,
-        state: usbhost::new_state(),
-        packers: [Packer::new(); CABLES],
-        all: log::nothing_came(),
+// Twelve words, which end a line.
+fn read_frame(words: &mut Words) -> Option<[u32; 12]> {
+    let mut frame = [0; 12];
+    for word in &mut frame {
+        *word = words.word()?;
     }
+    words.end()?;
+    Some(frame)
 }
 
-// The words of a ring of `space` frames, or of all that fit in `most` words.
-pub fn ring_words(space: usize, most: usize) -> usize
-    ensures { result ≤ most }
-{
-    bits::least(space, most / 12) * 12
-}
+impl Run {
+    // `h M`: what a microframe logs.
+    pub(crate) fn set_mode(&mut self, words: &mut Words) -> Option<()>
+        ensures { IsNone result → self.new ≡ self.old }
+    {
+        self.mode = match read_last(words)? {
+            0 => Mode::Nothing,
+            1 => Mode::Record,
+            2 => Mode::Areas,
+            _ => return None,
+        };
+        Some(())
+    }
 
-fn with_state(run: Run, state: State) -> Run {
-    let mut next = run;
-    next.state = state;
-    next
-}
+    // `j GO`: whether the run goes on where a byte was dropped.
+    pub(crate) fn set_through(&mut self, words: &mut Words) -> Option<()>
+        ensures { IsNone result → self.new ≡ self.old }
+    {
+        let go = read_flag(words)?;
+        words.end()?;
+        self.through = self.always | go;
+        Some(())
+    }
 
-pub fn bad(run: Run, out: &mut [u8; 65536], at: usize) -> Next
-    requires { at ≤ 40000 }
-    ensures { result.at ≤ 65536 }
-{
-    let mut next = run;
-    next.stopped = true;
-    let end = text::bad_line(out, at);
-    Next { run: next, at: end }
-}
+    // `x 1` and `x 2`: what else the last microframe answered.
+    pub(crate) fn show_answer(
+        &self,
+        words: &mut Words,
+        areas: &Areas,
+        out: &mut Output,
+    ) -> Option<()> {
+        match read_last(words)? {
+            1 => log::show_counts(self.state.answer, out),
+            2 => log::show_cables(self, areas, out),
+            _ => return None,
+        }
+        Some(())
+    }
 
-// What a call of a part answers: its refusal or `ok`. A refused one leaves the state as it was.
-fn stored(run: Run, done: Result<State, Refusal>, out: &mut [u8; 65536], at: usize) -> Next
-    requires { at ≤ 40000 }
-    ensures { result.at ≤ 65536 }
-{
-    match done {
-        Ok(state) => Next {
-            run: with_state(run, state),
-            at: text::outcome(out, at, 0),
-        },
-        Err(refusal) => {
-            let number = refusal.number();
-            let mut next = run;
-            next.refused = turns::counted(run.refused, number);
-            Next {
-                run: next,
-                at: text::outcome(out, at, number),
+    // A refused call.
+    fn refuse(&mut self, refusal: Refusal, out: &mut Output) {
+        self.count_refused();
+        answers::refused(out, refusal);
+    }
+
+    // The answer to a call that gives nothing but the state that follows.
+    fn store(&mut self, called: Result<State, Refusal>, out: &mut Output) {
+        match called {
+            Ok(state) => {
+                self.state = state;
+                out.append(b"ok\n");
             }
+            Err(refusal) => self.refuse(refusal, out),
         }
     }
-}
 
-// The number behind a line's letter, good where nothing follows it.
-fn alone(line: &[u8]) -> Word {
-    let mut word = parse::read_word(line, 1);
-    word.good = word.good & (word.next == line.len());
-    word
-}
-
-// `h M`: what a microframe logs.
-fn set_mode(run: Run, line: &[u8], out: &mut [u8; 65536], at: usize) -> Next
-    requires { at ≤ 40000 }
-    ensures { result.at ≤ 65536 }
-{
-    let mode = alone(line);
-    if mode.good & (mode.value <= 2) {
-        let mut next = run;
-        next.mode = (mode.value % 256) as u8;
-        return Next { run: next, at };
-    }
-    bad(run, out, at)
-}
-
-// `j GO`: whether the run goes on where a byte was dropped.
-fn set_through(run: Run, line: &[u8], out: &mut [u8; 65536], at: usize) -> Next
-    requires { at ≤ 40000 }
-    ensures { result.at ≤ 65536 }
-{
-    let go = alone(line);
-    if go.good & (go.value <= 1) {
-        let mut next = run;
-        next.through = run.always | (go.value == 1);
-        return Next { run: next, at };
-    }
-    bad(run, out, at)
-}
-
-// `x 1` and `x 2`: what else the last microframe answered.
-fn show_answer(run: Run, line: &[u8], cables: &[u8], out: &mut [u8; 65536], at: usize) -> Next
-    requires { at ≤ 40000 }
-    ensures { result.at ≤ 65536 }
-{
-    let what = alone(line);
-    let state = run.state;
-    let answer = state.answer;
-    if what.good & (what.value == 1) {
-        let end = log::show_counts(answer, out, at);
-        return Next { run, at: end };
-    }
-    if what.good & (what.value == 2) {
-        let packers = run.packers;
-        let end = log::show_cables(answer, run.settings.cdc, packers, cables, out, at);
-        return Next { run, at: end };
-    }
-    bad(run, out, at)
-}
-
-// `r SIZE OFF`: a device read.
-fn device_read(
-    run: Run,
-    line: &[u8],
-    setups: &[u8; record::SETUP_BYTES],
-    page: &[u8],
-    out: &mut [u8; 65536],
-    at: usize,
-) -> Next
-    requires { at ≤ 40000 }
-    ensures { result.at ≤ 65536 }
-{
-    let size = parse::read_word(line, 1);
-    let off = parse::read_word(line, size.next);
-    if size.good & (off.good & (off.next == line.len())) {
-        let packers = run.packers;
+    // `r SIZE OFF`: a device read.
+    pub(crate) fn read_device(
+        &mut self,
+        words: &mut Words,
+        areas: &Areas,
+        out: &mut Output,
+    ) -> Option<()>
+        ensures { IsNone result → self.new ≡ self.old }
+    {
+        let size = words.word()?;
+        let off = words.word()?;
+        words.end()?;
         let read = usbhost::read_device(
-            run.state,
-            run.settings.spans,
-            packers,
-            setups,
-            page,
-            off.value,
-            size.value,
+            self.state,
+            self.settings.spans,
+            self.packers,
+            &areas.setups,
+            &areas.page,
+            off,
+            size,
         );
-        return match read {
-            Ok(value) => Next {
-                run,
-                at: text::single(out, at, b'r', u64::from(value)),
-            },
-            Err(refusal) => stored(run, Err(refusal), out, at),
-        };
+        match read {
+            Ok(value) => answers::single(out, b'r', u64::from(value)),
+            Err(refusal) => self.refuse(refusal, out),
+        }
+        Some(())
     }
-    bad(run, out, at)
-}
 
-// `d SIZE OFF VALUE`: a device write.
-fn device_write(
-    run: Run,
-    line: &[u8],
-    setups: &[u8; record::SETUP_BYTES],
-    page: &mut [u8; bus::PAGE],
-    out: &mut [u8; 65536],
-    at: usize,
-) -> Next
-    requires { at ≤ 40000 }
-    ensures { result.at ≤ 65536 }
-{
-    let size = parse::read_word(line, 1);
-    let off = parse::read_word(line, size.next);
-    let value = parse::read_word(line, off.next);
-    if size.good & (off.good & (value.good & (value.next == line.len()))) {
-        let packers = run.packers;
+    // `d SIZE OFF VALUE`: a device write.
+    pub(crate) fn write_device(
+        &mut self,
+        words: &mut Words,
+        areas: &mut Areas,
+        out: &mut Output,
+    ) -> Option<()>
+        ensures { IsNone result → self.new ≡ self.old }
+    {
+        let size = words.word()?;
+        let off = words.word()?;
+        let value = words.word()?;
+        words.end()?;
         let written = usbhost::write_device(
-            run.state,
-            run.settings.spans,
-            packers,
-            setups,
-            page,
-            off.value,
-            size.value,
-            value.value,
+            self.state,
+            self.settings.spans,
+            self.packers,
+            &areas.setups,
+            &mut areas.page,
+            off,
+            size,
+            value,
         );
-        return stored(run, written, out, at);
+        self.store(written, out);
+        Some(())
     }
-    bad(run, out, at)
-}
 
-// The run after a line through the windows, of whose answers only `bad line` begins with a b.
-fn reached(run: Run, out: &[u8; 65536], at: usize, end: usize) -> Next
-    requires { (at ≤ 40000) × (end ≤ 65536) }
-    ensures { result.at ≤ 65536 }
-{
-    let mut next = run;
-    if at < end {
-        next.stopped = out[at] == b'b';
-    }
-    Next { run: next, at: end }
-}
-
-// `w`, `f` and `p`: lines through the windows, or a bad one.
-fn reach(
-    line: &[u8],
-    dynamic: &mut [u8],
-    sram: &mut [u8; bus::SRAM],
-    page: &mut [u8; bus::PAGE],
-    out: &mut [u8; 65536],
-    at: usize,
-) -> usize
-    requires { at ≤ 40000 }
-    ensures { result ≤ 65536 }
-{
-    let letter = parse::letter(line);
-    if letter == b'w' {
-        return windows::write_line(line, dynamic, sram, page, out, at);
-    }
-    if letter == b'f' {
-        return windows::fill_line(line, dynamic, sram, page, out, at);
-    }
-    if letter == b'p' {
-        return windows::look_line(line, &*dynamic, &*sram, &*page, out, at);
-    }
-    text::bad_line(out, at)
-}
-
-// The same of a run; dynamic memory is as long as the run's.
-fn reach_run(
-    run: Run,
-    line: &[u8],
-    dynamic: &mut [u8],
-    sram: &mut [u8; bus::SRAM],
-    page: &mut [u8; bus::PAGE],
-    out: &mut [u8; 65536],
-    at: usize,
-) -> Next
-    requires { at ≤ 40000 }
-    ensures { result.at ≤ 65536 }
-{
-    let length = bits::least(run.length, dynamic.len());
-    let end = reach(line, &mut dynamic[..length], sram, page, out, at);
-    reached(run, &*out, at, end)
-}
-
-// A line on memory, registers or the log, or a bad one.
-pub fn access(
-    run: Run,
-    line: &[u8],
-    setups: &[u8; record::SETUP_BYTES],
-    dynamic: &mut [u8; 1048576],
-    sram: &mut [u8; bus::SRAM],
-    page: &mut [u8; bus::PAGE],
-    cables: &[u8],
-    out: &mut [u8; 65536],
-    at: usize,
-) -> Next
-    requires { at ≤ 40000 }
-    ensures { result.at ≤ 65536 }
-{
-    let letter = parse::letter(line);
-    if letter == b'h' {
-        return set_mode(run, line, out, at);
-    }
-    if letter == b'r' {
-        return device_read(run, line, setups, &*page, out, at);
-    }
-    if letter == b'd' {
-        return device_write(run, line, setups, page, out, at);
-    }
-    if letter == b'j' {
-        return set_through(run, line, out, at);
-    }
-    if letter == b'x' {
-        return show_answer(run, line, cables, out, at);
-    }
-    reach_run(run, line, dynamic, sram, page, out, at)
-}
-
-// The first `count` bytes of a buffer for the MIDI queue, on a cable.
-fn midi_queue(
-    run: Run,
-    cable: u8,
-    bytes: &[u8],
-    count: usize,
-    setups: &[u8; record::SETUP_BYTES],
-    midi: &mut [u8; record::QUEUE],
-    out: &mut [u8; 65536],
-    at: usize,
-) -> Next
-    requires { (at ≤ 40000) × (count ≤ length bytes.now) }
-    ensures { result.at ≤ 65536 }
-{
-    let sent = usbhost::send_midi(
-        run.state,
-        run.settings.spans,
-        run.packers,
-        cable,
-        &bytes[..count],
-        setups,
-        midi,
-    );
-    match sent {
-        Ok(sent) => {
-            let mut next = run;
+    // `m BYTES`, and `c CABLE BYTES` behind its cable: a MIDI send. What is above 255 counts as 255, which is no cable either.
+    pub(crate) fn send_midi(
+        &mut self,
+        cable: u64,
+        words: &mut Words,
+        areas: &mut Areas,
+        out: &mut Output,
+    ) -> Option<()>
+        ensures { IsNone result → self.new ≡ self.old }
+    {
+        let bytes = words.bytes(&mut areas.bytes)?;
+        let sent = usbhost::send_midi(
+            self.state,
+            self.settings.spans,
+            self.packers,
+            cable.min(255) as u8,
+            bytes,
+            &areas.setups,
+            &mut areas.midi,
+        );
+        if let Ok(sent) = sent {
             let packers = sent.packers;
-            next.packers = packers;
-            stored(next, Ok(sent.state), out, at)
+            self.packers = packers;
         }
-        Err(refusal) => stored(run, Err(refusal), out, at),
+        self.store(sent.map(|sent| sent.state), out);
+        Some(())
     }
-}
 
-// The first `count` bytes of a buffer for the serial queue.
-fn serial_queue(
-    run: Run,
-    bytes: &[u8],
-    count: usize,
-    setups: &[u8; record::SETUP_BYTES],
-    serial: &mut [u8; record::QUEUE],
-    out: &mut [u8; 65536],
-    at: usize,
-) -> Next
-    requires { (at ≤ 40000) × (count ≤ length bytes.now) }
-    ensures { result.at ≤ 65536 }
-{
-    let sent = usbhost::send_serial(
-        run.state,
-        run.settings.spans,
-        run.packers,
-        &bytes[..count],
-        setups,
-        serial,
-    );
-    stored(run, sent, out, at)
-}
-
-// The cable of a line that sends, and the place of its bytes.
-#[derive(Clone, Copy)]
-struct Named {
-    good: bool,
-    cable: u8,
-    next: usize,
-}
-
-// `c` names its cable, and what is above 255 counts as 255, which is no cable either; a line without a cable has 0.
-fn read_cable(line: &[u8]) -> Named {
-    if parse::letter(line) != b'c' {
-        return Named {
-            good: true,
-            cable: 0,
-            next: 1,
-        };
-    }
-    let number = parse::read_number(line, 1);
-    let value = number.value;
-    Named {
-        good: number.good,
-        cable: if value < 255 { value as u8 } else { 255 },
-        next: number.next,
-    }
-}
-
-// `m BYTES`, `c CABLE BYTES` and `s BYTES`: a MIDI send on cable 0 or on another, or a serial send.
-fn send(
-    run: Run,
-    line: &[u8],
-    setups: &[u8; record::SETUP_BYTES],
-    midi: &mut [u8; record::QUEUE],
-    serial: &mut [u8; record::QUEUE],
-    bytes: &mut [u8; 32768],
-    out: &mut [u8; 65536],
-    at: usize,
-) -> Next
-    requires { at ≤ 40000 }
-    ensures { result.at ≤ 65536 }
-{
-    let named = read_cable(line);
-    let got = parse::read_bytes(line, named.next, bytes);
-    if !(named.good & got.good) {
-        return bad(run, out, at);
-    }
-    if parse::letter(line) == b's' {
-        return serial_queue(run, &*bytes, got.count, setups, serial, out, at);
-    }
-    midi_queue(run, named.cable, &*bytes, got.count, setups, midi, out, at)
-}
-
-// Twelve words at the end of a line, and whether they stand there.
-#[derive(Clone, Copy)]
-struct Frame {
-    good: bool,
-    words: [u32; 12],
-}
-
-fn read_frame(line: &[u8]) -> Frame {
-    let mut words = [0u32; 12];
-    let mut good = true;
-    let mut next = 1;
-    let mut i = 0;
-    while i < 12 {
-        let word = parse::read_word(line, next);
-        good = good & word.good;
-        words[i] = word.value;
-        next = word.next;
-        i += 1;
-    }
-    Frame {
-        good: good & (next == line.len()),
-        words,
-    }
-}
-
-// `g W0 .. W11`: a frame given.
-fn frame_give(
-    run: Run,
-    line: &[u8],
-    setups: &[u8; record::SETUP_BYTES],
-    sending: &mut [u32],
-    out: &mut [u8; 65536],
-    at: usize,
-) -> Next
-    requires { at ≤ 40000 }
-    ensures { result.at ≤ 65536 }
-{
-    let frame = read_frame(line);
-    if frame.good {
-        let words = frame.words;
-        let packers = run.packers;
-        let space = ring_words(run.space, sending.len());
-        let given = usbhost::give_frame(
-            run.state,
-            run.settings.spans,
-            packers,
-            &words,
-            setups,
-            &mut sending[..space],
+    // `s BYTES`: a serial send.
+    pub(crate) fn send_serial(
+        &mut self,
+        words: &mut Words,
+        areas: &mut Areas,
+        out: &mut Output,
+    ) -> Option<()>
+        ensures { IsNone result → self.new ≡ self.old }
+    {
+        let bytes = words.bytes(&mut areas.bytes)?;
+        let sent = usbhost::send_serial(
+            self.state,
+            self.settings.spans,
+            self.packers,
+            bytes,
+            &areas.setups,
+            &mut areas.serial,
         );
-        return stored(run, given, out, at);
+        self.store(sent, out);
+        Some(())
     }
-    bad(run, out, at)
-}
 
-fn show_frame(words: [u32; 12], out: &mut [u8; 65536], at: usize) -> usize
-    requires { at ≤ 40000 }
-    ensures { result ≤ 65536 }
-{
-    let mut end = text::put(out, at, b't');
-    let mut i = 0;
-    while i < 12 {
-        end = text::field(out, end, words[i] as u64);
-        i += 1;
+    // `g W0 .. W11`: a frame given.
+    pub(crate) fn give_frame(
+        &mut self,
+        words: &mut Words,
+        areas: &mut Areas,
+        out: &mut Output,
+    ) -> Option<()>
+        ensures { IsNone result → self.new ≡ self.old }
+    {
+        let frame = read_frame(words)?;
+        let given = usbhost::give_frame(
+            self.state,
+            self.settings.spans,
+            self.packers,
+            &frame,
+            &areas.setups,
+            first_mut(&mut areas.sending, self.sending_words()),
+        );
+        self.store(given, out);
+        Some(())
     }
-    text::put(out, end, b'\n')
-}
 
-// `t`: a frame taken.
-fn frame_take(
-    run: Run,
-    setups: &[u8; record::SETUP_BYTES],
-    received: &[u32],
-    out: &mut [u8; 65536],
-    at: usize,
-) -> Next
-    requires { at ≤ 40000 }
-    ensures { result.at ≤ 65536 }
-{
-    match usbhost::take_frame(run.state, run.settings.spans, run.packers, setups, received) {
-        Ok(taken) => {
-            let end = match taken.frame {
-                Some(words) => show_frame(words, out, at),
-                None => text::append(out, at, b"t empty\n"),
-            };
-            Next {
-                run: with_state(run, taken.next),
-                at: end,
+    // The oldest frame that came, where there is one.
+    fn next_frame(&mut self, areas: &Areas) -> Result<Option<[u32; 12]>, Refusal> {
+        let taken = usbhost::take_frame(
+            self.state,
+            self.settings.spans,
+            self.packers,
+            &areas.setups,
+            &areas.received,
+        )?;
+        self.state = taken.next;
+        Ok(taken.frame)
+    }
+
+    // `t`: a frame taken.
+    pub(crate) fn take_frame(
+        &mut self,
+        words: &Words,
+        areas: &Areas,
+        out: &mut Output,
+    ) -> Option<()>
+        ensures { IsNone result → self.new ≡ self.old }
+    {
+        words.end()?;
+        match self.next_frame(areas) {
+            Ok(Some(frame)) => {
+                out.put(b't');
+                for word in frame {
+                    answers::field(out, u64::from(word));
+                }
+                out.put(b'\n');
             }
+            Ok(None) => out.append(b"t empty\n"),
+            Err(refusal) => self.refuse(refusal, out),
         }
-        Err(refusal) => stored(run, Err(refusal), out, at),
+        Some(())
+    }
+
+    // Up to `most` frames taken, until the ring is empty: how many, and the hash of their words.
+    fn drain(&mut self, most: u64, areas: &Areas) -> Result<Drained, Refusal> {
+        let mut drained = Drained {
+            count: 0,
+            hash: hash::START,
+        };
+        for _ in 0..most.min(self.state.audio.received.len as u64) {
+            let Some(frame) = self.next_frame(areas)? else {
+                break;
+            };
+            drained.count = drained.count.wrapping_add(1);
+            drained.hash = log::mixed_words(drained.hash, &frame);
+        }
+        Ok(drained)
+    }
+
+    // `T COUNT`: up to that many frames taken.
+    pub(crate) fn take_frames(
+        &mut self,
+        words: &mut Words,
+        areas: &Areas,
+        out: &mut Output,
+    ) -> Option<()>
+        ensures { IsNone result → self.new ≡ self.old }
+    {
+        let most = read_last(words)?;
+        match self.drain(most, areas) {
+            Ok(drained) => {
+                out.put(b'T');
+                answers::field(out, drained.count);
+                answers::field(out, drained.hash);
+                out.put(b'\n');
+            }
+            Err(refusal) => self.refuse(refusal, out),
+        }
+        Some(())
     }
 }
 
-// Frames taken: how many, the hash of their words, and the reason of a call that was refused.
+// How many frames were taken, and the hash of their words.
 #[derive(Clone, Copy)]
 struct Drained {
-    state: State,
     count: u64,
     hash: u64,
-    refusal: Option<Refusal>,
-}
-
-// The same, unless there is none or the call is refused.
-fn drain_one(
-    before: Drained,
-    spans: usize,
-    packers: [Packer; CABLES],
-    setups: &[u8; record::SETUP_BYTES],
-    received: &[u32],
-) -> Drained {
-    match usbhost::take_frame(before.state, spans, packers, setups, received) {
-        Ok(taken) => match taken.frame {
-            Some(words) => Drained {
-                state: taken.next,
-                count: std::num::wrapping_add_u64(before.count, 1),
-                hash: log::mixed_frame(before.hash, &words, 0),
-                refusal: None,
-            },
-            None => before,
-        },
-        Err(refusal) => {
-            let mut next = before;
-            next.refusal = Some(refusal);
-            next
-        }
-    }
-}
-
-// Up to `most` frames, until the ring is empty.
-fn drain(
-    state: State,
-    spans: usize,
-    packers: [Packer; CABLES],
-    setups: &[u8; record::SETUP_BYTES],
-    received: &[u32],
-    most: u64,
-) -> Drained {
-    let audio = state.audio;
-    let ring = audio.received;
-    let held = ring.len as u64;
-    let mut left = if most < held { most } else { held };
-    let mut drained = Drained {
-        state,
-        count: 0,
-        hash: hash::START,
-        refusal: None,
-    };
-    while left > 0 && drained.refusal.is_none() {
-        drained = drain_one(drained, spans, packers, setups, received);
-        left -= 1;
-    }
-    drained
-}
-
-// How many frames were taken and their hash, or the number of a refusal.
-fn show_drained(run: Run, drained: Drained, out: &mut [u8; 65536], at: usize) -> Next
-    requires { at ≤ 40000 }
-    ensures { result.at ≤ 65536 }
-{
-    let state = drained.state;
-    if let Some(refusal) = drained.refusal {
-        return stored(with_state(run, state), Err(refusal), out, at);
-    }
-    let mut end = text::put(out, at, b'T');
-    end = text::field(out, end, drained.count);
-    end = text::field(out, end, drained.hash);
-    end = text::put(out, end, b'\n');
-    Next {
-        run: with_state(run, state),
-        at: end,
-    }
-}
-
-// `T COUNT`: up to that many frames taken.
-fn frames_take(
-    run: Run,
-    line: &[u8],
-    setups: &[u8; record::SETUP_BYTES],
-    received: &[u32],
-    out: &mut [u8; 65536],
-    at: usize,
-) -> Next
-    requires { at ≤ 40000 }
-    ensures { result.at ≤ 65536 }
-{
-    let most = parse::read_number(line, 1);
-    if most.good & (most.next == line.len()) {
-        let packers = run.packers;
-        let drained = drain(
-            run.state,
-            run.settings.spans,
-            packers,
-            setups,
-            received,
-            most.value,
-        );
-        return show_drained(run, drained, out, at);
-    }
-    bad(run, out, at)
-}
-
-// A line that takes frames, or a bad one.
-fn take(
-    run: Run,
-    line: &[u8],
-    setups: &[u8; record::SETUP_BYTES],
-    received: &[u32],
-    out: &mut [u8; 65536],
-    at: usize,
-) -> Next
-    requires { at ≤ 40000 }
-    ensures { result.at ≤ 65536 }
-{
-    if parse::letter(line) == b'T' {
-        return frames_take(run, line, setups, received, out, at);
-    }
-    if line.len() == 1 {
-        return frame_take(run, setups, received, out, at);
-    }
-    bad(run, out, at)
-}
-
-// A line on the queues and the rings: m, c, s, g, t and T.
-pub fn queue(
-    run: Run,
-    line: &[u8],
-    setups: &[u8; record::SETUP_BYTES],
-    midi: &mut [u8; record::QUEUE],
-    serial: &mut [u8; record::QUEUE],
-    received: &[u32],
-    sending: &mut [u32; record::RING],
-    bytes: &mut [u8; 32768],
-    out: &mut [u8; 65536],
-    at: usize,
-) -> Next
-    requires { at ≤ 40000 }
-    ensures { result.at ≤ 65536 }
-{
-    let letter = parse::letter(line);
-    if (letter == b'm') | ((letter == b'c') | (letter == b's')) {
-        return send(run, line, setups, midi, serial, bytes, out, at);
-    }
-    if letter == b'g' {
-        return frame_give(run, line, setups, sending, out, at);
-    }
-    take(run, line, setups, received, out, at)
-}
-
-// Whether a line is one of those.
-pub fn is_queue(letter: u8) -> bool {
-    match letter {
-        b'm' | b'c' | b's' | b'g' | b't' | b'T' => true,
-        _ => false,
-    }
 }

@@ -1,417 +1,260 @@
 // The lines that show the host record: what a microframe logs, and an observation.
-ghost use Rattle.std.specs.Prelude.{◌+◌, ◌*◌, ◌<◌, ◌≤◌, length};
+use crate::areas::{Areas, first};
+use crate::run::Run;
+use gptimers::ZERO;
+use midi::Packer;
+use record::{Answer, Audio, Control, Ring, State};
+use script::{answers, hash};
+use stdio::Output;
 
-use gptimers::Timers;
-use midi::{CABLES, Packer};
-use record::{Answer, Audio, Control, Phase, Ring, Stage, State};
-use script::{hash, text};
+// Bytes that came in: how many, and their hash.
+#[derive(Clone, Copy)]
+pub struct Bytes {
+    pub count: u64,
+    pub hash: u64,
+}
 
-// How many counters the log shows: those of the source.
-const STATS: usize = 13;
-
-// Bytes that came in, of MIDI and of serial: how many, and their hash.
+// Those of MIDI and those of serial.
 #[derive(Clone, Copy)]
 pub struct Came {
-    pub midi: u64,
-    pub midi_hash: u64,
-    pub serial: u64,
-    pub serial_hash: u64,
+    pub midi: Bytes,
+    pub serial: Bytes,
 }
 
-pub fn nothing_came() -> Came {
-    Came {
-        midi: 0,
-        midi_hash: hash::START,
-        serial: 0,
-        serial_hash: hash::START,
+impl Bytes {
+    const NONE: Bytes = Bytes {
+        count: 0,
+        hash: hash::START,
+    };
+
+    // With the first `count` bytes of a buffer behind them, or all of it.
+    fn behind(self, buffer: &[u8], count: usize) -> Bytes {
+        Bytes {
+            count: self.count.wrapping_add(count as u64),
+            hash: mixed_bytes(self.hash, first(buffer, count)),
+        }
     }
 }
 
-// The hash `h` with the first `count` bytes of a buffer behind it, or all of it.
-fn mixed_first(h: u64, bytes: &[u8], count: usize) -> u64 {
-    let mut all = h;
-    let mut i = 0;
-    while i < count && i < bytes.len() {
-        all = hash::mixed(all, bytes[i]);
-        i += 1;
-    }
-    all
-}
+impl Came {
+    // Nothing came yet.
+    pub const NOTHING: Came = Came {
+        midi: Bytes::NONE,
+        serial: Bytes::NONE,
+    };
 
-// `before` with the first `count` bytes of the receive area, which are serial ones where `cdc` is set.
-pub fn came_more(before: Came, cdc: bool, receive: &[u8], count: usize) -> Came {
-    let more = count as u64;
-    if cdc {
-        return Came {
-            midi: before.midi,
-            midi_hash: before.midi_hash,
-            serial: std::num::wrapping_add_u64(before.serial, more),
-            serial_hash: mixed_first(before.serial_hash, receive, count),
-        };
-    }
-    Came {
-        midi: std::num::wrapping_add_u64(before.midi, more),
-        midi_hash: mixed_first(before.midi_hash, receive, count),
-        serial: before.serial,
-        serial_hash: before.serial_hash,
+    // With the first `count` bytes of the receive area, which are serial ones where `cdc` is set.
+    pub fn behind(self, cdc: bool, receive: &[u8], count: usize) -> Came {
+        if cdc {
+            return Came {
+                serial: self.serial.behind(receive, count),
+                ..self
+            };
+        }
+        Came {
+            midi: self.midi.behind(receive, count),
+            ..self
+        }
     }
 }
 
-// The hash `h` with a word's four bytes behind it, high byte first.
-pub fn mixed_word(h: u64, w: u32) -> u64 {
-    let mut all = hash::mixed(h, (w >> 24) as u8);
-    all = hash::mixed(all, ((w >> 16) % 256) as u8);
-    all = hash::mixed(all, ((w >> 8) % 256) as u8);
-    hash::mixed(all, (w % 256) as u8)
+// The hash of the first bytes of a buffer, or of all of it.
+fn first_hash(buffer: &[u8], count: usize) -> u64 {
+    hash::hash_all(first(buffer, count))
 }
 
-// The hash `h` with the twelve words from place `from` on behind it.
-pub fn mixed_frame(h: u64, words: &[u32], from: usize) -> u64
-    requires { from + 12 ≤ length words.now }
-{
-    let mut all = h;
-    let mut i = 0;
-    while i < 12 {
-        all = mixed_word(all, words[from + i]);
-        i += 1;
-    }
-    all
+// The hash `h` with more bytes behind it.
+fn mixed_bytes(h: u64, bytes: &[u8]) -> u64 {
+    bytes.iter().fold(h, |all, b| hash::mixed(all, *b))
 }
 
-// The hash `h` with frame `i` of a ring behind it, where there is one.
-fn mixed_nth(h: u64, words: &[u32], i: usize) -> u64 {
-    if i < words.len() / 12 {
-        return mixed_frame(h, words, 12 * i);
-    }
-    h
-}
-
-// The frame behind frame `i` of a ring of some frames.
-fn behind(i: usize, frames: usize) -> usize {
-    let next = std::num::wrapping_add_usize(i, 1);
-    if next < frames { next } else { 0 }
+// The hash `h` with words behind it, of each the high byte first.
+pub fn mixed_words(h: u64, words: &[u32]) -> u64 {
+    words
+        .iter()
+        .fold(h, |all, word| mixed_bytes(all, &word.to_be_bytes()))
 }
 
 // The hash of a ring's frames, oldest first.
 fn ring_hash(words: &[u32], ring: Ring) -> u64 {
-    let frames = words.len() / 12;
+    let older = words.chunks_exact(12).skip(ring.start);
+    let newer = words.chunks_exact(12).take(ring.start);
     let mut all = hash::START;
-    let mut frame = ring.start;
-    let mut left = ring.len;
-    while left > 0 {
-        all = mixed_nth(all, words, frame);
-        frame = behind(frame, frames);
-        left -= 1;
+    for frame in older.chain(newer).take(ring.len) {
+        all = mixed_words(all, frame);
     }
     all
 }
 
-// The hash of the first bytes of a buffer, or of all of it.
-fn first_hash(bytes: &[u8], count: usize) -> u64 {
-    mixed_first(hash::START, bytes, count)
-}
-
 // The hash of the bytes that a packer holds.
 fn held_hash(packer: Packer) -> u64 {
-    let held = packer.held;
-    match held {
-        0 => hash::START,
-        1 => hash::mixed(hash::START, packer.first),
-        _ => hash::mixed(hash::mixed(hash::START, packer.first), packer.second),
-    }
-}
-
-fn phase_number(phase: Phase) -> u64 {
-    match phase {
-        Phase::Idle => 0,
-        Phase::Vbus => 1,
-        Phase::Reset => 2,
-        Phase::Enumerate => 3,
-        Phase::Stream => 4,
-    }
-}
-
-fn stage_number(stage: Stage) -> u64 {
-    match stage {
-        Stage::Data => 0,
-        Stage::Status => 1,
-    }
+    let held = [packer.first, packer.second];
+    first_hash(&held, usize::from(packer.held))
 }
 
 // Fields 1 to 6.
-fn show_phase(state: State, out: &mut [u8; 65536], at: usize) -> usize
-    requires { at + 102 ≤ 65536 }
-    ensures { result ≤ at + 102 }
-{
-    let port = state.port;
-    let audio = state.audio;
-    let phase = state.phase;
-    let mut end = text::field(out, at, phase_number(phase));
-    end = text::field(out, end, port.uf);
-    end = text::field(out, end, port.t);
-    end = text::field(out, end, audio.credit);
-    end = text::field(out, end, audio.budget);
-    text::field(out, end, audio.counter as u64)
+fn show_phase(state: &State, out: &mut Output) {
+    answers::field(out, state.phase as u64);
+    answers::field(out, state.port.uf);
+    answers::field(out, state.port.t);
+    answers::field(out, state.audio.credit);
+    answers::field(out, state.audio.budget);
+    answers::field(out, u64::from(state.audio.counter));
 }
 
 // The four bytes of a word, low byte first.
-fn show_word(w: u32, out: &mut [u8; 65536], at: usize) -> usize
-    requires { at + 8 ≤ 65536 }
-    ensures { result ≤ at + 8 }
-{
-    let mut end = text::pair(out, at, (w % 256) as u8);
-    end = text::pair(out, end, ((w >> 8) % 256) as u8);
-    end = text::pair(out, end, ((w >> 16) % 256) as u8);
-    text::pair(out, end, (w >> 24) as u8)
+fn show_word(word: u32, out: &mut Output) {
+    for b in word.to_le_bytes() {
+        answers::pair(out, b);
+    }
 }
 
 // Fields 7 to 11.
-fn show_control(control: Control, out: &mut [u8; 65536], at: usize) -> usize
-    requires { at + 85 ≤ 65536 }
-    ensures { result ≤ at + 85 }
-{
-    if control.on {
-        let stage = control.stage;
-        let mut end = text::field(out, at, 1);
-        end = text::field(out, end, stage_number(stage));
-        end = text::field(out, end, control.t0);
-        end = text::field(out, end, control.got as u64);
-        end = text::put(out, end, b' ');
-        end = show_word(control.first, out, end);
-        return show_word(control.second, out, end);
+fn show_control(control: Control, out: &mut Output) {
+    if !control.on {
+        out.append(b" 0 0 0 0 0000000000000000");
+        return;
     }
-    text::append(out, at, b" 0 0 0 0 0000000000000000")
+    answers::field(out, 1);
+    answers::field(out, control.stage as u64);
+    answers::field(out, control.t0);
+    answers::field(out, control.got as u64);
+    out.put(b' ');
+    show_word(control.first, out);
+    show_word(control.second, out);
 }
 
 // Fields 12 to 16.
-fn show_held(state: State, out: &mut [u8; 65536], at: usize) -> usize
-    requires { at + 85 ≤ 65536 }
-    ensures { result ≤ at + 85 }
-{
-    let lengths = state.lengths;
-    let audio = state.audio;
-    let received = audio.received;
-    let sending = audio.sending;
-    let mut end = text::field(out, at, lengths.setups as u64);
-    end = text::field(out, end, lengths.midi as u64);
-    end = text::field(out, end, lengths.serial as u64);
-    end = text::field(out, end, received.len as u64);
-    text::field(out, end, sending.len as u64)
+fn show_held(state: &State, out: &mut Output) {
+    answers::field(out, state.lengths.setups as u64);
+    answers::field(out, state.lengths.midi as u64);
+    answers::field(out, state.lengths.serial as u64);
+    answers::field(out, state.audio.received.len as u64);
+    answers::field(out, state.audio.sending.len as u64);
 }
 
 // Whether a timer is loaded, and its count in two's complement.
-fn show_timer(timer: Option<u64>, out: &mut [u8; 65536], at: usize) -> usize
-    requires { at + 34 ≤ 65536 }
-    ensures { result ≤ at + 34 }
-{
-    let end = text::flag(out, at, timer.is_some());
-    match timer {
-        Some(count) => text::field(
-            out,
-            end,
-            std::num::wrapping_sub_u64(count, gptimers::ZERO),
-        ),
-        None => text::field(out, end, 0),
-    }
+fn show_timer(timer: Option<u64>, out: &mut Output) {
+    answers::flag(out, timer.is_some());
+    answers::field(out, timer.map_or(0, |count| count.wrapping_sub(ZERO)));
 }
 
 // Fields 17 to 23.
-fn show_port(state: State, out: &mut [u8; 65536], at: usize) -> usize
-    requires { at + 119 ≤ 65536 }
-    ensures { result ≤ at + 119 }
-{
-    let port = state.port;
-    let timers: Timers = state.timers;
-    let mut end = text::flag(out, at, port.suspended);
-    end = text::flag(out, end, port.gone);
-    end = text::flag(out, end, port.was_running);
-    end = show_timer(timers.zero, out, end);
-    show_timer(timers.one, out, end)
+fn show_port(state: &State, out: &mut Output) {
+    answers::flag(out, state.port.suspended);
+    answers::flag(out, state.port.gone);
+    answers::flag(out, state.port.was_running);
+    show_timer(state.timers.zero, out);
+    show_timer(state.timers.one, out);
 }
 
 // A packer's status, how many bytes it holds, and whether it is inside SysEx.
-fn show_packer(packer: Packer, out: &mut [u8; 65536], at: usize) -> usize
-    requires { at + 51 ≤ 65536 }
-    ensures { result ≤ at + 51 }
-{
-    let mut end = text::field(out, at, packer.status as u64);
-    end = text::field(out, end, packer.held as u64);
-    text::flag(out, end, packer.sysex)
+fn show_packer(packer: Packer, out: &mut Output) {
+    answers::field(out, u64::from(packer.status));
+    answers::field(out, u64::from(packer.held));
+    answers::flag(out, packer.sysex);
 }
 
 // Fields 24 to 28.
-fn show_block(audio: Audio, packer: Packer, out: &mut [u8; 65536], at: usize) -> usize
-    requires { at + 85 ≤ 65536 }
-    ensures { result ≤ at + 85 }
-{
-    let mut end = text::field(out, at, audio.block as u64);
-    end = text::field(out, end, audio.channels as u64);
-    show_packer(packer, out, end)
-}
-
-// Fields 31 to 43: the counters in their order.
-fn show_stats(state: State, out: &mut [u8; 65536], at: usize) -> usize
-    requires { at + 221 ≤ 65536 }
-    ensures { result ≤ at + 221 }
-{
-    let mut end = at;
-    let mut k = 0;
-    while k < STATS {
-        end = text::field(out, end, state.stats[k]);
-        k += 1;
-    }
-    end
+fn show_block(audio: Audio, packer: Packer, out: &mut Output) {
+    answers::field(out, u64::from(audio.block));
+    answers::field(out, u64::from(audio.channels));
+    show_packer(packer, out);
 }
 
 // Fields 44 to 48.
-fn show_came(line: bool, came: Came, out: &mut [u8; 65536], at: usize) -> usize
-    requires { at + 85 ≤ 65536 }
-    ensures { result ≤ at + 85 }
-{
-    let mut end = text::flag(out, at, line);
-    end = text::field(out, end, came.midi);
-    end = text::field(out, end, came.midi_hash);
-    end = text::field(out, end, came.serial);
-    text::field(out, end, came.serial_hash)
+fn show_came(line: bool, came: Came, out: &mut Output) {
+    answers::flag(out, line);
+    for bytes in [came.midi, came.serial] {
+        answers::field(out, bytes.count);
+        answers::field(out, bytes.hash);
+    }
 }
 
-// Fields 1 to 48.
-pub fn show_record(
-    state: State,
-    packer: Packer,
-    came: Came,
-    out: &mut [u8; 65536],
-    at: usize,
-) -> usize
-    requires { at + 816 ≤ 65536 }
-    ensures { result ≤ at + 816 }
-{
-    let port = state.port;
-    let lengths = state.lengths;
-    let mut end = show_phase(state, out, at);
-    end = show_control(state.control, out, end);
-    end = show_held(state, out, end);
-    end = show_port(state, out, end);
-    end = show_block(state.audio, packer, out, end);
-    end = text::field(out, end, lengths.device as u64);
-    end = text::field(out, end, lengths.config as u64);
-    end = show_stats(state, out, end);
-    show_came(port.line, came, out, end)
+// Fields 1 to 48; of these 31 to 43 are the counters in their order.
+pub fn show_record(run: &Run, came: Came, out: &mut Output) {
+    let state = &run.state;
+    show_phase(state, out);
+    show_control(state.control, out);
+    show_held(state, out);
+    show_port(state, out);
+    show_block(state.audio, run.packers[0], out);
+    answers::field(out, state.lengths.device as u64);
+    answers::field(out, state.lengths.config as u64);
+    for n in state.stats {
+        answers::field(out, n);
+    }
+    show_came(state.port.line, came, out);
 }
 
-// Fields 49 to 53; `dynamic` is as long as the run's.
-pub fn show_areas(
-    state: State,
-    dynamic: &[u8],
-    sram: &[u8],
-    page: &[u8],
-    device: &[u8],
-    config: &[u8],
-    out: &mut [u8; 65536],
-    at: usize,
-) -> usize
-    requires { at + 85 ≤ 65536 }
-    ensures { result ≤ at + 85 }
-{
-    let lengths = state.lengths;
-    let mut end = text::field(out, at, hash::hash_all(dynamic));
-    end = text::field(out, end, hash::hash_all(sram));
-    end = text::field(out, end, hash::hash_all(page));
-    end = text::field(out, end, first_hash(device, lengths.device));
-    text::field(out, end, first_hash(config, lengths.config))
+// Fields 49 to 53.
+pub fn show_areas(run: &Run, areas: &Areas, out: &mut Output) {
+    let lengths = run.state.lengths;
+    answers::field(out, first_hash(&areas.dynamic, run.length));
+    answers::field(out, hash::hash_all(&areas.sram));
+    answers::field(out, hash::hash_all(&areas.page));
+    answers::field(out, first_hash(&areas.device, lengths.device));
+    answers::field(out, first_hash(&areas.config, lengths.config));
 }
 
 // Fields 54 to 56.
-pub fn show_queues(
-    state: State,
-    setups: &[u8],
-    midi: &[u8],
-    serial: &[u8],
-    out: &mut [u8; 65536],
-    at: usize,
-) -> usize
-    requires { at + 51 ≤ 65536 }
-    ensures { result ≤ at + 51 }
-{
+fn show_queues(state: &State, areas: &Areas, out: &mut Output) {
     let lengths = state.lengths;
-    let mut end = text::field(
-        out,
-        at,
-        first_hash(setups, 8 * bits::least(lengths.setups, record::SETUPS)),
-    );
-    end = text::field(out, end, first_hash(midi, lengths.midi));
-    text::field(out, end, first_hash(serial, lengths.serial))
+    let setups = lengths.setups.min(record::SETUPS);
+    answers::field(out, first_hash(&areas.setups, 8 * setups));
+    answers::field(out, first_hash(&areas.midi, lengths.midi));
+    answers::field(out, first_hash(&areas.serial, lengths.serial));
 }
 
 // The hash of a running request's reply so far.
 fn reply_hash(control: Control, reply: &[u8]) -> u64 {
     if control.on {
-        return first_hash(reply, control.got);
+        first_hash(reply, control.got)
+    } else {
+        hash::START
     }
-    hash::START
 }
 
-// Fields 57 to 60; `sending` is as long as the run's.
-pub fn show_rings(
-    state: State,
-    packer: Packer,
-    received: &[u32],
-    sending: &[u32],
-    reply: &[u8],
-    out: &mut [u8; 65536],
-    at: usize,
-) -> usize
-    requires { at + 68 ≤ 65536 }
-    ensures { result ≤ at + 68 }
-{
-    let audio = state.audio;
-    let mut end = text::field(out, at, ring_hash(received, audio.received));
-    end = text::field(out, end, ring_hash(sending, audio.sending));
-    end = text::field(out, end, reply_hash(state.control, reply));
-    text::field(out, end, held_hash(packer))
+// Fields 57 to 60.
+fn show_rings(run: &Run, areas: &Areas, out: &mut Output) {
+    let audio = run.state.audio;
+    let sending = first(&areas.sending, run.sending_words());
+    answers::field(out, ring_hash(&areas.received, audio.received));
+    answers::field(out, ring_hash(sending, audio.sending));
+    answers::field(out, reply_hash(run.state.control, &areas.reply));
+    answers::field(out, held_hash(run.packers[0]));
+}
+
+// `o`: everything that can be seen of a run.
+pub fn observe(run: &Run, areas: &Areas, out: &mut Output) {
+    out.put(b'o');
+    show_record(run, run.all, out);
+    show_areas(run, areas, out);
+    show_queues(&run.state, areas, out);
+    show_rings(run, areas, out);
+    out.put(b'\n');
 }
 
 // `x 1`: the descriptors that the last microframe retired, and the bytes that it dropped.
-pub fn show_counts(answer: Answer, out: &mut [u8; 65536], at: usize) -> usize
-    requires { at + 38 ≤ 65536 }
-    ensures { result ≤ at + 38 }
-{
-    let mut end = text::append(out, at, b"x 1");
-    end = text::field(out, end, answer.retired);
-    end = text::field(out, end, answer.dropped);
-    text::put(out, end, b'\n')
-}
-
-// The packers of all cables, in order.
-fn show_packers(packers: [Packer; CABLES], out: &mut [u8; 65536], at: usize) -> usize
-    requires { at + 816 ≤ 65536 }
-    ensures { result ≤ at + 816 }
-{
-    let mut end = at;
-    let mut i = 0;
-    while i < CABLES {
-        end = show_packer(packers[i], out, end);
-        i += 1;
-    }
-    end
+pub fn show_counts(answer: Answer, out: &mut Output) {
+    out.append(b"x 1");
+    answers::field(out, answer.retired);
+    answers::field(out, answer.dropped);
+    out.put(b'\n');
 }
 
 // `x 2`: the cables of the MIDI bytes that the last microframe received, how many and their hash, and the packers of all; serial bytes have none.
-pub fn show_cables(
-    answer: Answer,
-    cdc: bool,
-    packers: [Packer; CABLES],
-    cables: &[u8],
-    out: &mut [u8; 65536],
-    at: usize,
-) -> usize
-    requires { at + 854 ≤ 65536 }
-    ensures { result ≤ at + 854 }
-{
-    let count = if cdc { 0 } else { answer.received };
-    let mut end = text::append(out, at, b"x 2");
-    end = text::field(out, end, count as u64);
-    end = text::field(out, end, first_hash(cables, count));
-    end = show_packers(packers, out, end);
-    text::put(out, end, b'\n')
+pub fn show_cables(run: &Run, areas: &Areas, out: &mut Output) {
+    let count = if run.settings.cdc {
+        0
+    } else {
+        run.state.answer.received
+    };
+    out.append(b"x 2");
+    answers::field(out, count as u64);
+    answers::field(out, first_hash(&areas.cables, count));
+    for packer in run.packers {
+        show_packer(packer, out);
+    }
+    out.put(b'\n');
 }

@@ -1,4 +1,4 @@
-// Standard output from a buffer: what has no room makes it write what it holds; behind a write that failed nothing is written any more.
+// Standard output, or none, from a buffer: what has no room makes it write what it holds; behind a write that failed nothing is written any more.
 ghost use Rattle.std.specs.Prelude.{◌≡◌, ◌+◌, ◌<◌, ◌≤◌, [], ◌∷◌, ◌++◌, length, take};
 
 use std::fmt;
@@ -11,7 +11,7 @@ pub struct Output {
     buffer: [u8; 65536],
     held: usize,
     failed: bool,
-    rt: HostRuntime,
+    rt: Option<HostRuntime>,
 }
 
 impl Model for Output {
@@ -25,8 +25,8 @@ impl Model for Output {
 }
 
 impl Output {
-    // An output of a program that has written nothing.
-    pub fn new(rt: HostRuntime) -> Self
+    // An output that holds nothing.
+    fn empty(rt: Option<HostRuntime>) -> Self
         ensures { result ≡ [] }
     {
         Output {
@@ -35,6 +35,20 @@ impl Output {
             failed: false,
             rt,
         }
+    }
+
+    // An output of a program that has written nothing.
+    pub fn new(rt: HostRuntime) -> Self
+        ensures { result ≡ [] }
+    {
+        Output::empty(Some(rt))
+    }
+
+    // An output whose text goes nowhere.
+    pub fn nowhere() -> Self
+        ensures { result ≡ [] }
+    {
+        Output::empty(None)
     }
 
     // Whether a write failed.
@@ -46,8 +60,10 @@ impl Output {
     fn pass(&mut self, text: &[u8])
         ensures { self.new ≡ self.old }
     {
-        if !self.failed {
-            let mut output = self.rt.stdout();
+        if let Some(rt) = self.rt
+            && !self.failed
+        {
+            let mut output = rt.stdout();
             self.failed = output.write_all(text).is_err();
         }
     }
@@ -58,8 +74,10 @@ impl Output {
     pub fn flush(&mut self)
         ensures { self.new ≡ [] }
     {
-        if !self.failed {
-            let mut output = self.rt.stdout();
+        if let Some(rt) = self.rt
+            && !self.failed
+        {
+            let mut output = rt.stdout();
             self.failed = output.write_all(&self.buffer[..self.held]).is_err();
         }
         self.held = 0;
@@ -114,7 +132,9 @@ impl Output {
     // The end of a program: what the buffer holds is written, and what could not be read or written is said on standard error, as that `work`,
     // which is `the log is` or the like, is not whole. Whether that can be said is not asked.
     pub fn finish(&mut self, program: &str, work: &str, unread: bool) {
-        let rt = self.rt;
+        let Some(rt) = self.rt else {
+            return;
+        };
         if unread {
             let _ = eprintln!(rt; "{program}: standard input could not be read; {work} not whole");
         }

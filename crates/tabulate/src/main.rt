@@ -2,5 +2,5 @@
 #![tactic(auto)]
 
 fn main(rt: HostRuntime) {
-    reader::run(rt, true);
+    reader::tabulate(rt);
 }
