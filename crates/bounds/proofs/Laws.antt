@@ -14,9 +14,6 @@ use Rattle.bus.proofs.Sizes.{and_true}
 use Rattle.midi.specs.declared.Packer.{Packer}
 use Rattle.midi.specs.Packer.{CABLES, message_length, packer_at, fresh, PackerBound}
 use Rattle.record.specs.declared.Ring.{Ring}
-use Rattle.record.specs.declared.Phase.{Phase}
-use Rattle.record.specs.declared.Phase.TheVariants.{Idle, Vbus, Reset, Enumerate, Stream}
-use Rattle.model.specs.Control.{enumerating}
 use Rattle.record.specs.Record.{Stats, COUNTERS, counter_at, counter_of, microframes}
 use Rattle.record.proofs.Counters.{counter_element}
 use Rattle.bounds.specs.Bounds.{every, made_at, all_made, other, none_asks, times, none_above, counters_ok, packer_ok, holds_none, each_packer, packers_ok, ring_ok}
@@ -47,14 +44,6 @@ pub every_counter : (m : ℕ) (r : Stats) (n : ℕ) → every (λ k. leb (get_or
 unfolding none_above
 every_counter m r n = every_is (λ k. leb (get_or r (k + 1) 0) m) (none_above m r) refl (λ k. rw (← counter_element (k + 1) r, add-one) refl) n
 
--- a phase that is not enumeration
-pub other_phase : (p : Phase) → (p ≡ Enumerate → ⊥) → enumerating p ≡ false
-other_phase Idle h = refl
-other_phase Vbus h = refl
-other_phase Reset h = refl
-other_phase Enumerate h = absurd (h refl)
-other_phase Stream h = refl
-
 -- each of them
 none_above_lem : (m : ℕ) (r : Stats) (n : ℕ) → none_above m r n ≡ true → (k : ℕ) → k < n → leb (counter_at (suc k) r) m ≡ true
 unfolding none_above
@@ -74,11 +63,6 @@ all_below_lem m r (suc n) h = simp (all_below_lem m r n (λ k l. h k (omega arit
 pub counter_below : (r : Stats) → counters_ok r ≡ true → (k : ℕ) → k < COUNTERS - 1 → leb (counter_at (suc k) r) (times 32767 (counter_of microframes r)) ≡ true
 unfolding counters_ok
 counter_below r e = none_above_lem (times 32767 (counter_of microframes r)) r (COUNTERS - 1) e
-
--- a test or one that holds
-pub or_true : (b : Bool) → (b || true) ≡ true
-or_true true = refl
-or_true false = refl
 
 -- a ring whose place lies in it
 pub in_ring : (r : Ring) (n : ℕ) → ring_ok r n ≡ true → (r.start < n) × (r.len ≤ n)

@@ -48,6 +48,7 @@ pub fn made(first: u32, second: u32) -> bool
 }
 
 // Whether the source makes setup i of the queue.
+#[tactic(auto, unfolding(crate::specs::Bounds::made_at))]
 fn made_at(setups: &[u8; SETUP_BYTES], i: usize) -> bool
     requires { i < Sizes.SETUPS }
     ensures { result ≡ B.made_at setups.now i }
@@ -72,6 +73,7 @@ pub fn setups_ok(n: usize, setups: &[u8; SETUP_BYTES]) -> bool
 }
 
 // No setup waits and none runs outside enumeration.
+#[tactic(auto, unfolding(crate::specs::Bounds::enumerating_ok))]
 pub fn enumerating_ok(s: State) -> bool
     ensures { result ≡ B.enumerating_ok s }
 {
@@ -80,6 +82,7 @@ pub fn enumerating_ok(s: State) -> bool
 }
 
 // A running request.
+#[tactic(auto, unfolding(crate::specs::Bounds::request_ok))]
 pub fn request_ok(c: Control, waiting: usize, uf: u64) -> bool
     ensures { result ≡ B.request_ok c waiting uf }
 {
@@ -93,6 +96,7 @@ pub fn request_ok(c: Control, waiting: usize, uf: u64) -> bool
 }
 
 // The queues and the device descriptor.
+#[tactic(auto, unfolding(crate::specs::Bounds::queues_ok))]
 pub fn queues_ok(l: Lengths) -> bool
     ensures { result ≡ B.queues_ok l }
 {
@@ -100,6 +104,7 @@ pub fn queues_ok(l: Lengths) -> bool
 }
 
 // The bytes that a packer holds.
+#[tactic(auto, unfolding(crate::specs::Bounds::packer_ok))]
 pub fn packer_ok(p: Packer) -> bool
     ensures { result ≡ B.packer_ok p }
 {
@@ -121,6 +126,7 @@ pub fn packers_ok(packers: [Packer; CABLES]) -> bool
 }
 
 // The two microframe counts and the phase's start.
+#[tactic(auto, unfolding(crate::specs::Bounds::counts_ok))]
 pub fn counts_ok(s: State) -> bool
     ensures { result ≡ B.counts_ok s }
 {
@@ -137,6 +143,7 @@ pub fn counters_ok(r: [u64; record::COUNTERS]) -> bool
 }
 
 // The credit after n microframes.
+#[tactic(auto, unfolding(crate::specs::Bounds::credit_ok))]
 pub fn credit_ok(credit: u64, n: u64) -> bool
     ensures { result ≡ B.credit_ok credit n }
 {
@@ -159,6 +166,7 @@ pub fn timer_ok(timer: Option<u64>, n: u64) -> bool
 }
 
 // Both timers.
+#[tactic(auto, unfolding(crate::specs::Bounds::timers_ok))]
 pub fn timers_ok(ts: Timers, n: u64) -> bool
     ensures { result ≡ B.timers_ok ts n }
 {
@@ -166,6 +174,7 @@ pub fn timers_ok(ts: Timers, n: u64) -> bool
 }
 
 // The input budget, the block and its channels.
+#[tactic(auto, unfolding(crate::specs::Bounds::audio_ok))]
 pub fn audio_ok(a: Audio) -> bool
     ensures { result ≡ B.audio_ok a }
 {
@@ -177,6 +186,7 @@ pub fn audio_ok(a: Audio) -> bool
 }
 
 // A ring that has room for `capacity` frames.
+#[tactic(auto, unfolding(crate::specs::Bounds::ring_ok))]
 pub fn ring_ok(r: Ring, capacity: usize) -> bool
     ensures { result ≡ B.ring_ok r capacity }
 {
@@ -184,6 +194,7 @@ pub fn ring_ok(r: Ring, capacity: usize) -> bool
 }
 
 // Configuration and reply in areas of these lengths.
+#[tactic(auto, unfolding(crate::specs::Bounds::areas_ok))]
 pub fn areas_ok(s: State, reply: usize, config: usize) -> bool
     ensures { result ≡ B.areas_ok s reply config }
 {
@@ -201,6 +212,7 @@ fn counted_ok(s: State) -> bool
 }
 
 // The whole record, but for what an area bounds.
+#[tactic(auto, unfolding(crate::specs::Bounds::in_bounds))]
 pub fn in_bounds(s: State, packers: [Packer; CABLES], setups: &[u8; SETUP_BYTES]) -> bool
     ensures { result ≡ B.in_bounds s packers setups.now }
 {

@@ -36,6 +36,7 @@ impl Model for Pairs {
 
 impl Pairs {
     // No pair.
+    #[tactic(auto, unfolding(crate::specs::Config::Distinct, crate::specs::Pairs::Below))]
     fn none() -> Self
         ensures { result ≡ [] }
     {
@@ -112,6 +113,7 @@ impl ConfigInfo {
     }
 
     // An endpoint that counts: its alternate and size are taken, unless its interface has a pair and the size is below the slot's.
+    #[tactic(auto, unfolding(crate::specs::Config::chosen))]
     fn choose(&mut self, reading: Interface, input: bool, size: u32)
         ensures { choice_of self.new ≡ chosen (reading_of reading) input size (choice_of self.old) }
     {
@@ -175,6 +177,7 @@ impl Walk {
     }
 
     // One descriptor: an endpoint's, an interface's, or one that is passed over.
+    #[tactic(auto, unfolding(crate::specs::Config::step))]
     fn step(&mut self, x: &[u8])
         requires { 2 ≤ length x.now }
         ensures { walk_of self.new ≡ step x.now (walk_of self.old) }
