@@ -4,7 +4,4 @@
 pub mod answers;
 pub mod hash;
 pub mod memory;
-pub mod parse;
-pub mod text;
-pub mod windows;
 pub mod words;
