@@ -1,5 +1,5 @@
 // FNV-1a hashes of 64 bits.
-ghost use Rattle.std.specs.Prelude.{◌≡◌, ◌≤◌, length, take};
+ghost use Rattle.std.specs.Prelude.{◌≡◌};
 ghost use Rattle.script.specs.Fnv as F;
 
 // The hash of no bytes.
@@ -25,12 +25,4 @@ pub fn hash_all(bytes: &[u8]) -> u64
         h = mixed(h, *b);
     }
     h
-}
-
-// The hash of the first bytes of a buffer.
-pub fn hash_first(bytes: &[u8], count: usize) -> u64
-    requires { count ≤ length bytes.now }
-    ensures { result ≡ F.mixed_all F.START (take count bytes.now) }
-{
-    hash_all(&bytes[..count])
 }

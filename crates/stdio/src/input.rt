@@ -1,5 +1,5 @@
 // Standard input by lines from a buffer: what could not be read is told from what ended.
-ghost use Rattle.std.specs.Prelude.{◌≡◌, ◌+◌, ◌≤◌, [], length, drop, position, ◌==◌, IfSome};
+ghost use Rattle.std.specs.Prelude.{◌≡◌, ◌+◌, ◌≤◌, [], length, IfSome};
 
 use std::io::Read;
 use std::marker::Model;
@@ -44,18 +44,10 @@ impl Input {
     }
 
     // The bytes that were read and not taken.
-    pub fn rest(&self) -> &[u8]
+    fn rest(&self) -> &[u8]
         ensures { result.now ≡ self.now }
     {
         &self.text[self.next..self.held]
-    }
-
-    // Takes some of them.
-    pub fn take(&mut self, count: usize)
-        requires { count ≤ length self.old }
-        ensures { self.new ≡ drop count self.old }
-    {
-        self.next += count;
     }
 
     // How many bytes stand before the next line end, where one is held.
@@ -63,14 +55,6 @@ impl Input {
         ensures { IfSome result (λ n. n + 1 ≤ length self.now) }
     {
         self.rest().iter().position(|b| *b == b'\n')
-    }
-
-    // The next line, where its end is held; it is not taken.
-    pub fn whole_line(&self) -> Option<&[u8]>
-        ensures { IfSome result (λ line. length line.now + 1 ≤ length self.now) }
-    {
-        let count = self.line_end()?;
-        Some(&self.rest()[..count])
     }
 
     // Reads once, behind what is left; whether more is held then. Where a read fails nothing is left.
