@@ -193,24 +193,21 @@ module _ (a : Areas) (f : List ℕ) (l : Lendable a f) where
         other_room = frame a f 0 room_at620 (primed_page 8)
 
   calm_plain : Calm plain 0
-  unfolding any_span
   calm_plain = record { audio = refl; there = refl; awake = refl; few = refl }
 
   calm_stack : Calm with_stack 0
-  unfolding any_span
   calm_stack = record { audio = refl; there = refl; awake = refl; few = refl }
 
-  calm_span : (t : ℕ) → any_span with_span.gone 0 1 t ≡ false → within with_span.suspend t ≡ false → Calm with_span t
+  calm_span : (t : ℕ) → any_span (take 1 with_span.gone) t ≡ false → within with_span.suspend t ≡ false → Calm with_span t
   calm_span t e f = record { audio = refl; there = e; awake = f; few = refl }
 
   calm_sleep : (t : ℕ) → within with_sleep.suspend t ≡ false → Calm with_sleep t
-  unfolding any_span
   calm_sleep t e = record { audio = refl; there = refl; awake = e; few = refl }
 
   -- ---- the resets
 
   leads_gone_back : Leads with_span a (gone_and_back a f) start (standing Vbus false 0 495 495 false) fresh (record { since = none; ever = frames 7 0 })
-  unfolding gone_and_back any_span
+  unfolding gone_and_back
   leads_gone_back =
       let m = words f [] stalled_page in
       let ok = fit [] stalled_page refl refl in
@@ -219,7 +216,7 @@ module _ (a : Areas) (f : List ℕ) (l : Lendable a f) where
       (leads_back with_span a long refl refl 2 m ok Stream 494 483 (omega arith) refl refl pages.rs_stalled (alike 7 0)))
 
   leads_again : Leads with_span a (gone_and_again a f) start (standing Stream false 0 987 977 false) fresh (record { since = frames 7 0; ever = frames 14 0 })
-  unfolding gone_and_again any_span
+  unfolding gone_and_again
   leads_again =
       let m = words f [] stalled_page in
       let ok = fit [] stalled_page refl refl in
@@ -233,7 +230,7 @@ module _ (a : Areas) (f : List ℕ) (l : Lendable a f) where
       (streams_brings with_span a long 3 later good (fit (block_at400 0x0700_0000) (primed_page 0x80000) refl refl) pages.rs_in 986 977 (omega arith) 1 false (contents f).good_block y)
 
   leads_cleared : Leads with_stack a (run_bit_cleared a f) start (standing Vbus false 0 494 494 false) fresh (record { since = none; ever = frames 7 0 })
-  unfolding run_bit_cleared any_span
+  unfolding run_bit_cleared
   leads_cleared =
       leads_then (leads_good with_stack calm_stack)
       (leads_left with_stack a long refl refl 0 (words f [] stopped_page) (fit [] stopped_page refl refl) Stream 493 483 (omega arith) refl refl refl pages.rs_stopped (alike 7 0))
@@ -250,7 +247,7 @@ module _ (a : Areas) (f : List ℕ) (l : Lendable a f) where
   room = words f room_at420 (primed_page 8)
 
   leads_suspended : Leads with_sleep a (then_suspended a f) start (marked true Stream 494 483 false) fresh (alike 7 0)
-  unfolding then_suspended any_span
+  unfolding then_suspended
   leads_suspended =
       leads_then (leads_good with_sleep (calm_sleep 0 refl))
       (leads_suspends with_sleep a long refl 1 (words f [] stalled_page) (fit [] stalled_page refl refl) Stream 493 483 (omega arith) refl refl (alike 7 0))
@@ -268,7 +265,6 @@ module _ (a : Areas) (f : List ℕ) (l : Lendable a f) where
       (streams_brings with_sleep a long 3 (calm_sleep 3 refl) good good_fit pages.rs_in 495 483 (omega arith) 1 false (contents f).good_block (alike 7 7))
 
   awake_sleep : (t : ℕ) → within with_sleep.suspend t ≡ false → within with_sleep.sleep t ≡ false → Awake with_sleep t
-  unfolding any_span
   awake_sleep t e f = record { there = refl; awake = e; reads = f; stack = refl }
 
   abbrev sleepers : List Call → Host
@@ -294,14 +290,14 @@ module _ (a : Areas) (f : List ℕ) (l : Lendable a f) where
       record { suspended = ap (λ (x : Stand). x.suspended) o.stands; asleep = ap (λ (x : Aside). x.asleep) aside_before }
 
   aside_then : aside_host (sleepers (then_suspended a f)) ≡ record { block = 368; channels = 12; asleep = 1 }
-  unfolding then_suspended any_span
+  unfolding then_suspended
   aside_then =
       let h = sleepers (one_block a f) in
       let o = (leads_good with_sleep (calm_sleep 0 refl)).host (new_host with_sleep) (on_new with_sleep) in
       let m = words f [] stalled_page in
       let of_settings : h.settings ≡ with_sleep = o.settings in
       ap aside_host (last_is (one_block a f) (frame a f 1 [] stalled_page) ∙ step_is with_sleep a long refl 1 m (fit [] stalled_page refl refl) (standing Stream false 0 493 483 false) (omega arith) h o)
-      ∙ aside_suspended 1 (world_of h (lend a m)) (ap (λ (x : Settings). any_span x.gone 0 x.spans 1) of_settings) (ap (λ (x : Settings). within x.suspend 1) of_settings)
+      ∙ aside_suspended 1 (world_of h (lend a m)) (ap (λ (x : Settings). any_span (take x.spans x.gone) 1) of_settings) (ap (λ (x : Settings). within x.suspend 1) of_settings)
       ∙ ap slept aside_before
 
   rests_suspended : Rests with_sleep (then_suspended a f) true 1
@@ -342,7 +338,6 @@ module _ (a : Areas) (f : List ℕ) (l : Lendable a f) where
   -- ---- every setup is answered
 
   calm_input : Calm with_input 0
-  unfolding any_span
   calm_input = record { audio = refl; there = refl; awake = refl; few = refl }
 
   abbrev rest_memory : Memory
@@ -521,7 +516,6 @@ module _ (a : Areas) (f : List ℕ) (l : Lendable a f) where
     h = streamed a f x
 
     awake_plain : Awake plain 0
-    unfolding any_span
     awake_plain = record { there = refl; awake = refl; reads = refl; stack = refl }
 
     on_streamed : On plain a (standing Stream false 0 492 483 false) h
@@ -583,7 +577,6 @@ module _ (a : Areas) (f : List ℕ) (l : Lendable a f) where
   -- ---- the bad block is read
 
   hears_bad : Hears plain (to_stream a f) (lend a (words f (block_at400 0x0800_0000) (primed_page 0x80000))) ((8 ∷ replicate 367 0) ∷ [])
-  unfolding any_span
   hears_bad =
       let m = words f (block_at400 0x0800_0000) (primed_page 0x80000) in
       let h = after (new_host plain) (to_stream a f) in
@@ -602,7 +595,7 @@ module _ (a : Areas) (f : List ℕ) (l : Lendable a f) where
       }
 
   pub reached : Reached a f
-  unfolding any_span created settled
+  unfolding created settled
   reached =
       record {
         made = (refl, (refl, (refl, (refl, refl))));

@@ -1,4 +1,5 @@
 -- The microframes that reset the sums: the cable goes and the host is back, and the firmware leaves the bus.
+use lib.ListN.{take}
 use Prim.Native.Nat.{ℕ, ◌+◌, ◌<◌}
 use mathlib.Core.Path.{◌≡◌, refl, ap, ap₂, sym, subst, ◌∙◌}
 use mathlib.Core.Bool.{Bool, true, false, not, ◌&&◌}
@@ -246,20 +247,20 @@ module _ (c : Settings) (a : Areas) (long : Long a) (few : leb c.spans 16 ≡ tr
         sums = tested_tally t w r false 0 false sum y;
       }
 
-  pub leads_gone : any_span c.gone 0 c.spans t ≡ true → (y : Tally) → Leads c a (call ∷ []) (standing q false 0 u s stack) (Gone (u + 1)) y y
+  pub leads_gone : any_span (take c.spans c.gone) t ≡ true → (y : Tally) → Leads c a (call ∷ []) (standing q false 0 u s stack) (Gone (u + 1)) y y
   leads_gone away y =
       leads_one c a long few t m fit (standing q false 0 u s stack) early (Gone (u + 1)) y y (λ w e.
-      let spans : gone_at t w ≡ true = of_settings (λ x. any_span x.gone 0 x.spans t) e ∙ away in
+      let spans : gone_at t w ≡ true = of_settings (λ x. any_span (take x.spans x.gone) t) e ∙ away in
       goes (standing q false 0 u s stack) (Gone (u + 1)) false y (λ k. gone_held (counting (k.stand.uf + 1) k)) w e
       (frame_gone t w spans (of_settings (λ x. x.midi_in) e ∙ midi) (ap (λ (x : Stand). x.gone) e.stands) (omega (arith, ap (λ (x : Stand). x.uf) e.stands, early)))
       refl (tested_gone t w spans))
 
   -- with RS set on the page that it is lent: the host is back
-  pub leads_back : any_span c.gone 0 c.spans t ≡ false → within c.suspend t ≡ false → any (word_at m.page USBCMD) 1 ≡ true
+  pub leads_back : any_span (take c.spans c.gone) t ≡ false → within c.suspend t ≡ false → any (word_at m.page USBCMD) 1 ≡ true
       → (y : Tally) → Leads c a (call ∷ []) (Gone u) (standing Vbus false 0 (u + 1) (u + 1) stack) y (played true false 0 false y)
   leads_back near awake set y =
       leads_one c a long few t m fit (Gone u) early (standing Vbus false 0 (u + 1) (u + 1) stack) y (played true false 0 false y) (λ w e.
-      let spans : gone_at t w ≡ false = of_settings (λ x. any_span x.gone 0 x.spans t) e ∙ near in
+      let spans : gone_at t w ≡ false = of_settings (λ x. any_span (take x.spans x.gone) t) e ∙ near in
       let away : w.state.port.gone ≡ true = ap (λ (x : Stand). x.gone) e.stands in
       goes (Gone u) (standing Vbus false 0 (u + 1) (u + 1) stack) true y (λ k. entered_held Vbus (seeing (pick stack true k.stand.was_running) (fresh_held (counting (k.stand.uf + 1) k)))) w e
       (frame_back t w spans (of_settings (λ x. within x.suspend t) e ∙ awake) (ap (λ (x : Memory). any (word_at x.page USBCMD) 1) e.memory ∙ set)
@@ -269,11 +270,11 @@ module _ (c : Settings) (a : Areas) (long : Long a) (few : leb c.spans 16 ≡ tr
       (tested_back t w spans away))
 
   -- with RS clear and a device stack that has seen it set
-  pub leads_left : stack ≡ true → any_span c.gone 0 c.spans t ≡ false → within c.suspend t ≡ false → any (word_at m.page USBCMD) 1 ≡ false
+  pub leads_left : stack ≡ true → any_span (take c.spans c.gone) t ≡ false → within c.suspend t ≡ false → any (word_at m.page USBCMD) 1 ≡ false
       → (y : Tally) → Leads c a (call ∷ []) (standing q false 0 u s stack) (standing Vbus false 0 (u + 1) (u + 1) false) y (played true false 0 false y)
   leads_left has near awake clear y =
       leads_one c a long few t m fit (standing q false 0 u s stack) early (standing Vbus false 0 (u + 1) (u + 1) false) y (played true false 0 false y) (λ w e.
-      let spans : gone_at t w ≡ false = of_settings (λ x. any_span x.gone 0 x.spans t) e ∙ near in
+      let spans : gone_at t w ≡ false = of_settings (λ x. any_span (take x.spans x.gone) t) e ∙ near in
       let woken : asleep_at t w ≡ false = of_settings (λ x. within x.suspend t) e ∙ awake in
       let rs : rs_set w ≡ false = ap (λ (x : Memory). any (word_at x.page USBCMD) 1) e.memory ∙ clear in
       let device : w.settings.device_stack ≡ true = of_settings (λ x. x.device_stack) e ∙ has in

@@ -5,7 +5,7 @@ use mathlib.Core.Bool.{Bool, true, false, not, ◌&&◌}
 use mathlib.Core.List.{[], ◌∷◌}
 use native.Mathlib.Omega.{arith}
 use lib.Dec.{eqb, leb}
-use lib.ListN.{replicate}
+use lib.ListN.{replicate, take}
 use Rattle.bits.specs.Pick.{pick}
 use Rattle.bits.proofs.Tests.{false_true}
 use Rattle.bus.specs.Memory.{Memory}
@@ -95,11 +95,11 @@ module _ (c : Settings) (a : Areas) (long : Long a) (few : leb c.spans 16 ≡ tr
   abbrev stack : Bool
   stack = c.device_stack
 
-  pub leads_suspends : any_span c.gone 0 c.spans t ≡ false → within c.suspend t ≡ true
+  pub leads_suspends : any_span (take c.spans c.gone) t ≡ false → within c.suspend t ≡ true
       → (y : Tally) → Leads c a (microframe t (lend a m) ∷ []) (standing q false 0 u s stack) (marked true q (u + 1) s stack) y y
   leads_suspends near asleep y =
       leads_one c a long few t m fit (standing q false 0 u s stack) early (marked true q (u + 1) s stack) y y (λ w e.
-      let spans : gone_at t w ≡ false = ap (λ (x : Settings). any_span x.gone 0 x.spans t) e.settings ∙ near in
+      let spans : gone_at t w ≡ false = ap (λ (x : Settings). any_span (take x.spans x.gone) t) e.settings ∙ near in
       let sleeping : asleep_at t w ≡ true = ap (λ (x : Settings). within x.suspend t) e.settings ∙ asleep in
       let still : w.state.port.gone ≡ false = ap (λ (x : Stand). x.gone) e.stands in
       let now =
@@ -136,7 +136,7 @@ aside_host h = record { block = h.audio.block; channels = h.audio.channels; asle
 
 -- settings without the device stack, and a time in none of their spans
 pub record Awake (c : Settings) (t : ℕ) : Type 0 where
-  pub there : any_span c.gone 0 c.spans t ≡ false
+  pub there : any_span (take c.spans c.gone) t ≡ false
   pub awake : within c.suspend t ≡ false
   pub reads : within c.sleep t ≡ false
   pub stack : c.device_stack ≡ false
@@ -155,7 +155,7 @@ aside_step c t k l h e = by_number (eqb (frame_number h l) 0)
         record {
           settings = ap (λ (z : Shape). z.settings) (shape_kept t w);
           aside =
-              aside_awake t w (ap (λ (x : Settings). any_span x.gone 0 x.spans t) e ∙ k.there) (ap (λ (x : Settings). within x.suspend t) e ∙ k.awake)
+              aside_awake t w (ap (λ (x : Settings). any_span (take x.spans x.gone) t) e ∙ k.there) (ap (λ (x : Settings). within x.suspend t) e ∙ k.awake)
               (ap (λ (x : Settings). x.device_stack) e ∙ k.stack) (ap (λ (x : Settings). within x.sleep t) e ∙ k.reads);
         }
     by_number false = record { settings = refl; aside = refl }

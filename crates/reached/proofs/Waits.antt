@@ -5,7 +5,7 @@ use mathlib.Core.Bool.{Bool, true, false, not, ◌&&◌, ◌||◌}
 use mathlib.Core.List.{List, [], ◌∷◌}
 use native.Mathlib.Omega.{arith}
 use lib.Dec.{eqb, leb, ltb, eqb-suc-zero}
-use lib.ListN.{replicate}
+use lib.ListN.{replicate, take}
 use borrow.Author.Tests.{lt-ltb, le-ltb}
 use Rattle.bits.specs.Pick.{pick}
 use Rattle.bits.specs.Word.{any}
@@ -37,7 +37,7 @@ use Rattle.reached.proofs.Queued.{queue_first, queue_posted}
 -- settings without a serial device, and a time at which the host is neither gone nor suspended
 pub record Calm (c : Settings) (t : ℕ) : Type 0 where
   pub audio : c.cdc ≡ false
-  pub there : any_span c.gone 0 c.spans t ≡ false
+  pub there : any_span (take c.spans c.gone) t ≡ false
   pub awake : within c.suspend t ≡ false
   pub few : leb c.spans 16 ≡ true
 
@@ -75,7 +75,7 @@ module _ (c : Settings) (a : Areas) (long : Long a) (t : ℕ) (calm : Calm c t) 
       record {
         timers = subst (λ (x : Memory). Stopped x.page) (sym e.memory) fit.timers;
         audio = ap (λ (x : Settings). x.cdc) e.settings ∙ calm.audio;
-        there = ap (λ (x : Settings). any_span x.gone 0 x.spans t) e.settings ∙ calm.there;
+        there = ap (λ (x : Settings). any_span (take x.spans x.gone) t) e.settings ∙ calm.there;
         awake = ap (λ (x : Settings). within x.suspend t) e.settings ∙ calm.awake;
         rs = ap (λ (x : Memory). any (word_at x.page USBCMD) 1) e.memory ∙ rs;
         still = ap (λ (x : Stand). x.gone) e.stands ∙ g;

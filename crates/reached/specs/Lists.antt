@@ -3,7 +3,9 @@ use Rattle.std.specs.Prelude.{ℕ, ◌+◌, ◌*◌, ◌^◌, Bool, true, false,
 use Rattle.bus.specs.Memory.{Memory, memory}
 use Rattle.bus.specs.Words.{word_put}
 use Rattle.usbdev.specs.Offsets.{USBCMD, EPLISTADDR, EPSR, EPCR0}
+use Rattle.record.specs.declared.Span.{Span}
 use Rattle.record.specs.declared.Settings.{Settings}
+use Rattle.record.specs.Record.{no_span}
 use Rattle.usbhost.specs.declared.Host.{Host}
 use Rattle.usbhost.specs.Host.{new_host}
 use Rattle.usbhost.specs.Calls.{given_ring}
@@ -124,28 +126,28 @@ whole_answer = answer_of 32 ((0x800, 0x0902_2000) ∷ [])
 -- ---- settings (document 01, "Host record")
 
 -- neither MIDI input nor a serial device, no span of sleep or suspend; b: the device stack; n gone spans, in a table
-abbrev pub audio_settings : Bool → ℕ → List ℕ → Settings
+abbrev pub audio_settings : Bool → ℕ → List Span → Settings
 audio_settings b n table =
     record {
       device_stack = b;
       midi_in = false;
       cdc = false;
       midi_every = 0;
-      sleep = record { from = 0; to = 0 };
-      suspend = record { from = 0; to = 0 };
+      sleep = no_span;
+      suspend = no_span;
       spans = n;
       gone = table;
     }
 
 abbrev pub plain : Settings
-plain = audio_settings false 0 (replicate 32 0)
+plain = audio_settings false 0 (replicate 16 no_span)
 
 abbrev pub with_stack : Settings
-with_stack = audio_settings true 0 (replicate 32 0)
+with_stack = audio_settings true 0 (replicate 16 no_span)
 
 -- the host is gone from 1 to 2
 abbrev pub with_span : Settings
-with_span = audio_settings false 1 (1 ∷ 2 ∷ replicate 30 0)
+with_span = audio_settings false 1 (record { from = 1; to = 2 } ∷ replicate 15 no_span)
 
 -- MIDI input, no span
 abbrev pub with_input : Settings
@@ -155,10 +157,10 @@ with_input =
       midi_in = true;
       cdc = false;
       midi_every = 0;
-      sleep = record { from = 0; to = 0 };
-      suspend = record { from = 0; to = 0 };
+      sleep = no_span;
+      suspend = no_span;
       spans = 0;
-      gone = replicate 32 0;
+      gone = replicate 16 no_span;
     }
 
 -- MIDI input; suspended from 1 to 2, and no MIDI is read from 3 to 4
@@ -172,7 +174,7 @@ with_sleep =
       sleep = record { from = 3; to = 4 };
       suspend = record { from = 1; to = 2 };
       spans = 0;
-      gone = replicate 32 0;
+      gone = replicate 16 no_span;
     }
 
 -- ---- the lists; a and f: the areas and the static memory that every call is lent
