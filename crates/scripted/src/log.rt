@@ -1,10 +1,10 @@
 // The lines that show the host record: what a microframe logs, and an observation.
 use crate::areas::{Areas, first};
 use crate::run::Run;
-use gptimers::ZERO;
 use midi::Packer;
 use record::{Answer, Audio, Control, Ring, State};
 use script::{answers, hash};
+use shown::{held_hash, show_packer, show_timer};
 use stdio::Output;
 
 // Bytes that came in: how many, and their hash.
@@ -86,12 +86,6 @@ fn ring_hash(words: &[u32], ring: Ring) -> u64 {
     all
 }
 
-// The hash of the bytes that a packer holds.
-fn held_hash(packer: Packer) -> u64 {
-    let held = [packer.first, packer.second];
-    first_hash(&held, usize::from(packer.held))
-}
-
 // Fields 1 to 6.
 fn show_phase(state: &State, out: &mut Output) {
     answers::field(out, state.phase as u64);
@@ -133,12 +127,6 @@ fn show_held(state: &State, out: &mut Output) {
     answers::field(out, state.audio.sending.len as u64);
 }
 
-// Whether a timer is loaded, and its count in two's complement.
-fn show_timer(timer: Option<u64>, out: &mut Output) {
-    answers::flag(out, timer.is_some());
-    answers::field(out, timer.map_or(0, |count| count.wrapping_sub(ZERO)));
-}
-
 // Fields 17 to 23.
 fn show_port(state: &State, out: &mut Output) {
     answers::flag(out, state.port.suspended);
@@ -146,13 +134,6 @@ fn show_port(state: &State, out: &mut Output) {
     answers::flag(out, state.port.was_running);
     show_timer(state.timers.zero, out);
     show_timer(state.timers.one, out);
-}
-
-// A packer's status, how many bytes it holds, and whether it is inside SysEx.
-fn show_packer(packer: Packer, out: &mut Output) {
-    answers::field(out, u64::from(packer.status));
-    answers::field(out, u64::from(packer.held));
-    answers::flag(out, packer.sysex);
 }
 
 // Fields 24 to 28.
