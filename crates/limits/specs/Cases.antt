@@ -1,5 +1,5 @@
 -- A case of all calls on a host: the fields that its numbers of refusal read, each with its usual value, and the numbers that the calls answer.
-use Rattle.std.specs.Prelude.{◌≡◌, ℕ, Bool, List, [], ◌∷◌, ◌++◌, map, length, ◌==◌}
+use Rattle.std.specs.Prelude.{◌≡◌, ℕ, Bool, Some, None, List, [], ◌∷◌, ◌++◌, map, length, ◌==◌}
 use Rattle.bits.specs.Pick.{pick}
 use Rattle.midi.specs.declared.Packer.{Packer}
 use Rattle.midi.specs.Packer.{packer_at}
@@ -133,8 +133,8 @@ state_by v o =
           };
       timers =
           record {
-            zero = record { set = flag (v zero_set); count = v zero_count };
-            one = record { set = flag (v one_set); count = v one_count };
+            zero = pick (flag (v zero_set)) (Some (v zero_count)) None;
+            one = pick (flag (v one_set)) (Some (v one_count)) None;
           };
       stats =
           v microframes

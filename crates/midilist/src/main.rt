@@ -58,7 +58,14 @@ fn list_piece(p: Packer, bytes: &[u8], out: &mut [u8]) -> Piece
     for b in bytes {
         let fed = packer.feed(*b);
         if let Some(packet) = fed.event {
-            put_line(out, end, packet.code, packet.first, packet.second, packet.third);
+            put_line(
+                out,
+                end,
+                packet.code,
+                packet.first,
+                packet.second,
+                packet.third,
+            );
             end += 12;
             packets += 1;
         }
