@@ -66,7 +66,7 @@ pub fn run<P: Part + Drop>(rt: HostRuntime, part: P, program: &str) {
         let Some(line) = input.next_line() else {
             break;
         };
-        let long = line.len() == 65536;
+        let long = 65536 <= line.len();
         if long || bench.call(line, &mut out).is_none() {
             answers::bad_line(&mut out);
         }

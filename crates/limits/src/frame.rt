@@ -4,7 +4,7 @@ use crate::case::{Field, Row};
 use crate::marks::{MARK, WORD_MARK, changed};
 
 // The areas that a microframe is lent.
-#[derive(Clone, Copy)]
+#[derive(Drop)]
 struct Areas {
     dynamic: [u8; record::RECEIVE],
     sram: [u8; record::RECEIVE],

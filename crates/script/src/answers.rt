@@ -1,5 +1,5 @@
 // Answers as text, put into the output.
-ghost use Rattle.std.specs.Prelude.{◌<◌, ◌≤◌};
+ghost use Rattle.std.specs.Prelude.{◌≡◌, ◌+◌, ◌<◌, ◌≤◌, length};
 ghost use Rattle.stdio.specs.Behind.{Behind};
 
 use refusal::Refusal;
@@ -59,7 +59,8 @@ pub fn flag(out: &mut Output, on: bool)
 
 // A byte as two digits.
 pub fn pair(out: &mut Output, b: u8)
-    ensures { Behind 2 out.old out.new }
+    ensures behind { Behind 2 out.old out.new }
+    ensures both { length out.old + 2 ≤ 65536 → length out.new ≡ length out.old + 2 }
 {
     out.append_first(&[glyph(b / 16), glyph(b % 16)], 2);
 }

@@ -4,7 +4,7 @@
 pub const DYNAMIC: usize = 1_048_576;
 
 // All of them are zero at a run's start; the first bytes of `dynamic` and the first words of `sending` are the run's. `bytes` are those of a line that sends.
-#[derive(Clone, Copy)]
+#[derive(Drop)]
 pub struct Areas {
     pub setups: [u8; record::SETUP_BYTES],
     pub midi: [u8; record::QUEUE],

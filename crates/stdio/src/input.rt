@@ -95,7 +95,9 @@ impl Input {
     }
 
     // The next line, taken with its end. The last one may have none; one of 65,536 bytes is the start of a line that the buffer does not hold.
-    pub fn next_line(&mut self) -> Option<&[u8]> {
+    pub fn next_line(&mut self) -> Option<&[u8]>
+        ensures { IfSome result (λ line. length line.now ≤ 65536) }
+    {
         let count = self.fetch();
         if self.next == self.held {
             return None;
