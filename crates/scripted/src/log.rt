@@ -7,6 +7,9 @@ use script::{answers, hash};
 use shown::{held_hash, show_packer, show_timer};
 use stdio::Output;
 
+// The counters that the Rust has, which the log shows; a record may have more behind them.
+const STATS: usize = 13;
+
 // Bytes that came in: how many, and their hash.
 #[derive(Clone, Copy)]
 pub struct Bytes {
@@ -162,8 +165,8 @@ pub fn show_record(run: &Run, came: Came, out: &mut Output) {
     show_block(state.audio, run.packers[0], out);
     answers::field(out, state.lengths.device as u64);
     answers::field(out, state.lengths.config as u64);
-    for n in state.stats {
-        answers::field(out, n);
+    for n in state.stats.iter().take(STATS) {
+        answers::field(out, *n);
     }
     show_came(state.port.line, came, out);
 }
