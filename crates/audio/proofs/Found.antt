@@ -3,8 +3,8 @@ use Rattle.std.proofs.Common.{◌≡◌, ℕ, suc, ◌<◌, Bool, true, false, n
 use Rattle.bus.specs.Memory.{Memory}
 use Rattle.bus.specs.Stores.{bus}
 use Rattle.usbdev.specs.Transfer.{total_of}
-use Rattle.dtd.specs.declared.Found.TheVariants.{Unprimed, Ended, Active}
-use Rattle.dtd.specs.Dtd.{endpoint, interrupts, Run, settled, run_dtds, found}
+use Rattle.dtd.specs.declared.Found.TheVariants.{Unprimed, Ended}
+use Rattle.dtd.specs.Dtd.{endpoint, interrupts, Run, settled, run_dtds, found, active}
 use Rattle.dtd.proofs.Runs.{says_unprimed, says_ended, says_active, IsActive, run_unprimed, run_ended, active_done, single, input_length}
 use Rattle.model.specs.Streams.{nonempty, brought}
 
@@ -25,7 +25,7 @@ module _ (ep : ℕ) (some : 0 < ep) (m : Memory) (flag : Bool) where
       ap (λ (r : Run). brought r) (run_ended (endpoint ep input) bs (bus m flag) (single ep input some) says.0 says.1)
 
   -- an active descriptor of an input endpoint
-  module _ (qh n tok : ℕ) (f : found (endpoint ep true) m ≡ Active qh n tok) where
+  module _ (qh n tok : ℕ) (f : found (endpoint ep true) m ≡ active qh n tok) where
     is_active_lem : IsActive (endpoint ep true) m qh n tok
     is_active_lem = says_active (endpoint ep true) m qh n tok f
 

@@ -15,8 +15,8 @@ use Rattle.usbdev.proofs.Tokens.{total_lt}
 use Rattle.transfer.specs.Transfer.{pointers, pointers_for, bytes_in}
 use Rattle.transfer.proofs.Addresses.{bytes_for}
 use Rattle.dtd.specs.declared.Ran.{Ran}
-use Rattle.dtd.specs.declared.Found.TheVariants.{Unprimed, Ended, Active}
-use Rattle.dtd.specs.Dtd.{descriptor, bit_of, primed, next_active, terminates, queue_head, next_of, next_dtd, token_of, found, settling, list_ends, unpriming, reporting, Run, run_dtds}
+use Rattle.dtd.specs.declared.Found.TheVariants.{Unprimed, Ended}
+use Rattle.dtd.specs.Dtd.{descriptor, bit_of, primed, next_active, terminates, queue_head, next_of, next_dtd, token_of, found, settling, list_ends, unpriming, reporting, Run, run_dtds, active}
 use Rattle.dtd.specs.Promises.{none_ran, TakesOne, SendsOne, Runs}
 use Rattle.dtd.proofs.Runs.{runs_unprimed, runs_ended, runs_active, single, says_unprimed, says_ended, says_active, input_bytes}
 use Rattle.record.specs.declared.Ring.{Ring}
@@ -163,7 +163,7 @@ decoded_same s long =
 
 -- input of an active descriptor
 module _ (s : State) (m m' : Memory) (l l' : List ℕ) (qh td tok total : ℕ) (ps : List ℕ) (d : Decoded) (ran : Ran) (t : Bool)
-    (z : Sized m) (is : found audio_in m ≡ Active qh td tok) (is-total : total ≡ total_of tok)
+    (z : Sized m) (is : found audio_in m ≡ active qh td tok) (is-total : total ≡ total_of tok)
     (at : ℕ) (is_at : at ≡ descriptor td) (is-pointers : ps ≡ pointers_for m at total)
     (before : Decoded) (is-before : before ≡ decoded_of s) (kept : Keeps (keeps_blocks (blocks_of (bytes_in m ps total))) before l d l')
     (takes : TakesOne qh td tok (bit_of audio_in) (S.bus m s.port.line) (S.bus m' ran.line) ran)
@@ -361,7 +361,7 @@ module _ (s : State) (m : Memory) (l : List ℕ) (z : Sized m) (can : CanSend s 
           received = ap (λ (x : Audio). x.received) p.audio;
         }
 
-    pub out_active : (qh td tok : ℕ) → found audio_out m ≡ Active qh td tok → (bs : List ℕ) → ((w : World) → bs ≡ block_of (at_sent w s m l))
+    pub out_active : (qh td tok : ℕ) → found audio_out m ≡ active qh td tok → (bs : List ℕ) → ((w : World) → bs ≡ block_of (at_sent w s m l))
         → (m' : Memory) (ran : Ran) → SendsOne qh td tok (bit_of audio_out) bs (S.bus m s.port.line) (S.bus m' ran.line) ran
         → (r₁ r : State) → r₁ ≡ after_run s ran → r ≡ sent_block r₁ (length l / 12) → Outputs stream_out s m l r m'
     unfolding stream_out

@@ -2,8 +2,7 @@
 #![tactic(auto)]
 
 ghost use Rattle.std.specs.Prelude.{◌≡◌, ◌≤◌, length};
-ghost use Rattle.bus.specs.Memory.{shown};
-ghost use Rattle.bus.specs.Sized.{Sized};
+ghost use Rattle.bus.specs.Windows.{viewed, contents, SameWindows};
 ghost use Rattle.dtd.specs.Dtd as D;
 ghost use Rattle.dtd.specs.declared.Found.TheVariants.{Active};
 ghost use Rattle.model.specs.Audio as Steps;
@@ -11,9 +10,10 @@ ghost use Rattle.blocks.specs.Promises.{InRing, with_decoded};
 ghost use Rattle.record.specs.Sizes as Sizes;
 ghost use Rattle.audio.specs.Promises as P;
 
+use bus::{View, Windows};
 use blocks::Decoded;
-use dtd::Found;
-use record::{Audio, Counter, Ring, State};
+use dtd::{Descriptor, Found};
+use record::{Audio, Counter, Ring, State, RING};
 use sending::encode;
 use usbdev::EPSR;
 
@@ -30,25 +30,24 @@ pub struct Paced {
 }
 
 // One packet a microframe: a descriptor of n packets completes in its n-th.
-fn pace(dynamic: &[u8], sram: &[u8], page: &[u8], budget: u64) -> Paced
-    requires { Sized (shown dynamic.now sram.now page.now) }
-    ensures { result ≡ P.paced_of (shown dynamic.now sram.now page.now) budget }
+fn pace(view: View<'_>, budget: u64) -> Paced
+    ensures { result ≡ P.paced_of (viewed view.entry) budget }
 {
-    if !bits::any(bus::word_at(page, EPSR), AUDIO_IN) {
+    if !bits::any(bus::word_at(view.page, EPSR), AUDIO_IN) {
         return Paced {
             budget,
             waits: false,
         };
     }
-    let qh = dtd::qh(page, 3, true);
-    let td = dtd::next_dtd(dynamic, sram, page, qh);
+    let qh = dtd::qh(view.page, 3, true);
+    let td = dtd::next_dtd(view, qh);
     if bits::any(td, 1) {
         return Paced {
             budget,
             waits: false,
         };
     }
-    let total = usbdev::total(dtd::token_of(dynamic, sram, page, td)) as u64;
+    let total = usbdev::total(dtd::token_of(view, td)) as u64;
     let grown = budget.wrapping_add(Audio::BLOCK as u64);
     if grown < total {
         return Paced {
@@ -99,24 +98,20 @@ fn count_in(s: State, brought: bool) -> State
 // Input of an active descriptor: its blocks are decoded before it is retired.
 fn take_blocks(
     s: State,
-    dynamic: &mut [u8],
-    sram: &mut [u8],
-    page: &mut [u8],
-    received: &mut [u32],
-    qh: u32,
-    td: u32,
-    tok: u32,
+    windows: &mut Windows<'_>,
+    received: &mut [u32; RING],
+    descriptor: Descriptor,
 ) -> State
-    requires sized { Sized (shown dynamic.old sram.old page.old) }
-    requires in_ring { InRing s.audio.received × (length received.old ≡ Sizes.RING) }
-    requires page_value { D.found Steps.audio_in (shown dynamic.old sram.old page.old) ≡ Active qh td tok }
-    ensures { P.Hears Steps.inputs s (shown dynamic.old sram.old page.old) received.old result (shown dynamic.new sram.new page.new) received.new }
+    requires in_ring { InRing s.audio.received }
+    requires page_value { D.found Steps.audio_in (contents windows.old) ≡ Active descriptor }
+    ensures left { P.Hears Steps.inputs s (contents windows.old) received.old result (contents windows.new) received.new }
+    ensures same { SameWindows windows.old windows.new }
 {
-    let total = usbdev::total(tok) as usize;
-    let ps = transfer::pointers_for(&*dynamic, &*sram, &*page, bits::clear(td, 0x1F), total);
+    let total = usbdev::total(descriptor.token) as usize;
+    let ps = transfer::pointers_for(windows.view(), bits::clear(descriptor.pointer, 0x1F), total);
     let before = decoded_of(s);
-    let d = blocks::decode_run(&*dynamic, &*sram, &*page, &ps, total, received, before);
-    let ran = dtd::take_one(dynamic, sram, page, qh, td, tok, AUDIO_IN, s.port.line);
+    let d = blocks::decode_run(windows.view(), &ps, total, received, before);
+    let ran = dtd::take_one(windows, descriptor, AUDIO_IN, s.port.line);
     let next = count_in(s.after_run(ran), ran.done | (total != 0));
     with_decoded(next, d)
 }
@@ -124,44 +119,36 @@ fn take_blocks(
 // Input that the budget allows.
 fn take_input(
     s: State,
-    dynamic: &mut [u8],
-    sram: &mut [u8],
-    page: &mut [u8],
-    received: &mut [u32],
+    windows: &mut Windows<'_>,
+    received: &mut [u32; RING],
 ) -> State
-    requires sized { Sized (shown dynamic.old sram.old page.old) }
-    requires in_ring { InRing s.audio.received × (length received.old ≡ Sizes.RING) }
-    ensures { P.Hears Steps.inputs s (shown dynamic.old sram.old page.old) received.old result (shown dynamic.new sram.new page.new) received.new }
+    requires { InRing s.audio.received }
+    ensures left { P.Hears Steps.inputs s (contents windows.old) received.old result (contents windows.new) received.new }
+    ensures same { SameWindows windows.old windows.new }
 {
-    match dtd::find(&*dynamic, &*sram, &*page, 3, true, AUDIO_IN) {
-        Found::Unprimed => s.after_run(dtd::none_ran(s.port.line)),
-        Found::Ended => {
-            let line = dtd::settle(&*dynamic, &*sram, page, AUDIO_IN, 1, false, s.port.line);
-            s.after_run(dtd::none_ran(line))
-        }
-        Found::Active(qh, td, tok) => { take_blocks(s, dynamic, sram, page, received, qh, td, tok) }
+    match dtd::begin(windows, 3, true, AUDIO_IN, s.port.line) {
+        Ok(descriptor) => take_blocks(s, windows, received, descriptor),
+        Err(ran) => s.after_run(ran),
     }
 }
 
 // The input step.
 pub fn stream_in(
     s: State,
-    dynamic: &mut [u8],
-    sram: &mut [u8],
-    page: &mut [u8],
-    received: &mut [u32],
+    windows: &mut Windows<'_>,
+    received: &mut [u32; RING],
 ) -> State
-    requires sized { Sized (shown dynamic.old sram.old page.old) }
-    requires in_ring { InRing s.audio.received × (length received.old ≡ Sizes.RING) }
-    ensures { P.Hears Steps.stream_in s (shown dynamic.old sram.old page.old) received.old result (shown dynamic.new sram.new page.new) received.new }
+    requires { InRing s.audio.received }
+    ensures left { P.Hears Steps.stream_in s (contents windows.old) received.old result (contents windows.new) received.new }
+    ensures same { SameWindows windows.old windows.new }
 {
-    let paced = pace(&*dynamic, &*sram, &*page, s.audio.budget);
+    let paced = pace(windows.view(), s.audio.budget);
     let mut next = s;
     next.audio.budget = paced.budget;
     if paced.waits {
         return next;
     }
-    take_input(next, dynamic, sram, page, received)
+    take_input(next, windows, received)
 }
 
 // The state after a block was built of the sending ring's frames, and silence for those that it lacks.
@@ -191,18 +178,14 @@ fn after_block(s: State, capacity: usize) -> State
 // One block into an active descriptor.
 fn send_block(
     s: State,
-    dynamic: &mut [u8],
-    sram: &mut [u8],
-    page: &mut [u8],
+    windows: &mut Windows<'_>,
     sending: &[u32],
-    qh: u32,
-    td: u32,
-    tok: u32,
+    descriptor: Descriptor,
 ) -> State
-    requires sized { Sized (shown dynamic.old sram.old page.old) }
     requires can_send { P.CanSend s sending.now × (7 ≤ s.audio.credit) }
-    requires page_value { D.found Steps.audio_out (shown dynamic.old sram.old page.old) ≡ Active qh td tok }
-    ensures { P.Outputs Steps.stream_out s (shown dynamic.old sram.old page.old) sending.now result (shown dynamic.new sram.new page.new) }
+    requires page_value { D.found Steps.audio_out (contents windows.old) ≡ Active descriptor }
+    ensures left { P.Outputs Steps.stream_out s (contents windows.old) sending.now result (contents windows.new) }
+    ensures same { SameWindows windows.old windows.new }
 {
     let mut block = [0u8; 2048];
     let channels = s.audio.channels as usize;
@@ -218,12 +201,8 @@ fn send_block(
     );
     let n = s.audio.block as usize;
     let ran = dtd::send_one(
-        dynamic,
-        sram,
-        page,
-        qh,
-        td,
-        tok,
+        windows,
+        descriptor,
         AUDIO_OUT,
         &block[..n],
         s.port.line,
@@ -232,11 +211,11 @@ fn send_block(
 }
 
 // A list that has ended is un-primed.
-fn unprime(s: State, dynamic: &[u8], sram: &[u8], page: &mut [u8]) -> State
-    requires { Sized (shown dynamic.now sram.now page.old) }
-    ensures { P.Unprimes s (shown dynamic.now sram.now page.old) result (shown dynamic.now sram.now page.new) }
+fn unprime(s: State, windows: &mut Windows<'_>) -> State
+    ensures left { P.Unprimes s (contents windows.old) result (contents windows.new) }
+    ensures same { SameWindows windows.old windows.new }
 {
-    let line = dtd::settle(dynamic, sram, page, AUDIO_OUT, 1, false, s.port.line);
+    let line = dtd::settle(windows, AUDIO_OUT, 1, false, s.port.line);
     let mut next = s;
     next.port.line = line;
     next
@@ -245,39 +224,35 @@ fn unprime(s: State, dynamic: &[u8], sram: &[u8], page: &mut [u8]) -> State
 // The output step: one block, where a descriptor is primed and seven frames of credit are left; a list that has ended is un-primed.
 pub fn stream_out(
     s: State,
-    dynamic: &mut [u8],
-    sram: &mut [u8],
-    page: &mut [u8],
+    windows: &mut Windows<'_>,
     sending: &[u32],
 ) -> State
-    requires sized { Sized (shown dynamic.old sram.old page.old) }
-    requires can_send { P.CanSend s sending.now }
-    ensures { P.Outputs Steps.stream_out s (shown dynamic.old sram.old page.old) sending.now result (shown dynamic.new sram.new page.new) }
+    requires { P.CanSend s sending.now }
+    ensures left { P.Outputs Steps.stream_out s (contents windows.old) sending.now result (contents windows.new) }
+    ensures same { SameWindows windows.old windows.new }
 {
     if s.audio.credit < Audio::FRAMES_PER_BLOCK as u64 {
         return s;
     }
-    match dtd::find(&*dynamic, &*sram, &*page, 3, false, AUDIO_OUT) {
+    match dtd::find(windows.view(), 3, false, AUDIO_OUT) {
         Found::Unprimed => s,
-        Found::Ended => unprime(s, &*dynamic, &*sram, page),
-        Found::Active(qh, td, tok) => send_block(s, dynamic, sram, page, sending, qh, td, tok),
+        Found::Ended => unprime(s, windows),
+        Found::Active(descriptor) => send_block(s, windows, sending, descriptor),
     }
 }
 
 // The audio stream: what the device sends, then as many frames back.
 pub fn stream(
     s: State,
-    dynamic: &mut [u8],
-    sram: &mut [u8],
-    page: &mut [u8],
-    received: &mut [u32],
+    windows: &mut Windows<'_>,
+    received: &mut [u32; RING],
     sending: &[u32],
 ) -> State
-    requires sized { Sized (shown dynamic.old sram.old page.old) }
-    requires in_ring { InRing s.audio.received × (length received.old ≡ Sizes.RING) }
+    requires in_ring { InRing s.audio.received }
     requires can_send { P.CanSend s sending.now }
-    ensures { P.Streams Steps.streams s (shown dynamic.old sram.old page.old) received.old sending.now result (shown dynamic.new sram.new page.new) received.new }
+    ensures left { P.Streams Steps.streams s (contents windows.old) received.old sending.now result (contents windows.new) received.new }
+    ensures same { SameWindows windows.old windows.new }
 {
-    let next = stream_in(s, dynamic, sram, page, received);
-    stream_out(next, dynamic, sram, page, sending)
+    let next = stream_in(s, windows, received);
+    stream_out(next, windows, sending)
 }

@@ -2,16 +2,16 @@
 #![tactic(auto)]
 
 ghost use Rattle.std.specs.Prelude.{◌≡◌, ◌+◌, ◌*◌, ◌%◌, ◌<◌, ◌≤◌, length, take, drop};
+ghost use Rattle.bus.specs.Windows.{viewed};
 ghost use Rattle.std.proofs.lemmas.List.Edits.{sets};
-ghost use Rattle.bus.specs.Memory.{shown};
-ghost use Rattle.bus.specs.Sized.{Sized};
 ghost use Rattle.transfer.specs.Transfer.{bytes_in, bytes_from};
 ghost use Rattle.record.specs.Change.{ringed_place};
 ghost use Rattle.model.specs.Audio.{words_of, keeps_block, keeps_blocks, blocks_of};
 ghost use Rattle.record.specs.Sizes as Sizes;
 ghost use Rattle.blocks.specs.Promises.{InRing, Keeps, KeepsFrames, one_bad, one_good};
 
-use record::{Audio, RING_FRAMES, Ring};
+use bus::View;
+use record::{Audio, RING_FRAMES, Ring, RING};
 
 // The place `ahead` frames behind place `start` of a ring with this capacity.
 pub fn place(start: usize, ahead: usize, capacity: usize) -> usize
@@ -43,9 +43,9 @@ fn pushed(ring: Ring) -> Ring
 }
 
 // Frame f of a block goes to a place of the received ring.
-fn decode_frame(block: &[u8], f: usize, received: &mut [u32], at: usize)
+fn decode_frame(block: &[u8], f: usize, received: &mut [u32; RING], at: usize)
     requires block_len { (length block.now ≡ 368) × (f < 7) }
-    requires at_bound { (at < Sizes.FRAMES) × (length received.old ≡ Sizes.RING) }
+    requires at_bound { at < Sizes.FRAMES }
     ensures { received.new ≡ sets received.old (at * 12) (words_of (take 48 (drop (48 * f) (drop 32 block.now)))) }
 {
     for c in 0..Audio::CHANNELS {
@@ -57,9 +57,9 @@ fn decode_frame(block: &[u8], f: usize, received: &mut [u32], at: usize)
 }
 
 // The seven frames of a block go behind those in the received ring.
-fn decode_frames(block: &[u8], received: &mut [u32], before: Ring) -> Ring
+fn decode_frames(block: &[u8], received: &mut [u32; RING], before: Ring) -> Ring
     requires block_len { length block.now ≡ 368 }
-    requires in_ring { InRing before × (length received.old ≡ Sizes.RING) }
+    requires in_ring { InRing before }
     ensures { KeepsFrames (drop 32 block.now) before received.old result received.new }
 {
     let mut ring = before;
@@ -104,21 +104,18 @@ fn one_good(d: Decoded, ring: Ring) -> Decoded
 
 // One whole block, from byte `from` of the run on: bad where its first byte is not 07.
 fn decode_block(
-    dynamic: &[u8],
-    sram: &[u8],
-    page: &[u8],
+    view: View<'_>,
     pointers: &[u32; 9],
     from: usize,
-    received: &mut [u32],
+    received: &mut [u32; RING],
     d: Decoded,
 ) -> Decoded
-    requires sized { Sized (shown dynamic.now sram.now page.now) }
     requires from_bound { from + 368 ≤ 32767 }
-    requires in_ring { InRing d.ring × (length received.old ≡ Sizes.RING) }
-    ensures { Keeps (keeps_block (bytes_from (shown dynamic.now sram.now page.now) pointers.now from 368)) d received.old result received.new }
+    requires in_ring { InRing d.ring }
+    ensures { Keeps (keeps_block (bytes_from (viewed view.entry) pointers.now from 368)) d received.old result received.new }
 {
     let mut block = [0u8; Audio::BLOCK];
-    transfer::copy_part(dynamic, sram, page, pointers, from, &mut block);
+    transfer::copy_part(view, pointers, from, &mut block);
     if block[0] != 7 {
         return one_bad(d);
     }
@@ -129,22 +126,19 @@ fn decode_block(
 
 // All blocks of a run of `total` bytes; a short one at its end is bad.
 pub fn decode_run(
-    dynamic: &[u8],
-    sram: &[u8],
-    page: &[u8],
+    view: View<'_>,
     pointers: &[u32; 9],
     total: usize,
-    received: &mut [u32],
+    received: &mut [u32; RING],
     before: Decoded,
 ) -> Decoded
-    requires sized { Sized (shown dynamic.now sram.now page.now) }
     requires total_bound { total ≤ 32767 }
-    requires in_ring { InRing before.ring × (length received.old ≡ Sizes.RING) }
-    ensures { Keeps (keeps_blocks (blocks_of (bytes_in (shown dynamic.now sram.now page.now) pointers.now total))) before received.old result received.new }
+    requires in_ring { InRing before.ring }
+    ensures { Keeps (keeps_blocks (blocks_of (bytes_in (viewed view.entry) pointers.now total))) before received.old result received.new }
 {
     let mut d = before;
     for i in 0..total / Audio::BLOCK {
-        d = decode_block(dynamic, sram, page, pointers, Audio::BLOCK * i, received, d);
+        d = decode_block(view, pointers, Audio::BLOCK * i, received, d);
     }
     if total % Audio::BLOCK != 0 {
         return one_bad(d);

@@ -8,3 +8,4 @@ pub mod Sizes
 pub mod Registers
 pub mod Edges
 pub mod Storing
+pub mod Lengths

@@ -90,3 +90,11 @@ unfolding is_sized
 sized_is m s =
     simp
     (eq-eqb (length m.sram) 65536 s.sram_length, eq-eqb (length m.page) 4096 s.page_length, power_is (length m.dynamic) s.dynamic_length)
+
+-- the three tests, one by one
+pub sized_parts : (m : Memory) → is_sized m ≡ true → (is_power (length m.dynamic) ≡ true) × ((length m.sram ≡ 65536) × (length m.page ≡ 4096))
+unfolding is_sized
+sized_parts m e =
+    let p = and_true (eqb (length m.sram) 65536) (eqb (length m.page) 4096 && is_power (length m.dynamic)) e in
+    let q = and_true (eqb (length m.page) 4096) (is_power (length m.dynamic)) p.1 in
+    (q.1, (eqb-true (length m.sram) 65536 p.0, eqb-true (length m.page) 4096 q.0))

@@ -4,3 +4,4 @@ pub mod Sized
 pub mod Checked
 pub mod Steps
 pub mod Stores
+pub mod Windows

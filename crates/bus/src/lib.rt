@@ -1,18 +1,21 @@
 // The three windows of memory: reads and writes of bytes and of big-endian words; bytes stored in an area.
 #![tactic(auto)]
 
-ghost use Rattle.std.specs.Prelude.{◌≡◌, ℕ, ◌+◌, ◌≤◌, length, OnOk};
+ghost use Rattle.std.specs.Prelude.{◌≡◌, ℕ, ◌+◌, ◌≤◌, true, length, OnOk};
 ghost use Rattle.bits.specs.Pick.{pick};
-ghost use Rattle.refusal.specs.declared.Refusal.TheVariants.{Windows};
+ghost use Rattle.refusal.specs.declared.Refusal.TheVariants.{Windows as Refusal·Windows};
 ghost use Rattle.std.proofs.lemmas.List.Edits.{sets};
 ghost use Rattle.bus.specs.Memory as M;
 ghost use Rattle.bus.specs.Memory.{shown};
-ghost use Rattle.bus.specs.Sized.{Power, Sized, Left, PageFits, is_power, is_sized};
+ghost use Rattle.bus.specs.Sized.{Power, PageFits, is_power, is_sized};
+ghost use Rattle.bus.specs.Sized as S;
 ghost use Rattle.bus.specs.Words as W;
 ghost use Rattle.bus.specs.Checked.{peeked, poked, peeked_of, poked_of, kept};
 
+mod windows;
+
+pub use crate::windows::{View, Windows};
 use refusal::Refusal;
-use std::num::wrapping_add_u32;
 
 // Bytes of static memory and of the register page.
 pub const SRAM: usize = 65_536;
@@ -55,43 +58,6 @@ pub fn locate(n: usize, a: u32) -> Place
     Place::Nowhere
 }
 
-// The byte at address a.
-#[tactic(auto, using(crate::proofs::Places::peek_at), unfolding(crate::specs::Memory::at, crate::specs::Memory::read))]
-pub fn peek8(dynamic: &[u8], sram: &[u8], page: &[u8], a: u32) -> u8
-    requires { Sized (shown dynamic.now sram.now page.now) }
-    ensures { result ≡ M.peek8 (shown dynamic.now sram.now page.now) a }
-{
-    match locate(dynamic.len(), a) {
-        Place::Dynamic(i) => dynamic[i],
-        Place::Static(i) => sram[i],
-        Place::Page(i) => page[i],
-        Place::Nowhere => 0,
-    }
-}
-
-// Stores v at address a, and answers how many bytes were dropped.
-pub fn poke8(dynamic: &mut [u8], sram: &mut [u8], page: &mut [u8], a: u32, v: u8) -> u32
-    requires { Sized (shown dynamic.old sram.old page.old) }
-    ensures left { Left (shown dynamic.new sram.new page.new) (M.poke8 (shown dynamic.old sram.old page.old) a v) }
-    ensures value { result ≡ M.dropped8 a }
-{
-    match locate(dynamic.len(), a) {
-        Place::Dynamic(i) => {
-            dynamic[i] = v;
-            0
-        }
-        Place::Static(i) => {
-            sram[i] = v;
-            0
-        }
-        Place::Page(i) => {
-            page[i] = v;
-            0
-        }
-        Place::Nowhere => 1,
-    }
-}
-
 // Four bytes as a big-endian word.
 #[tactic(auto, unfolding(crate::specs::Memory::word))]
 pub fn word(b0: u8, b1: u8, b2: u8, b3: u8) -> u32
@@ -119,87 +85,6 @@ pub fn put_at(s: &mut [u8], i: usize, v: u32)
     s[i + 1] = (v / 0x1_0000 % 256) as u8;
     s[i + 2] = (v / 0x100 % 256) as u8;
     s[i + 3] = (v % 256) as u8;
-}
-
-// The word at address a, byte by byte.
-#[tactic(auto, unfolding(crate::specs::Memory::peek32, crate::specs::Memory::after))]
-fn peek32_bytes(dynamic: &[u8], sram: &[u8], page: &[u8], a: u32) -> u32
-    requires { Sized (shown dynamic.now sram.now page.now) }
-    ensures { result ≡ M.peek32 (shown dynamic.now sram.now page.now) a }
-{
-    let b0 = peek8(dynamic, sram, page, a);
-    let b1 = peek8(dynamic, sram, page, wrapping_add_u32(a, 1));
-    let b2 = peek8(dynamic, sram, page, wrapping_add_u32(a, 2));
-    let b3 = peek8(dynamic, sram, page, wrapping_add_u32(a, 3));
-    word(b0, b1, b2, b3)
-}
-
-// Stores v at address a, byte by byte, and answers how many bytes were dropped.
-fn poke32_bytes(dynamic: &mut [u8], sram: &mut [u8], page: &mut [u8], a: u32, v: u32) -> u32
-    requires { Sized (shown dynamic.old sram.old page.old) }
-    ensures left { Left (shown dynamic.new sram.new page.new) (M.poke32 (shown dynamic.old sram.old page.old) a v) }
-    ensures value { result ≡ M.dropped32 a }
-{
-    let n0 = poke8(dynamic, sram, page, a, (v / 0x100_0000) as u8);
-    let n1 = poke8(
-        dynamic,
-        sram,
-        page,
-        wrapping_add_u32(a, 1),
-        (v / 0x1_0000 % 256) as u8,
-    );
-    let n2 = poke8(
-        dynamic,
-        sram,
-        page,
-        wrapping_add_u32(a, 2),
-        (v / 0x100 % 256) as u8,
-    );
-    let n3 = poke8(dynamic, sram, page, wrapping_add_u32(a, 3), (v % 256) as u8);
-    n0 + n1 + n2 + n3
-}
-
-// The word at address a: at once where it lies in one page of 4,096 bytes, since no window ends inside one.
-#[tactic(auto, using(crate::proofs::PageWords::peek_word), unfolding(crate::specs::Memory::at))]
-pub fn peek32(dynamic: &[u8], sram: &[u8], page: &[u8], a: u32) -> u32
-    requires { Sized (shown dynamic.now sram.now page.now) }
-    ensures { result ≡ M.peek32 (shown dynamic.now sram.now page.now) a }
-{
-    if 4092 < a % 4096 {
-        return peek32_bytes(dynamic, sram, page, a);
-    }
-    match locate(dynamic.len(), a) {
-        Place::Dynamic(i) => word_at(dynamic, i),
-        Place::Static(i) => word_at(sram, i),
-        Place::Page(i) => word_at(page, i),
-        Place::Nowhere => 0,
-    }
-}
-
-// Stores v at address a, and answers how many bytes were dropped.
-pub fn poke32(dynamic: &mut [u8], sram: &mut [u8], page: &mut [u8], a: u32, v: u32) -> u32
-    requires { Sized (shown dynamic.old sram.old page.old) }
-    ensures left { Left (shown dynamic.new sram.new page.new) (M.poke32 (shown dynamic.old sram.old page.old) a v) }
-    ensures value { result ≡ M.dropped32 a }
-{
-    if 4092 < a % 4096 {
-        return poke32_bytes(dynamic, sram, page, a, v);
-    }
-    match locate(dynamic.len(), a) {
-        Place::Dynamic(i) => {
-            put_at(dynamic, i, v);
-            0
-        }
-        Place::Static(i) => {
-            put_at(sram, i, v);
-            0
-        }
-        Place::Page(i) => {
-            put_at(page, i, v);
-            0
-        }
-        Place::Nowhere => 4,
-    }
 }
 
 // Whether n is a power of two from 4,096 to 67,108,864.
@@ -231,30 +116,25 @@ pub fn sized(dynamic: &[u8], sram: &[u8], page: &[u8]) -> bool
 }
 
 // Accepts windows that are as long as they must be.
-fn accept(dynamic: &[u8], sram: &[u8], page: &[u8]) -> Result<(), Refusal>
-    ensures tested { result ≡ pick (is_sized (shown dynamic.now sram.now page.now)) (Ok tt) (Err Windows) }
-    ensures sized { OnOk result (Sized (shown dynamic.now sram.now page.now)) }
+pub fn accept(dynamic: &[u8], sram: &[u8], page: &[u8]) -> Result<(), Refusal>
+    ensures tested { result ≡ pick (is_sized (shown dynamic.now sram.now page.now)) (Ok tt) (Err Refusal·Windows) }
+    ensures fits { OnOk result ((is_power (length dynamic.now) ≡ true) × ((length sram.now ≡ S.SRAM) × (length page.now ≡ S.PAGE))) }
 {
-    if sized(dynamic, sram, page) {
-        return Ok(());
-    }
-    Err(Refusal::Windows)
+    refusal::unless(sized(dynamic, sram, page), Refusal::Windows)
 }
 
 // The byte at address a of windows of any lengths.
 pub fn checked_peek8(dynamic: &[u8], sram: &[u8], page: &[u8], a: u32) -> Result<u8, Refusal>
     ensures { peeked_of result ≡ peeked (shown dynamic.now sram.now page.now) (M.peek8 (shown dynamic.now sram.now page.now) a) }
 {
-    accept(dynamic, sram, page)?;
-    Ok(peek8(dynamic, sram, page, a))
+    Ok(View::of(dynamic, sram, page)?.peek8(a))
 }
 
 // The word at address a of windows of any lengths.
 pub fn checked_peek32(dynamic: &[u8], sram: &[u8], page: &[u8], a: u32) -> Result<u32, Refusal>
     ensures { peeked_of result ≡ peeked (shown dynamic.now sram.now page.now) (M.peek32 (shown dynamic.now sram.now page.now) a) }
 {
-    accept(dynamic, sram, page)?;
-    Ok(peek32(dynamic, sram, page, a))
+    Ok(View::of(dynamic, sram, page)?.peek32(a))
 }
 
 // Stores the byte v at address a of windows of any lengths, and answers how many bytes were dropped.
@@ -268,7 +148,14 @@ pub fn checked_poke8(
     ensures { (poked_of result ≡ poked (shown dynamic.old sram.old page.old) (M.dropped8 a)) × (shown dynamic.new sram.new page.new ≡ kept (shown dynamic.old sram.old page.old) (M.poke8 (shown dynamic.old sram.old page.old) a v)) }
 {
     accept(&*dynamic, &*sram, &*page)?;
-    Ok(poke8(dynamic, sram, page, a, v))
+    let sram = sram.as_mut_array::<SRAM>().unwrap();
+    let page = page.as_mut_array::<PAGE>().unwrap();
+    let mut windows = Windows {
+        dynamic,
+        sram,
+        page,
+    };
+    Ok(windows.poke8(a, v))
 }
 
 // Stores the word v at address a of windows of any lengths, and answers how many bytes were dropped.
@@ -282,7 +169,14 @@ pub fn checked_poke32(
     ensures { (poked_of result ≡ poked (shown dynamic.old sram.old page.old) (M.dropped32 a)) × (shown dynamic.new sram.new page.new ≡ kept (shown dynamic.old sram.old page.old) (M.poke32 (shown dynamic.old sram.old page.old) a v)) }
 {
     accept(&*dynamic, &*sram, &*page)?;
-    Ok(poke32(dynamic, sram, page, a, v))
+    let sram = sram.as_mut_array::<SRAM>().unwrap();
+    let page = page.as_mut_array::<PAGE>().unwrap();
+    let mut windows = Windows {
+        dynamic,
+        sram,
+        page,
+    };
+    Ok(windows.poke32(a, v))
 }
 
 // Stores bytes in an area, from a place on.

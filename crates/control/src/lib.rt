@@ -2,9 +2,8 @@
 #![tactic(auto)]
 
 ghost use Rattle.std.specs.Prelude.{◌≡◌, ℕ, ◌+◌, ◌*◌, ◌<◌, ◌≤◌, Bool, false, List, length};
+ghost use Rattle.bus.specs.Windows.{contents, SameWindows};
 ghost use Rattle.bits.specs.Word as W;
-ghost use Rattle.bus.specs.Memory.{shown};
-ghost use Rattle.bus.specs.Sized.{PAGE, Sized};
 ghost use Rattle.bus.specs.Stores.{bus as Stores·bus, Does};
 ghost use Rattle.usbdev.specs.Registers.{registers, done as Registers·done, raising, ◌then◌};
 ghost use Rattle.dtd.specs.Dtd as D;
@@ -18,7 +17,7 @@ ghost use Rattle.finished.specs.Promises.{Ready};
 ghost use Rattle.record.specs.Sizes as Sizes;
 ghost use Rattle.control.specs.Promises as P;
 
-use bus::{poke32, put_at, word_at};
+use bus::{PAGE, Windows, put_at, word_at};
 use dtd::Ran;
 use finished::ended;
 use record::{Control, Counter, DEVICE, Phase, SETUP_BYTES, Stage, State, word_from};
@@ -60,19 +59,18 @@ fn configured(s: State) -> State
 }
 
 // The setup packet goes to the queue head as its two words; the bytes dropped.
-fn put_words(dynamic: &mut [u8], sram: &mut [u8], page: &mut [u8], setup: Setup) -> u32
-    requires { Sized (shown dynamic.old sram.old page.old) }
-    ensures { ((l : Bool) → Does (P.puts_setup (D.queue_head (D.endpoint 0 false) page.old) setup.first setup.second) (Stores·bus (shown dynamic.old sram.old page.old) l) (Stores·bus (shown dynamic.new sram.new page.new) l) result) × (result ≤ 8) }
+fn put_words(windows: &mut Windows<'_>, setup: Setup) -> u32
+    ensures left { ((l : Bool) → Does (P.puts_setup (D.queue_head (D.endpoint 0 false) windows.old.page.now) setup.first setup.second) (Stores·bus (contents windows.old) l) (Stores·bus (contents windows.new) l) result) × (result ≤ 8) }
+    ensures same { SameWindows windows.old windows.new }
 {
-    let qh = dtd::qh(&*page, 0, false);
-    let n0 = poke32(dynamic, sram, page, qh.wrapping_add(0x28), setup.first);
-    let n1 = poke32(dynamic, sram, page, qh.wrapping_add(0x2C), setup.second);
+    let qh = dtd::qh(windows.registers(), 0, false);
+    let n0 = windows.poke32(qh.wrapping_add(0x28), setup.first);
+    let n1 = windows.poke32(qh.wrapping_add(0x2C), setup.second);
     n0 + n1
 }
 
 // The firmware is told that a setup packet stands.
-fn flag_setup(page: &mut [u8], flag: bool) -> bool
-    requires { length page.old ≡ PAGE }
+fn flag_setup(page: &mut [u8; PAGE], flag: bool) -> bool
     ensures { registers page.new result ≡ Registers·done (changing 0x1AC (λ v. W.set v 1) then raising 1) (registers page.old flag) }
 {
     let waiting = word_at(&*page, EPSETUPSR);
@@ -99,20 +97,18 @@ fn begun(s: State, setup: Setup) -> State
 fn post(
     mut s: State,
     setups: &mut [u8; SETUP_BYTES],
-    dynamic: &mut [u8],
-    sram: &mut [u8],
-    page: &mut [u8],
+    windows: &mut Windows<'_>,
     setup: Setup,
 ) -> State
-    requires sized { Sized (shown dynamic.old sram.old page.old) }
-    requires le_setups { (1 ≤ s.lengths.setups) × (s.lengths.setups ≤ Sizes.SETUPS) }
-    ensures { P.Posts (C.posted (D.queue_head (D.endpoint 0 false) page.old) setup.first setup.second) s (shown dynamic.old sram.old page.old) setups.old result (shown dynamic.new sram.new page.new) setups.new }
+    requires { (1 ≤ s.lengths.setups) × (s.lengths.setups ≤ Sizes.SETUPS) }
+    ensures left { P.Posts (C.posted (D.queue_head (D.endpoint 0 false) windows.old.page.now) setup.first setup.second) s (contents windows.old) setups.old result (contents windows.new) setups.new }
+    ensures same { SameWindows windows.old windows.new }
 {
     let count = s.lengths.setups;
     record::drain(setups, 8 * count, 8);
-    let lost = put_words(dynamic, sram, page, setup);
+    let lost = put_words(windows, setup);
     s.lengths.setups = count - 1;
-    s.port.line = flag_setup(page, s.port.line);
+    s.port.line = flag_setup(windows.page, s.port.line);
     s.answer.dropped = s.answer.dropped.wrapping_add(u64::from(lost));
     begun(s, setup)
 }
@@ -152,18 +148,16 @@ fn to_host(s: State) -> bool
 // The data stage from the device: its bytes go behind the reply, up to the asked length.
 fn data_in(
     s: State,
-    dynamic: &mut [u8],
-    sram: &mut [u8],
-    page: &mut [u8],
+    windows: &mut Windows<'_>,
     reply: &mut [u8],
 ) -> State
-    requires sized { Sized (shown dynamic.old sram.old page.old) }
-    requires ready { Ready s × (Sizes.REPLY ≤ length reply.old) }
-    ensures { P.Stages C.data_in s (shown dynamic.old sram.old page.old) reply.old result (shown dynamic.new sram.new page.new) reply.new }
+    requires { Ready s × (Sizes.REPLY ≤ length reply.old) }
+    ensures left { P.Stages C.data_in s (contents windows.old) reply.old result (contents windows.new) reply.new }
+    ensures same { SameWindows windows.old windows.new }
 {
     let limit = asked(s);
     let at = s.control.got;
-    let filled = runs::run0_in(dynamic, sram, page, reply, at, limit, s.port.line);
+    let filled = runs::run0_in(windows, reply, at, limit, s.port.line);
     let mut next = s.after_run(filled.ran);
     next.control.got = filled.at;
     if filled.ran.done | (limit <= filled.at) {
@@ -173,12 +167,12 @@ fn data_in(
 }
 
 // The data stage towards the device, of which no request here has a byte.
-fn data_out(s: State, dynamic: &mut [u8], sram: &mut [u8], page: &mut [u8]) -> State
-    requires sized { Sized (shown dynamic.old sram.old page.old) }
-    requires ready { Ready s }
-    ensures { (p : List ℕ) → P.Stages C.data_out s (shown dynamic.old sram.old page.old) p result (shown dynamic.new sram.new page.new) p }
+fn data_out(s: State, windows: &mut Windows<'_>) -> State
+    requires { Ready s }
+    ensures left { (p : List ℕ) → P.Stages C.data_out s (contents windows.old) p result (contents windows.new) p }
+    ensures same { SameWindows windows.old windows.new }
 {
-    let ran = runs::run0_out(dynamic, sram, page, b"", s.port.line);
+    let ran = runs::run0_out(windows, b"", s.port.line);
     let next = s.after_run(ran);
     if ran.done {
         return at_status(next);
@@ -189,14 +183,12 @@ fn data_out(s: State, dynamic: &mut [u8], sram: &mut [u8], page: &mut [u8]) -> S
 // The data stage, unless it is over, where the request has one.
 fn data_stage(
     s: State,
-    dynamic: &mut [u8],
-    sram: &mut [u8],
-    page: &mut [u8],
+    windows: &mut Windows<'_>,
     reply: &mut [u8],
 ) -> State
-    requires sized { Sized (shown dynamic.old sram.old page.old) }
-    requires ready { Ready s × (Sizes.REPLY ≤ length reply.old) }
-    ensures { P.Stages P.data_first s (shown dynamic.old sram.old page.old) reply.old result (shown dynamic.new sram.new page.new) reply.new }
+    requires { Ready s × (Sizes.REPLY ≤ length reply.old) }
+    ensures left { P.Stages P.data_first s (contents windows.old) reply.old result (contents windows.new) reply.new }
+    ensures same { SameWindows windows.old windows.new }
 {
     if let Stage::Status = s.control.stage {
         return s;
@@ -205,27 +197,25 @@ fn data_stage(
         return at_status(s);
     }
     if to_host(s) {
-        return data_in(s, dynamic, sram, page, reply);
+        return data_in(s, windows, reply);
     }
-    data_out(s, dynamic, sram, page)
+    data_out(s, windows)
 }
 
 // The run of the status stage: the other direction, and no bytes.
 fn status_stage(
     s: State,
-    dynamic: &mut [u8],
-    sram: &mut [u8],
-    page: &mut [u8],
+    windows: &mut Windows<'_>,
     reply: &mut [u8],
 ) -> Ran
-    requires sized { Sized (shown dynamic.old sram.old page.old) }
-    requires ready { Ready s }
-    ensures { P.Acknowledges s (shown dynamic.old sram.old page.old) result (shown dynamic.new sram.new page.new) × (reply.new ≡ reply.old) }
+    requires { Ready s }
+    ensures left { P.Acknowledges s (contents windows.old) result (contents windows.new) × (reply.new ≡ reply.old) }
+    ensures same { SameWindows windows.old windows.new }
 {
     if to_host(s) & (asked(s) != 0) {
-        return runs::run0_out(dynamic, sram, page, b"", s.port.line);
+        return runs::run0_out(windows, b"", s.port.line);
     }
-    runs::run0_in(dynamic, sram, page, reply, 0, 0, s.port.line).ran
+    runs::run0_in(windows, reply, 0, 0, s.port.line).ran
 }
 
 // The status stage, and the end of the request where it completes.
@@ -234,17 +224,15 @@ fn acknowledge(
     device_stack: bool,
     setups: &mut [u8; SETUP_BYTES],
     device: &mut [u8; DEVICE],
-    dynamic: &mut [u8],
-    sram: &mut [u8],
-    page: &mut [u8],
+    windows: &mut Windows<'_>,
     reply: &mut [u8],
     config: &mut [u8],
 ) -> State
-    requires sized { Sized (shown dynamic.old sram.old page.old) }
-    requires ready { Ready s × ((Sizes.REPLY ≤ length reply.old) × (Sizes.REPLY ≤ length config.old)) }
-    ensures { P.Controls (C.status_stage device_stack) s (shown dynamic.old sram.old page.old) setups.old device.old reply.old config.old result (shown dynamic.new sram.new page.new) setups.new device.new reply.new config.new }
+    requires { Ready s × ((Sizes.REPLY ≤ length reply.old) × (Sizes.REPLY ≤ length config.old)) }
+    ensures left { P.Controls (C.status_stage device_stack) s (contents windows.old) setups.old device.old reply.old config.old result (contents windows.new) setups.new device.new reply.new config.new }
+    ensures same { SameWindows windows.old windows.new }
 {
-    let ran = status_stage(s, dynamic, sram, page, reply);
+    let ran = status_stage(s, windows, reply);
     let next = s.after_run(ran);
     if ran.done {
         return finished::finished(next, device_stack, setups, device, &*reply, config);
@@ -258,23 +246,22 @@ fn request(
     device_stack: bool,
     setups: &mut [u8; SETUP_BYTES],
     device: &mut [u8; DEVICE],
-    dynamic: &mut [u8],
-    sram: &mut [u8],
-    page: &mut [u8],
+    windows: &mut Windows<'_>,
     reply: &mut [u8],
     config: &mut [u8],
 ) -> State
-    requires sized { Sized (shown dynamic.old sram.old page.old) }
-    requires ready { Ready s × ((Sizes.REPLY ≤ length reply.old) × (Sizes.REPLY ≤ length config.old)) }
-    ensures { P.Controls (C.requests device_stack) s (shown dynamic.old sram.old page.old) setups.old device.old reply.old config.old result (shown dynamic.new sram.new page.new) setups.new device.new reply.new config.new }
+    requires { Ready s × ((Sizes.REPLY ≤ length reply.old) × (Sizes.REPLY ≤ length config.old)) }
+    ensures left { P.Controls (C.requests device_stack) s (contents windows.old) setups.old device.old reply.old config.old result (contents windows.new) setups.new device.new reply.new config.new }
+    ensures same { SameWindows windows.old windows.new }
 {
-    let epcr0 = word_at(&*page, EPCR0);
+    let epcr0 = word_at(windows.registers(), EPCR0);
     if bits::any(epcr0, STALLED) {
         let refused = ended(s);
+        let page = &mut *windows.page;
         put_at(page, EPCR0, bits::clear(epcr0, STALLED));
         return refused;
     }
-    let next = data_stage(s, dynamic, sram, page, reply);
+    let next = data_stage(s, windows, reply);
     match next.control.stage {
         Stage::Data => unless_late(next),
         Stage::Status => acknowledge(
@@ -282,9 +269,7 @@ fn request(
             device_stack,
             setups,
             device,
-            dynamic,
-            sram,
-            page,
+            windows,
             reply,
             config,
         ),
@@ -297,15 +282,13 @@ pub fn control(
     device_stack: bool,
     setups: &mut [u8; SETUP_BYTES],
     device: &mut [u8; DEVICE],
-    dynamic: &mut [u8],
-    sram: &mut [u8],
-    page: &mut [u8],
+    windows: &mut Windows<'_>,
     reply: &mut [u8],
     config: &mut [u8],
 ) -> State
-    requires sized { Sized (shown dynamic.old sram.old page.old) }
-    requires bounded { P.Bounded s × ((Sizes.REPLY ≤ length reply.old) × (Sizes.REPLY ≤ length config.old)) }
-    ensures { P.Controls (C.controls device_stack) s (shown dynamic.old sram.old page.old) setups.old device.old reply.old config.old result (shown dynamic.new sram.new page.new) setups.new device.new reply.new config.new }
+    requires { P.Bounded s × ((Sizes.REPLY ≤ length reply.old) × (Sizes.REPLY ≤ length config.old)) }
+    ensures left { P.Controls (C.controls device_stack) s (contents windows.old) setups.old device.old reply.old config.old result (contents windows.new) setups.new device.new reply.new config.new }
+    ensures same { SameWindows windows.old windows.new }
 {
     if s.control.on {
         return request(
@@ -313,9 +296,7 @@ pub fn control(
             device_stack,
             setups,
             device,
-            dynamic,
-            sram,
-            page,
+            windows,
             reply,
             config,
         );
@@ -323,5 +304,5 @@ pub fn control(
     let Some(setup) = next_setup(&*setups, s.lengths.setups) else {
         return configured(s);
     };
-    post(s, setups, dynamic, sram, page, setup)
+    post(s, setups, windows, setup)
 }

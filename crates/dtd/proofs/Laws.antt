@@ -15,9 +15,9 @@ use Rattle.usbdev.specs.Registers as usb
 use Rattle.usbdev.specs.Registers.{Registers, registers, PageStore, lifted, done, setting}
 use Rattle.usbdev.specs.Transfer.{token_after}
 use Rattle.usbdev.proofs.Laws.{Inside, does_page}
-use Rattle.dtd.specs.declared.Found.TheVariants.{Unprimed, Ended, Active}
+use Rattle.dtd.specs.declared.Found.TheVariants.{Unprimed, Ended}
 use Rattle.dtd.specs.declared.Retired.{Retired}
-use Rattle.dtd.specs.Dtd.{Endpoint, bit_of, primed, queue_head, next_of, next_dtd, token_of, next_active, found, at, descriptor, interrupts, framed, closing, completing, advancing, retiring, followed, list_ends, unpriming, reporting, settling, finishing}
+use Rattle.dtd.specs.Dtd.{Endpoint, bit_of, primed, queue_head, next_of, next_dtd, token_of, next_active, found, at, descriptor, interrupts, framed, closing, completing, advancing, retiring, followed, list_ends, unpriming, reporting, settling, finishing, active}
 use Rattle.dtd.specs.Promises.{Advances, Retires, Finishes}
 
 -- a list address leaves room for its queue heads
@@ -62,7 +62,7 @@ module _ (e : Endpoint) (m : Memory) (w bit : ℕ) (t : Bool) (is_IsWord : w ≡
       same_token : tok ≡ token_of (next_dtd e m) m
       same_token = is-token ∙ ap (λ (x : ℕ). token_of x m) same_next
 
-      pub found_active : any tok 0x80 ≡ true → Active head next tok ≡ found e m
+      pub found_active : any tok 0x80 ≡ true → active head next tok ≡ found e m
       unfolding found next_active
       found_active h =
           simp

@@ -16,14 +16,15 @@ use Rattle.usbdev.proofs.Tokens.{total_lt}
 use native.Mathlib.Nat.{min-le_left, min-le_right}
 use Rattle.usbdev.specs.Registers.{lifted}
 use Rattle.dtd.specs.declared.Found.TheVariants.{Unprimed, Ended, Active}
+use Rattle.dtd.specs.declared.Descriptor.{Descriptor}
 use Rattle.dtd.specs.declared.Finished.{Finished}
 use Rattle.dtd.specs.declared.Ran.{Ran}
 use Rattle.dtd.specs.Promises.{Finishes, none_ran, Turns, SendsOne, TakesOne, running, Runs}
-use Rattle.dtd.specs.Dtd.{Endpoint, endpoint, descriptor, bit_of, primed, queue_head, next_dtd, terminates, token_of, is_active, interrupts, next_active, moves, bytes_of, data_out, turning, following, Run, ended, joined, turns, most, list_ends, unpriming, reporting, settling, settled, run_dtds, finishing, found}
+use Rattle.dtd.specs.Dtd.{Endpoint, endpoint, descriptor, bit_of, primed, queue_head, next_dtd, terminates, token_of, is_active, interrupts, next_active, moves, bytes_of, data_out, turning, following, Run, ended, joined, turns, most, list_ends, unpriming, reporting, settling, settled, run_dtds, finishing, found, active}
 
 -- ---- what each answer of `find` says
 
-by_tests : (e : Endpoint) (m : Memory) (p a : Bool) → primed e m.page ≡ p → next_active e m ≡ a → found e m ≡ pick p (pick a (Active (queue_head e m.page) (next_dtd e m) (token_of (next_dtd e m) m)) Ended) Unprimed
+by_tests : (e : Endpoint) (m : Memory) (p a : Bool) → primed e m.page ≡ p → next_active e m ≡ a → found e m ≡ pick p (pick a (active (queue_head e m.page) (next_dtd e m) (token_of (next_dtd e m) m)) Ended) Unprimed
 unfolding found
 by_tests e m p a ep ea = simp (ep, ea)
 
@@ -50,15 +51,18 @@ pub record IsActive (e : Endpoint) (m : Memory) (qh n tok : ℕ) : Type 0 where
   pub next : n ≡ next_dtd e m
   pub token : tok ≡ token_of n m
 
-pub says_active : (e : Endpoint) (m : Memory) (qh n tok : ℕ) → found e m ≡ Active qh n tok → IsActive e m qh n tok
+named : {d d' : Descriptor} → Active d ≡ Active d' → d ≡ d'
+named f = cc
+
+pub says_active : (e : Endpoint) (m : Memory) (qh n tok : ℕ) → found e m ≡ active qh n tok → IsActive e m qh n tok
 says_active e m qh n tok f = by_cases (primed e m.page) (next_active e m) refl refl
   where
     by_cases : (p a : Bool) → primed e m.page ≡ p → next_active e m ≡ a → IsActive e m qh n tok
     by_cases true true ep ea =
-        let w = sym (by_tests e m true true ep ea) ∙ f in
-        let same : n ≡ next_dtd e m = cc in
-        let there : tok ≡ token_of (next_dtd e m) m = cc in
-        record { prime = ep; active = ea; head = cc; next = same; token = there ∙ ap (λ (x : ℕ). token_of x m) (sym same) }
+        let d = named (sym (by_tests e m true true ep ea) ∙ f) in
+        let same : n ≡ next_dtd e m = sym (ap (λ (x : Descriptor). x.pointer) d) in
+        let there : tok ≡ token_of (next_dtd e m) m = sym (ap (λ (x : Descriptor). x.token) d) in
+        record { prime = ep; active = ea; head = sym (ap (λ (x : Descriptor). x.queue_head) d); next = same; token = there ∙ ap (λ (x : ℕ). token_of x m) (sym same) }
     by_cases true false ep ea = let w = sym (by_tests e m true false ep ea) ∙ f in let z : ◌≡◌ {A = ℕ} 0 1 = cc in absurd (omega arith)
     by_cases false a ep ea = let w = sym (by_tests e m false a ep ea) ∙ f in let z : ◌≡◌ {A = ℕ} 0 1 = cc in absurd (omega arith)
 
@@ -194,7 +198,7 @@ module _ (e : Endpoint) (bs : List ℕ) (m : Memory) (l : Bool) (z : Sized m) wh
           retired = sym (ap (λ (r : Run). r.retired) whole);
         }
 
-    pub runs_active : (qh n tok : ℕ) → found e m ≡ Active qh n tok → (bit : ℕ) → bit ≡ bit_of e → {b' : Bus} {r : Ran} → Turns e qh n tok bit bs (bus m l) b' r → Runs e bs (bus m l) b' r
+    pub runs_active : (qh n tok : ℕ) → found e m ≡ active qh n tok → (bit : ℕ) → bit ≡ bit_of e → {b' : Bus} {r : Ran} → Turns e qh n tok bit bs (bus m l) b' r → Runs e bs (bus m l) b' r
     unfolding running
     runs_active qh n tok f bit eb {b'} {r} t =
         let is = says_active e m qh n tok f in

@@ -214,9 +214,13 @@ unfoldable pub finishing : ℕ → ℕ → ℕ → ℕ → ℕ → BusStep
 finishing qh n tok moved bit b =
     (retiring qh n tok moved bit then settling bit (followed qh n tok moved b) (interrupts tok)) b
 
--- the endpoint is not primed; or its list ends; or its next descriptor is active: queue head, pointer and token
+-- an active descriptor, by its queue head, the pointer that names it, and its token
+abbrev pub active : ℕ → ℕ → ℕ → Found
+active qh n tok = Active (record { queue_head = qh; pointer = n; token = tok })
+
+-- the endpoint is not primed; or its list ends; or its next descriptor is active
 unfoldable pub found : Endpoint → Memory → Found
 found e m =
     pick (primed e m.page)
-    (pick (next_active e m) (Active (queue_head e m.page) (next_dtd e m) (token_of (next_dtd e m) m)) Ended)
+    (pick (next_active e m) (active (queue_head e m.page) (next_dtd e m) (token_of (next_dtd e m) m)) Ended)
     Unprimed

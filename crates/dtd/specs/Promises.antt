@@ -1,11 +1,13 @@
 -- What the functions on descriptors promise: their steps, and what they answer.
-use Rattle.std.specs.Prelude.{◌≡◌, ℕ, ◌≤◌, Bool, true, false, List, []}
+use Rattle.std.specs.Prelude.{◌≡◌, ℕ, ◌+◌, ◌≤◌, Bool, true, false, List, [], Result, Ok, Err}
 use Rattle.bus.specs.Memory.{Memory, peek32}
 use Rattle.bus.specs.Stores.{Bus, bus, BusStep, ◌then◌, Does}
+use Rattle.dtd.specs.declared.Descriptor.{Descriptor}
+use Rattle.dtd.specs.declared.Found.TheVariants.{Active}
 use Rattle.dtd.specs.declared.Retired.{Retired}
 use Rattle.dtd.specs.declared.Finished.{Finished}
 use Rattle.dtd.specs.declared.Ran.{Ran}
-use Rattle.dtd.specs.Dtd.{Endpoint, endpoint, descriptor, interrupts, moves, data_out, advancing, retiring, followed, finishing, run_dtds}
+use Rattle.dtd.specs.Dtd.{Endpoint, endpoint, descriptor, interrupts, moves, data_out, advancing, retiring, followed, finishing, run_dtds, found}
 
 -- the pointer is read before the first store
 pub record Advances (qh n tok bit : ℕ) (m m' : Memory) (r : Retired) : Type 0 where
@@ -26,6 +28,10 @@ pub record Finishes (qh n tok moved bit : ℕ) (b b' : Bus) (r : Finished) : Typ
 -- the answer of a run that retires nothing
 abbrev pub none_ran : Bool → Ran
 none_ran line = record { done = false; moved = 0; retired = 0; dropped = 0; line = line }
+
+-- the answer of a run of one descriptor that is finished: moved bytes have moved, and lost more were dropped on the way
+abbrev pub ran_of : Finished → ℕ → ℕ → Ran
+ran_of f moved lost = record { done = f.done; moved = moved; retired = 1; dropped = lost + f.dropped; line = f.line }
 
 -- one active descriptor of an endpoint and direction: its data and its retirement, and what is answered
 pub record Turns (e : Endpoint) (qh n tok bit : ℕ) (bs : List ℕ) (b b' : Bus) (r : Ran) : Type 0 where
@@ -50,3 +56,8 @@ pub record Runs (e : Endpoint) (bs : List ℕ) (b b' : Bus) (r : Ran) : Type 0 w
   pub done : r.done ≡ (run_dtds e bs b).done
   pub moved : r.moved ≡ (run_dtds e bs b).moved
   pub retired : r.retired ≡ (run_dtds e bs b).retired
+
+-- how a run begins: at an active descriptor, with memory as it was; or it is over, whatever the host has to send
+abbrev pub Begins : Endpoint → Bool → Memory → Memory → Result Descriptor Ran → Type 0
+Begins e l m m' (Ok d) = (found e m ≡ Active d) × (m' ≡ m)
+Begins e l m m' (Err r) = (bs : List ℕ) → Runs e bs (bus m l) (bus m' r.line) r

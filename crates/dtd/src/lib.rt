@@ -2,30 +2,38 @@
 #![tactic(auto)]
 
 ghost use Rattle.std.specs.Prelude.{◌≡◌, ℕ, ◌<◌, ◌≤◌, Bool, true, false, [], length};
-ghost use Rattle.bus.specs.Memory.{shown, peek32 as Memory·peek32};
-ghost use Rattle.bus.specs.Sized.{PAGE, Sized};
+ghost use Rattle.bus.specs.Windows.{viewed, contents, SameWindows};
+ghost use Rattle.bus.specs.Memory.{peek32 as Memory·peek32};
 ghost use Rattle.bus.specs.Stores.{bus as Stores·bus, Does};
 ghost use Rattle.bus.specs.Steps.{exec};
 ghost use Rattle.usbdev.specs.Registers.{registers, done};
 ghost use Rattle.dtd.specs.Dtd as D;
 ghost use Rattle.dtd.specs.Promises as P;
 
-use bus::{peek32, poke32, put_at, word_at};
+use bus::{PAGE, View, Windows, put_at, word_at};
 use std::num::wrapping_add_u32;
 use usbdev::{EPCOMPLETE, EPLISTADDR, EPSR, FRINDEX};
 
-// What stands before a descriptor is moved: the endpoint is not primed, its list ends, or the next descriptor is active, by queue head, pointer and token.
+// An active descriptor: the queue head of its endpoint, the pointer that names it, and its token.
+#[derive(Clone, Copy)]
+pub struct Descriptor {
+    pub queue_head: u32,
+    pub pointer: u32,
+    pub token: u32,
+}
+
+// What stands before a descriptor is moved: the endpoint is not primed, its list ends, or the next descriptor is active.
 #[derive(Clone, Copy)]
 pub enum Found {
     Unprimed,
     Ended,
-    Active(u32, u32, u32),
+    Active(Descriptor),
 }
 
 // The queue head of an endpoint's direction.
 #[tactic(auto, unfolding(crate::specs::Dtd::queue_head))]
-pub fn qh(page: &[u8], ep: u32, dir_in: bool) -> u32
-    requires { (length page.now ≡ PAGE) × (ep < 16) }
+pub fn qh(page: &[u8; PAGE], ep: u32, dir_in: bool) -> u32
+    requires { ep < 16 }
     ensures { result ≡ D.queue_head (D.endpoint ep dir_in) page.now }
 {
     let list = bits::clear(word_at(page, EPLISTADDR), 0x7FF);
@@ -37,85 +45,77 @@ pub fn qh(page: &[u8], ep: u32, dir_in: bool) -> u32
 
 // The pointer to the next descriptor that the controller would run; 1 where there is none.
 #[tactic(auto, unfolding(crate::specs::Dtd::next_of, bus::specs::Memory::after))]
-pub fn next_dtd(dynamic: &[u8], sram: &[u8], page: &[u8], qh: u32) -> u32
-    requires { Sized (shown dynamic.now sram.now page.now) }
-    ensures { result ≡ D.next_of qh (shown dynamic.now sram.now page.now) }
+pub fn next_dtd(view: View<'_>, qh: u32) -> u32
+    ensures { result ≡ D.next_of qh (viewed view.entry) }
 {
-    let next = peek32(dynamic, sram, page, wrapping_add_u32(qh, 8));
+    let next = view.peek32(wrapping_add_u32(qh, 8));
     if bits::any(next, 1) {
-        let current = bits::clear(peek32(dynamic, sram, page, wrapping_add_u32(qh, 4)), 0x1F);
+        let current = bits::clear(view.peek32(wrapping_add_u32(qh, 4)), 0x1F);
         if current == 0 {
             return 1;
         }
-        return peek32(dynamic, sram, page, current);
+        return view.peek32(current);
     }
     next
 }
 
 // The token of the descriptor that the pointer n names.
 #[tactic(auto, using(crate::proofs::Laws::after_is))]
-pub fn token_of(dynamic: &[u8], sram: &[u8], page: &[u8], n: u32) -> u32
-    requires { Sized (shown dynamic.now sram.now page.now) }
-    ensures { result ≡ D.token_of n (shown dynamic.now sram.now page.now) }
+pub fn token_of(view: View<'_>, n: u32) -> u32
+    ensures { result ≡ D.token_of n (viewed view.entry) }
 {
-    peek32(
-        dynamic,
-        sram,
-        page,
-        wrapping_add_u32(bits::clear(n, 0x1F), 4),
+    view.peek32(wrapping_add_u32(bits::clear(n, 0x1F), 4),
     )
 }
 
 // What stands before a descriptor of the endpoint, whose bit of EPSR is `bit`.
 #[tactic(auto, using(crate::proofs::Laws::found_unprimed, crate::proofs::Laws::found_none, crate::proofs::Laws::found_active, crate::proofs::Laws::found_inactive))]
-pub fn find(dynamic: &[u8], sram: &[u8], page: &[u8], ep: u32, dir_in: bool, bit: u32) -> Found
-    requires sized { Sized (shown dynamic.now sram.now page.now) }
-    requires ep_bound { (ep < 16) × (bit ≡ D.bit_of (D.endpoint ep dir_in)) }
-    ensures { result ≡ D.found (D.endpoint ep dir_in) (shown dynamic.now sram.now page.now) }
+pub fn find(view: View<'_>, ep: u32, dir_in: bool, bit: u32) -> Found
+    requires { (ep < 16) × (bit ≡ D.bit_of (D.endpoint ep dir_in)) }
+    ensures { result ≡ D.found (D.endpoint ep dir_in) (viewed view.entry) }
 {
-    if bits::any(word_at(page, EPSR), bit) {
-        let head = qh(page, ep, dir_in);
-        let next = next_dtd(dynamic, sram, page, head);
+    if bits::any(word_at(view.page, EPSR), bit) {
+        let head = qh(view.page, ep, dir_in);
+        let next = next_dtd(view, head);
         if bits::any(next, 1) {
             return Found::Ended;
         }
-        let tok = token_of(dynamic, sram, page, next);
+        let tok = token_of(view, next);
         if bits::any(tok, 0x80) {
-            return Found::Active(head, next, tok);
+            return Found::Active(Descriptor {
+                queue_head: head,
+                pointer: next,
+                token: tok,
+            });
         }
         return Found::Ended;
     }
     Found::Unprimed
 }
 
-// Token, frame number and current pointer of the descriptor that n names, of which `moved` bytes have moved; the bytes dropped.
+// Token, frame number and current pointer of a descriptor, of which `moved` bytes have moved; the bytes dropped.
 fn close(
-    dynamic: &mut [u8],
-    sram: &mut [u8],
-    page: &mut [u8],
-    qh: u32,
-    n: u32,
-    tok: u32,
+    windows: &mut Windows<'_>,
+    descriptor: Descriptor,
     moved: u32,
 ) -> u32
-    requires { Sized (shown dynamic.old sram.old page.old) }
-    ensures { ((l : Bool) → Does (D.closing qh n tok moved) (Stores·bus (shown dynamic.old sram.old page.old) l) (Stores·bus (shown dynamic.new sram.new page.new) l) result) × (result ≤ 12) }
+    ensures left { ((l : Bool) → Does (D.closing descriptor.queue_head descriptor.pointer descriptor.token moved) (Stores·bus (contents windows.old) l) (Stores·bus (contents windows.new) l) result) × (result ≤ 12) }
+    ensures same { SameWindows windows.old windows.new }
 {
-    let td = bits::clear(n, 0x1F);
-    let token = usbdev::token_after(tok, moved);
-    let n0 = poke32(dynamic, sram, page, wrapping_add_u32(td, 4), token);
-    let second = peek32(&*dynamic, &*sram, &*page, wrapping_add_u32(td, 12));
-    let frame = word_at(&*page, FRINDEX) / 8;
+    let td = bits::clear(descriptor.pointer, 0x1F);
+    let token = usbdev::token_after(descriptor.token, moved);
+    let n0 = windows.poke32(wrapping_add_u32(td, 4), token);
+    let second = windows.peek32(wrapping_add_u32(td, 12));
+    let frame = word_at(windows.registers(), FRINDEX) / 8;
     let framed = bits::replace(second, 0x7FF, frame);
-    let n1 = poke32(dynamic, sram, page, wrapping_add_u32(td, 12), framed);
-    let n2 = poke32(dynamic, sram, page, wrapping_add_u32(qh, 4), td);
+    let n1 = windows.poke32(wrapping_add_u32(td, 12), framed);
+    let n2 = windows.poke32(wrapping_add_u32(descriptor.queue_head, 4), td);
     n0 + (n1 + n2)
 }
 
 // The completion bit, where the token asks for an interrupt.
 #[tactic(auto, unfolding(crate::specs::Dtd::completing, usbdev::specs::Registers::store))]
-fn complete(page: &mut [u8], tok: u32, bit: u32)
-    requires { length page.old ≡ PAGE }
+fn complete(page: &mut [u8; PAGE], tok: u32, bit: u32)
     ensures { (l : Bool) → registers page.new l ≡ done (D.completing tok bit) (registers page.old l) }
 {
     if bits::any(tok, 0x8000) {
@@ -131,47 +131,39 @@ pub struct Retired {
     pub dropped: u32,
 }
 
-// Next pointer, token copy and completion bit of the descriptor that n names.
+// Next pointer, token copy and completion bit of a descriptor.
 fn advance(
-    dynamic: &mut [u8],
-    sram: &mut [u8],
-    page: &mut [u8],
-    qh: u32,
-    n: u32,
-    tok: u32,
+    windows: &mut Windows<'_>,
+    descriptor: Descriptor,
     bit: u32,
 ) -> Retired
-    requires { Sized (shown dynamic.old sram.old page.old) }
-    ensures { P.Advances qh n tok bit (shown dynamic.old sram.old page.old) (shown dynamic.new sram.new page.new) result }
+    ensures left { P.Advances descriptor.queue_head descriptor.pointer descriptor.token bit (contents windows.old) (contents windows.new) result }
+    ensures same { SameWindows windows.old windows.new }
 {
-    let td = bits::clear(n, 0x1F);
-    let next = peek32(&*dynamic, &*sram, &*page, td);
-    let n0 = poke32(dynamic, sram, page, wrapping_add_u32(qh, 8), next);
-    let copy = peek32(&*dynamic, &*sram, &*page, wrapping_add_u32(td, 4));
-    let n1 = poke32(dynamic, sram, page, wrapping_add_u32(qh, 12), copy);
-    complete(page, tok, bit);
+    let td = bits::clear(descriptor.pointer, 0x1F);
+    let next = windows.peek32(td);
+    let n0 = windows.poke32(wrapping_add_u32(descriptor.queue_head, 8), next);
+    let copy = windows.peek32(wrapping_add_u32(td, 4));
+    let n1 = windows.poke32(wrapping_add_u32(descriptor.queue_head, 12), copy);
+    complete(windows.page, descriptor.token, bit);
     Retired {
         next,
         dropped: n0 + n1,
     }
 }
 
-// Retires the descriptor that n names, of which `moved` bytes have moved.
+// Retires a descriptor, of which `moved` bytes have moved.
 pub fn retire(
-    dynamic: &mut [u8],
-    sram: &mut [u8],
-    page: &mut [u8],
-    qh: u32,
-    n: u32,
-    tok: u32,
+    windows: &mut Windows<'_>,
+    descriptor: Descriptor,
     moved: u32,
     bit: u32,
 ) -> Retired
-    requires { Sized (shown dynamic.old sram.old page.old) }
-    ensures { P.Retires qh n tok moved bit (shown dynamic.old sram.old page.old) (shown dynamic.new sram.new page.new) result }
+    ensures left { P.Retires descriptor.queue_head descriptor.pointer descriptor.token moved bit (contents windows.old) (contents windows.new) result }
+    ensures same { SameWindows windows.old windows.new }
 {
-    let n0 = close(dynamic, sram, page, qh, n, tok, moved);
-    let advanced = advance(dynamic, sram, page, qh, n, tok, bit);
+    let n0 = close(windows, descriptor, moved);
+    let advanced = advance(windows, descriptor, bit);
     Retired {
         next: advanced.next,
         dropped: n0 + advanced.dropped,
@@ -180,20 +172,18 @@ pub fn retire(
 
 // Whether a list ends at the pointer n: it names no descriptor, or one that is not active.
 #[tactic(auto, unfolding(crate::specs::Dtd::list_ends))]
-fn list_ends(dynamic: &[u8], sram: &[u8], page: &[u8], n: u32) -> bool
-    requires { Sized (shown dynamic.now sram.now page.now) }
-    ensures { result ≡ D.list_ends n (shown dynamic.now sram.now page.now) }
+fn list_ends(view: View<'_>, n: u32) -> bool
+    ensures { result ≡ D.list_ends n (viewed view.entry) }
 {
     if bits::any(n, 1) {
         return true;
     }
-    !bits::any(token_of(dynamic, sram, page, n), 0x80)
+    !bits::any(token_of(view, n), 0x80)
 }
 
 // The endpoint's bit of EPSR goes where its list ends.
 #[tactic(auto, unfolding(crate::specs::Dtd::unpriming, usbdev::specs::Registers::store))]
-fn unprime(page: &mut [u8], ends: bool, bit: u32)
-    requires { length page.old ≡ PAGE }
+fn unprime(page: &mut [u8; PAGE], ends: bool, bit: u32)
     ensures { (l : Bool) → registers page.new l ≡ done (D.unpriming ends bit) (registers page.old l) }
 {
     if ends {
@@ -204,8 +194,7 @@ fn unprime(page: &mut [u8], ends: bool, bit: u32)
 
 // A flagged completion raises UI.
 #[tactic(auto, unfolding(crate::specs::Dtd::reporting))]
-fn report(page: &mut [u8], completed: bool, flag: bool) -> bool
-    requires { length page.old ≡ PAGE }
+fn report(page: &mut [u8; PAGE], completed: bool, flag: bool) -> bool
     ensures { registers page.new result ≡ done (D.reporting completed) (registers page.old flag) }
 {
     if completed {
@@ -216,20 +205,18 @@ fn report(page: &mut [u8], completed: bool, flag: bool) -> bool
 
 // What follows the last descriptor of a run that ended at the pointer n; the line's flag goes in and comes out.
 pub fn settle(
-    dynamic: &[u8],
-    sram: &[u8],
-    page: &mut [u8],
+    windows: &mut Windows<'_>,
     bit: u32,
     n: u32,
     completed: bool,
     flag: bool,
 ) -> bool
-    requires { Sized (shown dynamic.now sram.now page.old) }
-    ensures { Does (D.settling bit n completed) (Stores·bus (shown dynamic.now sram.now page.old) flag) (Stores·bus (shown dynamic.now sram.now page.new) result) 0 }
+    ensures left { Does (D.settling bit n completed) (Stores·bus (contents windows.old) flag) (Stores·bus (contents windows.new) result) 0 }
+    ensures same { SameWindows windows.old windows.new }
 {
-    let ends = list_ends(dynamic, sram, &*page, n);
-    unprime(page, ends, bit);
-    report(page, completed, flag)
+    let ends = list_ends(windows.view(), n);
+    unprime(windows.page, ends, bit);
+    report(windows.page, completed, flag)
 }
 
 // A run of one descriptor after its bytes have moved: whether a completion was flagged, the bytes dropped, and the line's flag.
@@ -242,22 +229,18 @@ pub struct Finished {
 
 // Retires the one descriptor of a run, of which `moved` bytes have moved, and settles the endpoint.
 pub fn finish(
-    dynamic: &mut [u8],
-    sram: &mut [u8],
-    page: &mut [u8],
-    qh: u32,
-    n: u32,
-    tok: u32,
+    windows: &mut Windows<'_>,
+    descriptor: Descriptor,
     moved: u32,
     bit: u32,
     flag: bool,
 ) -> Finished
-    requires { Sized (shown dynamic.old sram.old page.old) }
-    ensures { P.Finishes qh n tok moved bit (Stores·bus (shown dynamic.old sram.old page.old) flag) (Stores·bus (shown dynamic.new sram.new page.new) result.line) result }
+    ensures left { P.Finishes descriptor.queue_head descriptor.pointer descriptor.token moved bit (Stores·bus (contents windows.old) flag) (Stores·bus (contents windows.new) result.line) result }
+    ensures same { SameWindows windows.old windows.new }
 {
-    let retired = retire(dynamic, sram, page, qh, n, tok, moved, bit);
-    let completed = bits::any(tok, 0x8000);
-    let line = settle(&*dynamic, &*sram, page, bit, retired.next, completed, flag);
+    let retired = retire(windows, descriptor, moved, bit);
+    let completed = bits::any(descriptor.token, 0x8000);
+    let line = settle(windows, bit, retired.next, completed, flag);
     Finished {
         done: completed,
         dropped: retired.dropped,
@@ -288,98 +271,105 @@ pub fn none_ran(line: bool) -> Ran
     }
 }
 
+impl Finished {
+    // The answer of the run, of which `moved` bytes have moved, and `lost` more were dropped on the way.
+    fn ran(self, moved: u32, lost: u32) -> Ran
+        requires { (self.dropped ≤ 20) × (lost ≤ 32767) }
+        ensures { result ≡ P.ran_of self moved lost }
+    {
+        Ran {
+            done: self.done,
+            moved,
+            retired: 1,
+            dropped: lost + self.dropped,
+            line: self.line,
+        }
+    }
+}
+
 // An active output descriptor takes what it can of `bytes`, and is retired.
 pub fn send_one(
-    dynamic: &mut [u8],
-    sram: &mut [u8],
-    page: &mut [u8],
-    qh: u32,
-    n: u32,
-    tok: u32,
+    windows: &mut Windows<'_>,
+    descriptor: Descriptor,
     bit: u32,
     bytes: &[u8],
     flag: bool,
 ) -> Ran
-    requires { Sized (shown dynamic.old sram.old page.old) }
-    ensures { P.SendsOne qh n tok bit bytes.now (Stores·bus (shown dynamic.old sram.old page.old) flag) (Stores·bus (shown dynamic.new sram.new page.new) result.line) result }
+    ensures left { P.SendsOne descriptor.queue_head descriptor.pointer descriptor.token bit bytes.now (Stores·bus (contents windows.old) flag) (Stores·bus (contents windows.new) result.line) result }
+    ensures same { SameWindows windows.old windows.new }
 {
-    let count = (usbdev::total(tok) as usize).min(bytes.len());
-    let td = bits::clear(n, 0x1F);
-    let ps = transfer::pointers_for(&*dynamic, &*sram, &*page, td, count);
-    let lost = transfer::copy_out(dynamic, sram, page, &ps, bytes, count);
+    let count = (usbdev::total(descriptor.token) as usize).min(bytes.len());
+    let td = bits::clear(descriptor.pointer, 0x1F);
+    let ps = transfer::pointers_for(windows.view(), td, count);
+    let lost = transfer::copy_out(windows, &ps, bytes, count);
     let moved = count as u32;
-    let finished = finish(dynamic, sram, page, qh, n, tok, moved, bit, flag);
-    Ran {
-        done: finished.done,
-        moved,
-        retired: 1,
-        dropped: lost + finished.dropped,
-        line: finished.line,
-    }
+    finish(windows, descriptor, moved, bit, flag).ran(moved, lost)
 }
 
 // An active input descriptor, whose bytes the caller has read or need not read, is retired.
 pub fn take_one(
-    dynamic: &mut [u8],
-    sram: &mut [u8],
-    page: &mut [u8],
-    qh: u32,
-    n: u32,
-    tok: u32,
+    windows: &mut Windows<'_>,
+    descriptor: Descriptor,
     bit: u32,
     flag: bool,
 ) -> Ran
-    requires { Sized (shown dynamic.old sram.old page.old) }
-    ensures { P.TakesOne qh n tok bit (Stores·bus (shown dynamic.old sram.old page.old) flag) (Stores·bus (shown dynamic.new sram.new page.new) result.line) result }
+    ensures left { P.TakesOne descriptor.queue_head descriptor.pointer descriptor.token bit (Stores·bus (contents windows.old) flag) (Stores·bus (contents windows.new) result.line) result }
+    ensures same { SameWindows windows.old windows.new }
 {
-    let moved = usbdev::total(tok);
-    let finished = finish(dynamic, sram, page, qh, n, tok, moved, bit, flag);
-    Ran {
-        done: finished.done,
-        moved,
-        retired: 1,
-        dropped: finished.dropped,
-        line: finished.line,
+    let moved = usbdev::total(descriptor.token);
+    finish(windows, descriptor, moved, bit, flag).ran(moved, 0)
+}
+
+// How a run on an endpoint other than 0 begins: its next descriptor is active, or it is over.
+pub fn begin(
+    windows: &mut Windows<'_>,
+    ep: u32,
+    dir_in: bool,
+    bit: u32,
+    flag: bool,
+) -> Result<Descriptor, Ran>
+    requires { (0 < ep) × ((ep < 16) × (bit ≡ D.bit_of (D.endpoint ep dir_in))) }
+    ensures left { P.Begins (D.endpoint ep dir_in) flag (contents windows.old) (contents windows.new) result }
+    ensures same { SameWindows windows.old windows.new }
+{
+    match find(windows.view(), ep, dir_in, bit) {
+        Found::Unprimed => Err(none_ran(flag)),
+        Found::Ended => Err(none_ran(settle(windows, bit, 1, false, flag))),
+        Found::Active(descriptor) => Ok(descriptor),
     }
 }
 
 // A run on an endpoint other than 0, towards the device.
 pub fn run_out(
-    dynamic: &mut [u8],
-    sram: &mut [u8],
-    page: &mut [u8],
+    windows: &mut Windows<'_>,
     ep: u32,
     bit: u32,
     bytes: &[u8],
     flag: bool,
 ) -> Ran
-    requires sized { Sized (shown dynamic.old sram.old page.old) }
-    requires ep_nonzero { (0 < ep) × ((ep < 16) × (bit ≡ D.bit_of (D.endpoint ep false))) }
-    ensures { P.Runs (D.endpoint ep false) bytes.now (Stores·bus (shown dynamic.old sram.old page.old) flag) (Stores·bus (shown dynamic.new sram.new page.new) result.line) result }
+    requires { (0 < ep) × ((ep < 16) × (bit ≡ D.bit_of (D.endpoint ep false))) }
+    ensures left { P.Runs (D.endpoint ep false) bytes.now (Stores·bus (contents windows.old) flag) (Stores·bus (contents windows.new) result.line) result }
+    ensures same { SameWindows windows.old windows.new }
 {
-    match find(&*dynamic, &*sram, &*page, ep, false, bit) {
-        Found::Unprimed => none_ran(flag),
-        Found::Ended => none_ran(settle(&*dynamic, &*sram, page, bit, 1, false, flag)),
-        Found::Active(qh, n, tok) => { send_one(dynamic, sram, page, qh, n, tok, bit, bytes, flag) }
+    match begin(windows, ep, false, bit, flag) {
+        Ok(descriptor) => send_one(windows, descriptor, bit, bytes, flag),
+        Err(ran) => ran,
     }
 }
 
 // A run on an endpoint other than 0, from the device, whose bytes are only counted.
 pub fn run_count(
-    dynamic: &mut [u8],
-    sram: &mut [u8],
-    page: &mut [u8],
+    windows: &mut Windows<'_>,
     ep: u32,
     bit: u32,
     flag: bool,
 ) -> Ran
-    requires sized { Sized (shown dynamic.old sram.old page.old) }
-    requires ep_nonzero { (0 < ep) × ((ep < 16) × (bit ≡ D.bit_of (D.endpoint ep true))) }
-    ensures { P.Runs (D.endpoint ep true) [] (Stores·bus (shown dynamic.old sram.old page.old) flag) (Stores·bus (shown dynamic.new sram.new page.new) result.line) result }
+    requires { (0 < ep) × ((ep < 16) × (bit ≡ D.bit_of (D.endpoint ep true))) }
+    ensures left { P.Runs (D.endpoint ep true) [] (Stores·bus (contents windows.old) flag) (Stores·bus (contents windows.new) result.line) result }
+    ensures same { SameWindows windows.old windows.new }
 {
-    match find(&*dynamic, &*sram, &*page, ep, true, bit) {
-        Found::Unprimed => none_ran(flag),
-        Found::Ended => none_ran(settle(&*dynamic, &*sram, page, bit, 1, false, flag)),
-        Found::Active(qh, n, tok) => take_one(dynamic, sram, page, qh, n, tok, bit, flag),
+    match begin(windows, ep, true, bit, flag) {
+        Ok(descriptor) => take_one(windows, descriptor, bit, flag),
+        Err(ran) => ran,
     }
 }

@@ -2,8 +2,7 @@
 #![tactic(auto)]
 
 ghost use Rattle.std.specs.Prelude.{true, ◌≡◌, ◌+◌, ◌≤◌, length};
-ghost use Rattle.bus.specs.Memory.{shown};
-ghost use Rattle.bus.specs.Sized.{PAGE, Sized};
+ghost use Rattle.bus.specs.Windows.{contents, SameWindows};
 ghost use Rattle.gptimers.specs.Timer.{in_range};
 ghost use Rattle.record.specs.Change.{when};
 ghost use Rattle.record.specs.Did.{Paged};
@@ -13,22 +12,21 @@ ghost use Rattle.midiin.specs.Promises.{Room, Hears};
 ghost use Rattle.framing.specs.Promises as P;
 ghost use Rattle.record.specs.Sizes as Sizes;
 
-use record::{Counter, Phase, QUEUE, Settings, State};
+use bus::{PAGE, Windows};
+use record::{Counter, Phase, QUEUE, Settings, State, RING};
 
 // MIDI input, where it is read and the host is awake.
 fn midi_in(
     s: State,
     c: Settings,
-    dynamic: &mut [u8],
-    sram: &mut [u8],
-    page: &mut [u8],
+    windows: &mut Windows<'_>,
     receive: &mut [u8],
     cables: &mut [u8],
     time: u64,
 ) -> State
-    requires sized { Sized (shown dynamic.old sram.old page.old) }
-    requires received_in_bounds { Room s.answer.received 196584 receive.old cables.old }
-    ensures { Hears (M.midi_steps c time) s (shown dynamic.old sram.old page.old) receive.old cables.old result (shown dynamic.new sram.new page.new) receive.new cables.new }
+    requires { Room s.answer.received 196584 receive.old cables.old }
+    ensures left { Hears (M.midi_steps c time) s (contents windows.old) receive.old cables.old result (contents windows.new) receive.new cables.new }
+    ensures same { SameWindows windows.old windows.new }
 {
     if !c.midi_in {
         return s;
@@ -36,7 +34,7 @@ fn midi_in(
     if phases::in_span(c.sleep, time) {
         return s.count(Counter::MidiAsleep, 1);
     }
-    midiin::midi_step(s, c.midi_every, dynamic, sram, page, receive, cables)
+    midiin::midi_step(s, c.midi_every, windows, receive, cables)
 }
 
 // What the device stack adds: MIDI output and vendor bytes.
@@ -44,19 +42,17 @@ fn stack_step(
     s: State,
     device_stack: bool,
     midi: &mut [u8; QUEUE],
-    dynamic: &mut [u8],
-    sram: &mut [u8],
-    page: &mut [u8],
+    windows: &mut Windows<'_>,
 ) -> State
-    requires sized { Sized (shown dynamic.old sram.old page.old) }
-    requires midi_bound { s.lengths.midi ≤ Sizes.QUEUE }
-    ensures { P.Stacks (M.stack_steps device_stack) s (shown dynamic.old sram.old page.old) midi.old result (shown dynamic.new sram.new page.new) midi.new }
+    requires { s.lengths.midi ≤ Sizes.QUEUE }
+    ensures left { P.Stacks (M.stack_steps device_stack) s (contents windows.old) midi.old result (contents windows.new) midi.new }
+    ensures same { SameWindows windows.old windows.new }
 {
     if !device_stack {
         return s;
     }
-    let next = streams::midi_out(s, dynamic, sram, page, midi);
-    streams::vendor(next, dynamic, sram, page)
+    let next = streams::midi_out(s, windows, midi);
+    streams::vendor(next, windows)
 }
 
 // The streams of an Overbridge device: audio, MIDI input, and what the device stack adds.
@@ -64,22 +60,20 @@ fn overbridge(
     s: State,
     c: Settings,
     midi: &mut [u8; QUEUE],
-    dynamic: &mut [u8],
-    sram: &mut [u8],
-    page: &mut [u8],
+    windows: &mut Windows<'_>,
     receive: &mut [u8],
     cables: &mut [u8],
-    received: &mut [u32],
+    received: &mut [u32; RING],
     sending: &[u32],
     time: u64,
 ) -> State
-    requires sized { Sized (shown dynamic.old sram.old page.old) }
-    requires in_bounds { ((Sizes.RECEIVE ≤ length receive.old) × ((Sizes.RECEIVE ≤ length cables.old) × (length received.old ≡ Sizes.RING))) × P.Flows s (length sending.now) }
-    ensures { P.Bridges (M.bridge_steps c time) s (shown dynamic.old sram.old page.old) midi.old receive.old cables.old received.old sending.now result (shown dynamic.new sram.new page.new) midi.new receive.new cables.new received.new }
+    requires { ((Sizes.RECEIVE ≤ length receive.old) × (Sizes.RECEIVE ≤ length cables.old)) × P.Flows s (length sending.now) }
+    ensures left { P.Bridges (M.bridge_steps c time) s (contents windows.old) midi.old receive.old cables.old received.old sending.now result (contents windows.new) midi.new receive.new cables.new received.new }
+    ensures same { SameWindows windows.old windows.new }
 {
-    let streamed = audio::stream(s, dynamic, sram, page, received, sending);
-    let heard = midi_in(streamed, c, dynamic, sram, page, receive, cables, time);
-    stack_step(heard, c.device_stack, midi, dynamic, sram, page)
+    let streamed = audio::stream(s, windows, received, sending);
+    let heard = midi_in(streamed, c, windows, receive, cables, time);
+    stack_step(heard, c.device_stack, midi, windows)
 }
 
 // The streams, of a serial or an Overbridge device, once the host streams.
@@ -88,34 +82,31 @@ pub fn streaming(
     c: Settings,
     midi: &mut [u8; QUEUE],
     serial: &mut [u8; QUEUE],
-    dynamic: &mut [u8],
-    sram: &mut [u8],
-    page: &mut [u8],
+    windows: &mut Windows<'_>,
     receive: &mut [u8],
     cables: &mut [u8],
-    received: &mut [u32],
+    received: &mut [u32; RING],
     sending: &[u32],
     time: u64,
 ) -> State
-    requires sized { Sized (shown dynamic.old sram.old page.old) }
-    requires in_bounds { ((Sizes.RECEIVE ≤ length receive.old) × ((Sizes.RECEIVE ≤ length cables.old) × (length received.old ≡ Sizes.RING))) × P.Flows s (length sending.now) }
-    ensures { P.Transfers (M.transfers c time) s (shown dynamic.old sram.old page.old) midi.old serial.old receive.old cables.old received.old sending.now result (shown dynamic.new sram.new page.new) midi.new serial.new receive.new cables.new received.new }
+    requires { ((Sizes.RECEIVE ≤ length receive.old) × (Sizes.RECEIVE ≤ length cables.old)) × P.Flows s (length sending.now) }
+    ensures left { P.Transfers (M.transfers c time) s (contents windows.old) midi.old serial.old receive.old cables.old received.old sending.now result (contents windows.new) midi.new serial.new receive.new cables.new received.new }
+    ensures same { SameWindows windows.old windows.new }
 {
     let Phase::Stream = s.phase else {
         return s;
     };
     if c.cdc {
-        return streams::serial_step(s, dynamic, sram, page, serial, receive);
+        return streams::serial_step(s, windows, serial, receive);
     }
     overbridge(
-        s, c, midi, dynamic, sram, page, receive, cables, received, sending, time,
+        s, c, midi, windows, receive, cables, received, sending, time,
     )
 }
 
 // The timers run where MIDI input is set.
-fn ticked(s: State, midi_in: bool, page: &mut [u8]) -> State
-    requires page_len { length page.old ≡ PAGE }
-    requires zero_value { (in_range s.timers.zero ≡ true) × (in_range s.timers.one ≡ true) }
+fn ticked(s: State, midi_in: bool, page: &mut [u8; PAGE]) -> State
+    requires { (in_range s.timers.zero ≡ true) × (in_range s.timers.one ≡ true) }
     ensures { Paged (when (λ w. midi_in) ticks) s page.old result page.new }
 {
     if midi_in {
@@ -125,9 +116,8 @@ fn ticked(s: State, midi_in: bool, page: &mut [u8]) -> State
 }
 
 // What a microframe begins with: counts, timers, and the host gone or back.
-pub fn opened(s: State, c: Settings, page: &mut [u8], gone: bool) -> State
-    requires page_len { length page.old ≡ PAGE }
-    requires zero_value { (in_range s.timers.zero ≡ true) × (in_range s.timers.one ≡ true) }
+pub fn opened(s: State, c: Settings, page: &mut [u8; PAGE], gone: bool) -> State
+    requires { (in_range s.timers.zero ≡ true) × (in_range s.timers.one ≡ true) }
     ensures { Paged (M.opens c gone) s page.old result page.new }
 {
     let counted = phases::counts(s);

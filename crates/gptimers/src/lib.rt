@@ -7,9 +7,8 @@ ghost use Rattle.usbdev.specs.Registers.{registers, done};
 ghost use Rattle.gptimers.specs.Timer as T;
 ghost use Rattle.gptimers.specs.Checked as C;
 ghost use Rattle.gptimers.specs.Checked.{ticked_of};
-ghost use Rattle.bus.specs.Sized.{PAGE};
 
-use bus::{put_at, word_at};
+use bus::{PAGE, put_at, word_at};
 use refusal::{Refusal, unless};
 
 // The count that stands for 0; lower ones are below zero.
@@ -66,8 +65,8 @@ fn after_reset(timer: Option<u64>, c: u32) -> Option<u64>
 
 // The 24 bits of timer k's load register.
 #[tactic(auto, unfolding(crate::specs::Timer::load_of))]
-fn load_of(page: &[u8], k: usize) -> u64
-    requires { (length page.now ≡ PAGE) × (k < 2) }
+fn load_of(page: &[u8; PAGE], k: usize) -> u64
+    requires { k < 2 }
     ensures { (result ≡ T.load_of k page.now) × (result < 2 ^ 24) }
 {
     u64::from(word_at(page, 0x80 + 8 * k) & 0xFF_FFFF)
@@ -75,8 +74,8 @@ fn load_of(page: &[u8], k: usize) -> u64
 
 // Takes the reset bit out of timer k's control word.
 #[tactic(auto, unfolding(crate::specs::Timer::resetting, usbdev::specs::Registers::store))]
-fn reset(page: &mut [u8], k: usize, c: u32)
-    requires { (length page.old ≡ PAGE) × (k < 2) }
+fn reset(page: &mut [u8; PAGE], k: usize, c: u32)
+    requires { k < 2 }
     ensures { (l : Bool) → registers page.new l ≡ done (T.resetting k c) (registers page.old l) }
 {
     if bits::any(c, RESET) {
@@ -86,8 +85,8 @@ fn reset(page: &mut [u8], k: usize, c: u32)
 
 // Where the count of timer k starts in a microframe.
 #[tactic(auto, using(crate::proofs::Laws::range), unfolding(crate::specs::Timer::start_of))]
-fn start_of(page: &[u8], k: usize, t: Option<u64>) -> u64
-    requires page_len { (length page.now ≡ PAGE) × (k < 2) }
+fn start_of(page: &[u8; PAGE], k: usize, t: Option<u64>) -> u64
+    requires k_bound { k < 2 }
     requires t_value { T.in_range t ≡ true }
     ensures { (result ≡ T.start_of k t page.now) × ((1000 ≤ result) × (result ≤ T.HIGHEST)) }
 {
@@ -99,8 +98,8 @@ fn start_of(page: &[u8], k: usize, t: Option<u64>) -> u64
 
 // Stops timer k unless it repeats: the control word is stored as first read, without its run bit.
 #[tactic(auto, unfolding(crate::specs::Timer::stopping, usbdev::specs::Registers::store))]
-fn stop(page: &mut [u8], k: usize, c: u32)
-    requires { (length page.old ≡ PAGE) × (k < 2) }
+fn stop(page: &mut [u8; PAGE], k: usize, c: u32)
+    requires { k < 2 }
     ensures { (l : Bool) → registers page.new l ≡ done (T.stopping k c) (registers page.old l) }
 {
     if bits::any(c, REPEAT) {
@@ -111,8 +110,8 @@ fn stop(page: &mut [u8], k: usize, c: u32)
 
 // How timer k stands after it expired with `left` below zero.
 #[tactic(auto, unfolding(crate::specs::Timer::next))]
-fn next_of(page: &[u8], k: usize, c: u32, left: u64) -> Option<u64>
-    requires { (length page.now ≡ PAGE) × ((k < 2) × (left < T.ZERO)) }
+fn next_of(page: &[u8; PAGE], k: usize, c: u32, left: u64) -> Option<u64>
+    requires { (k < 2) × (left < T.ZERO) }
     ensures { result ≡ T.next k c left page.now }
 {
     if bits::any(c, REPEAT) {
@@ -122,8 +121,8 @@ fn next_of(page: &[u8], k: usize, c: u32, left: u64) -> Option<u64>
 }
 
 // Timer k, whose bit of USBSTS is `bit`, expires with `left` below zero.
-fn expire(page: &mut [u8], k: usize, bit: u32, c: u32, left: u64, flag: bool) -> Timed
-    requires page_len { (length page.old ≡ PAGE) × ((k < 2) × (left < T.ZERO)) }
+fn expire(page: &mut [u8; PAGE], k: usize, bit: u32, c: u32, left: u64, flag: bool) -> Timed
+    requires k_bound { (k < 2) × (left < T.ZERO) }
     requires bit_value { bit ≡ 2 ^ (24 + k) }
     ensures { (registers page.new result.line ≡ done (T.expiring k c) (registers page.old flag)) × (result.timer ≡ T.expired k c left (registers page.old flag)) }
 {
@@ -135,7 +134,7 @@ fn expire(page: &mut [u8], k: usize, bit: u32, c: u32, left: u64, flag: bool) ->
 
 // Timer k after the reset, in one microframe of `step` microseconds.
 fn count(
-    page: &mut [u8],
+    page: &mut [u8; PAGE],
     k: usize,
     bit: u32,
     c: u32,
@@ -143,7 +142,7 @@ fn count(
     step: u64,
     flag: bool,
 ) -> Timed
-    requires page_len { (length page.old ≡ PAGE) × ((k < 2) × (step ≤ 1000)) }
+    requires k_bound { (k < 2) × (step ≤ 1000) }
     requires bit_value { (bit ≡ 2 ^ (24 + k)) × (T.in_range t ≡ true) }
     ensures { (registers page.new result.line ≡ done (T.counted step k c t) (registers page.old flag)) × (result.timer ≡ T.counted_timer step k c t (registers page.old flag)) }
 {
@@ -164,8 +163,8 @@ fn count(
 }
 
 // One microframe of timer k, whose bit of USBSTS is `bit`.
-fn gptimer(page: &mut [u8], k: usize, bit: u32, t: Option<u64>, step: u64, flag: bool) -> Timed
-    requires page_len { (length page.old ≡ PAGE) × ((k < 2) × (step ≤ 1000)) }
+fn gptimer(page: &mut [u8; PAGE], k: usize, bit: u32, t: Option<u64>, step: u64, flag: bool) -> Timed
+    requires k_bound { (k < 2) × (step ≤ 1000) }
     requires bit_value { (bit ≡ 2 ^ (24 + k)) × (T.in_range t ≡ true) }
     ensures { (registers page.new result.line ≡ done (T.ticking step k t) (registers page.old flag)) × (result.timer ≡ T.ticked step k t (registers page.old flag)) }
 {
@@ -176,8 +175,8 @@ fn gptimer(page: &mut [u8], k: usize, bit: u32, t: Option<u64>, step: u64, flag:
 }
 
 // Both timers in one microframe of `step` microseconds; the line's flag goes in and comes out.
-pub fn gptimers(page: &mut [u8], ts: Timers, step: u64, flag: bool) -> TimedBoth
-    requires page_len { (length page.old ≡ PAGE) × (step ≤ 1000) }
+pub fn gptimers(page: &mut [u8; PAGE], ts: Timers, step: u64, flag: bool) -> TimedBoth
+    requires step_bound { step ≤ 1000 }
     requires zero_value { (T.in_range ts.zero ≡ true) × (T.in_range ts.one ≡ true) }
     ensures { (registers page.new result.line ≡ done (T.ticking_both step ts) (registers page.old flag)) × (result.timers ≡ T.ticked_both step ts (registers page.old flag)) }
 {
@@ -192,21 +191,12 @@ pub fn gptimers(page: &mut [u8], ts: Timers, step: u64, flag: bool) -> TimedBoth
     }
 }
 
-// Accepts a page of the right length, and counts that are within their bounds.
-#[tactic(auto, using(crate::proofs::Laws::accepted), unfolding(crate::specs::Checked::refusal))]
-fn accept(ts: Timers, len: usize) -> Result<(), Refusal>
-    ensures number { number_of result ≡ C.refusal ts len }
-    ensures inside { OnOk result ((len ≡ PAGE) × ((T.in_range ts.zero ≡ true) × (T.in_range ts.one ≡ true))) }
-{
-    unless(len == bus::PAGE, Refusal::Windows)?;
-    unless(in_range(ts.zero) & in_range(ts.one), Refusal::Bounds)
-}
-
 // Both timers in one microframe at high speed, on a page of any length and with any counts. A refusal leaves timers, flag and page.
 #[tactic(auto, unfolding(crate::specs::Checked::ticked_answer, crate::specs::Checked::ticked_page))]
 pub fn checked_gptimers(page: &mut [u8], ts: Timers, flag: bool) -> Result<TimedBoth, Refusal>
     ensures { (ticked_of ts flag result ≡ C.ticked_answer ts (registers page.old flag)) × (page.new ≡ C.ticked_page ts (registers page.old flag)) }
 {
-    accept(ts, page.len())?;
+    let page = page.as_mut_array::<PAGE>().ok_or(Refusal::Windows)?;
+    unless(in_range(ts.zero) & in_range(ts.one), Refusal::Bounds)?;
     Ok(gptimers(page, ts, STEP, flag))
 }

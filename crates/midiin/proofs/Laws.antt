@@ -15,8 +15,8 @@ use Rattle.usbdev.proofs.Tokens.{total_lt}
 use Rattle.transfer.specs.Transfer.{pointers, pointers_for, bytes_in}
 use Rattle.transfer.proofs.Laws.{length_bytes_in}
 use Rattle.transfer.proofs.Addresses.{bytes_for}
-use Rattle.dtd.specs.declared.Found.TheVariants.{Unprimed, Ended, Active}
-use Rattle.dtd.specs.Dtd.{Endpoint, endpoint, primed, descriptor, settling, Run, run_dtds, found}
+use Rattle.dtd.specs.declared.Found.TheVariants.{Unprimed, Ended}
+use Rattle.dtd.specs.Dtd.{Endpoint, endpoint, primed, descriptor, settling, Run, run_dtds, found, active}
 use Rattle.dtd.specs.declared.Ran.{Ran}
 use Rattle.dtd.specs.Promises.{TakesOne, Runs, none_ran}
 use Rattle.dtd.proofs.Runs.{single, runs_unprimed, runs_ended, runs_active}
@@ -171,7 +171,7 @@ module _ (s : State) (m : Memory) (out cs : List ℕ) (z : Sized m) where
       reads_as (ap (λ (x : State). record { state = x; stop = true }) (e ∙ ap (after_run s) is))
       (quiet_read s m m' out cs (none_ran line) run (none_brought (sym run.done) (ended_bytes 1 (omega arith) m s.port.line f)))
 
-  module _ (qh td tok : ℕ) (f : found MIDI_IN m ≡ Active qh td tok) (m' : Memory) (out' cs' : List ℕ) (r : Ran) (takes : TakesOne qh td tok 0x20000 before (S.bus m' r.line) r)
+  module _ (qh td tok : ℕ) (f : found MIDI_IN m ≡ active qh td tok) (m' : Memory) (out' cs' : List ℕ) (r : Ran) (takes : TakesOne qh td tok 0x20000 before (S.bus m' r.line) r)
       (total d : ℕ) (ps : List ℕ) (at : ℕ) (is-total : total ≡ total_of tok) (is-d : d ≡ descriptor td) (is-ps : ps ≡ pointers_for m d total)
       (puts : Decodes (total / 4) (bytes_in m ps total) out out' cs cs' s.answer.received at) where
     few_total : total ≤ 32767

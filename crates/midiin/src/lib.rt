@@ -2,8 +2,7 @@
 #![tactic(auto)]
 
 ghost use Rattle.std.specs.Prelude.{◌≡◌, ℕ, ◌+◌, ◌*◌, ◌/◌, ◌<◌, ◌≤◌, true, false, [], ◌∷◌, length};
-ghost use Rattle.bus.specs.Memory.{shown};
-ghost use Rattle.bus.specs.Sized.{PAGE, Sized};
+ghost use Rattle.bus.specs.Windows.{viewed, contents, SameWindows};
 ghost use Rattle.transfer.specs.Transfer as T;
 ghost use Rattle.dtd.specs.Dtd as D;
 ghost use Rattle.dtd.specs.declared.Found.TheVariants.{Active};
@@ -11,8 +10,8 @@ ghost use Rattle.record.specs.Did as R;
 ghost use Rattle.model.specs.Streams as M;
 ghost use Rattle.midiin.specs.Promises as P;
 
-use bus::{put_at, word_at};
-use dtd::{Found, Ran};
+use bus::{PAGE, View, Windows, put_at, word_at};
+use dtd::{Descriptor, Ran};
 use record::{Counter, State};
 use usbdev::{EPNAK, EPSR};
 
@@ -70,9 +69,7 @@ fn decode_piece(piece: &[u8], receive: &mut [u8], cables: &mut [u8], start: usiz
 
 // The bytes of a run from byte `from` on that fill `piece`.
 fn decode_some(
-    dynamic: &[u8],
-    sram: &[u8],
-    page: &[u8],
+    view: View<'_>,
     pointers: &[u32; 9],
     from: usize,
     piece: &mut [u8],
@@ -80,30 +77,26 @@ fn decode_some(
     cables: &mut [u8],
     at: usize,
 ) -> usize
-    requires sized { Sized (shown dynamic.now sram.now page.now) }
     requires piece_bound { from + length piece.old ≤ 32767 }
     requires piece_in_bounds { P.Room at (3 * (length piece.old / 4)) receive.old cables.old }
-    ensures { P.Decodes (length piece.old / 4) (T.bytes_from (shown dynamic.now sram.now page.now) pointers.now from (length piece.old)) receive.old receive.new cables.old cables.new at result }
+    ensures { P.Decodes (length piece.old / 4) (T.bytes_from (viewed view.entry) pointers.now from (length piece.old)) receive.old receive.new cables.old cables.new at result }
 {
-    transfer::copy_part(dynamic, sram, page, pointers, from, piece);
+    transfer::copy_part(view, pointers, from, piece);
     decode_piece(&*piece, receive, cables, at)
 }
 
 // The packets of a run of `total` bytes, piece by piece; less than four bytes at the end are no packet.
 fn decode_run(
-    dynamic: &[u8],
-    sram: &[u8],
-    page: &[u8],
+    view: View<'_>,
     pointers: &[u32; 9],
     total: usize,
     receive: &mut [u8],
     cables: &mut [u8],
     start: usize,
 ) -> usize
-    requires sized { Sized (shown dynamic.now sram.now page.now) }
     requires total_bound { total ≤ 32767 }
     requires total_in_bounds { P.Room start (3 * (total / 4)) receive.old cables.old }
-    ensures { P.Decodes (total / 4) (T.bytes_in (shown dynamic.now sram.now page.now) pointers.now total) receive.old receive.new cables.old cables.new start result }
+    ensures { P.Decodes (total / 4) (T.bytes_in (viewed view.entry) pointers.now total) receive.old receive.new cables.old cables.new start result }
 {
     let mut piece = [0u8; PIECE];
     let mut at = start;
@@ -112,7 +105,7 @@ fn decode_run(
         let n = PIECE.min(total - from);
         let part = &mut piece[..n];
         at = decode_some(
-            dynamic, sram, page, pointers, from, part, receive, cables, at,
+            view, pointers, from, part, receive, cables, at,
         );
         from += n;
     }
@@ -155,78 +148,61 @@ fn after_read(s: State, ran: Ran, total: usize, at: usize) -> Read
 // A read of an active descriptor: its bytes are decoded before it is retired.
 fn read_active(
     s: State,
-    dynamic: &mut [u8],
-    sram: &mut [u8],
-    page: &mut [u8],
+    windows: &mut Windows<'_>,
     receive: &mut [u8],
     cables: &mut [u8],
-    qh: u32,
-    td: u32,
-    tok: u32,
+    descriptor: Descriptor,
 ) -> Read
-    requires sized { Sized (shown dynamic.old sram.old page.old) }
     requires received_in_bounds { P.Room s.answer.received 24573 receive.old cables.old }
-    requires page_value { D.found (D.endpoint 1 true) (shown dynamic.old sram.old page.old) ≡ Active qh td tok }
-    ensures { P.ReadsOne s (shown dynamic.old sram.old page.old) receive.old cables.old result (shown dynamic.new sram.new page.new) receive.new cables.new }
+    requires page_value { D.found (D.endpoint 1 true) (contents windows.old) ≡ Active descriptor }
+    ensures left { P.ReadsOne s (contents windows.old) receive.old cables.old result (contents windows.new) receive.new cables.new }
+    ensures same { SameWindows windows.old windows.new }
 {
-    let total = usbdev::total(tok) as usize;
+    let total = usbdev::total(descriptor.token) as usize;
     let start = s.answer.received;
-    let ps = transfer::pointers_for(&*dynamic, &*sram, &*page, bits::clear(td, 0x1F), total);
+    let ps = transfer::pointers_for(windows.view(), bits::clear(descriptor.pointer, 0x1F), total);
     let at = decode_run(
-        &*dynamic, &*sram, &*page, &ps, total, receive, cables, start,
+        windows.view(), &ps, total, receive, cables, start,
     );
-    let ran = dtd::take_one(dynamic, sram, page, qh, td, tok, MIDI_IN, s.port.line);
+    let ran = dtd::take_one(windows, descriptor, MIDI_IN, s.port.line);
     after_read(s, ran, total, at)
 }
 
 // One read.
 fn read_one(
     s: State,
-    dynamic: &mut [u8],
-    sram: &mut [u8],
-    page: &mut [u8],
+    windows: &mut Windows<'_>,
     receive: &mut [u8],
     cables: &mut [u8],
 ) -> Read
-    requires sized { Sized (shown dynamic.old sram.old page.old) }
-    requires received_in_bounds { P.Room s.answer.received 24573 receive.old cables.old }
-    ensures { P.ReadsOne s (shown dynamic.old sram.old page.old) receive.old cables.old result (shown dynamic.new sram.new page.new) receive.new cables.new }
+    requires { P.Room s.answer.received 24573 receive.old cables.old }
+    ensures left { P.ReadsOne s (contents windows.old) receive.old cables.old result (contents windows.new) receive.new cables.new }
+    ensures same { SameWindows windows.old windows.new }
 {
-    match dtd::find(&*dynamic, &*sram, &*page, 1, true, MIDI_IN) {
-        Found::Unprimed => Read {
-            state: s.after_run(dtd::none_ran(s.port.line)),
+    match dtd::begin(windows, 1, true, MIDI_IN, s.port.line) {
+        Ok(descriptor) => read_active(s, windows, receive, cables, descriptor),
+        Err(ran) => Read {
+            state: s.after_run(ran),
             stop: true,
         },
-        Found::Ended => {
-            let line = dtd::settle(&*dynamic, &*sram, page, MIDI_IN, 1, false, s.port.line);
-            Read {
-                state: s.after_run(dtd::none_ran(line)),
-                stop: true,
-            }
-        }
-        Found::Active(qh, td, tok) => {
-            read_active(s, dynamic, sram, page, receive, cables, qh, td, tok)
-        }
     }
 }
 
 // Up to `count` reads, ended by the first with neither byte nor completion.
 fn read_all(
     s: State,
-    dynamic: &mut [u8],
-    sram: &mut [u8],
-    page: &mut [u8],
+    windows: &mut Windows<'_>,
     receive: &mut [u8],
     cables: &mut [u8],
     count: u32,
 ) -> State
-    requires sized { Sized (shown dynamic.old sram.old page.old) }
-    requires count_in_bounds { P.Room s.answer.received (count * 24573) receive.old cables.old }
-    ensures { P.Hears (M.reads count) s (shown dynamic.old sram.old page.old) receive.old cables.old result (shown dynamic.new sram.new page.new) receive.new cables.new }
+    requires { P.Room s.answer.received (count * 24573) receive.old cables.old }
+    ensures left { P.Hears (M.reads count) s (contents windows.old) receive.old cables.old result (contents windows.new) receive.new cables.new }
+    ensures same { SameWindows windows.old windows.new }
 {
     let mut next = s;
     for _ in 0..count {
-        let read = read_one(next, dynamic, sram, page, receive, cables);
+        let read = read_one(next, windows, receive, cables);
         next = read.state;
         if read.stop {
             return next;
@@ -236,8 +212,7 @@ fn read_all(
 }
 
 // Polling MIDI input with nothing primed shows as a NAK.
-fn nak(page: &mut [u8])
-    requires { length page.old ≡ PAGE }
+fn nak(page: &mut [u8; PAGE])
     ensures { P.OnPage M.naks page.old page.new }
 {
     if bits::any(word_at(&*page, EPSR), MIDI_IN) {
@@ -264,17 +239,15 @@ fn reads(every: u64, uf: u64) -> u32
 pub fn midi_step(
     s: State,
     every: u64,
-    dynamic: &mut [u8],
-    sram: &mut [u8],
-    page: &mut [u8],
+    windows: &mut Windows<'_>,
     receive: &mut [u8],
     cables: &mut [u8],
 ) -> State
-    requires sized { Sized (shown dynamic.old sram.old page.old) }
-    requires received_in_bounds { P.Room s.answer.received 196584 receive.old cables.old }
-    ensures { P.Hears (M.midi_in false every) s (shown dynamic.old sram.old page.old) receive.old cables.old result (shown dynamic.new sram.new page.new) receive.new cables.new }
+    requires { P.Room s.answer.received 196584 receive.old cables.old }
+    ensures left { P.Hears (M.midi_in false every) s (contents windows.old) receive.old cables.old result (contents windows.new) receive.new cables.new }
+    ensures same { SameWindows windows.old windows.new }
 {
-    nak(page);
+    nak(windows.page);
     let count = reads(every, s.port.uf);
-    read_all(s, dynamic, sram, page, receive, cables, count)
+    read_all(s, windows, receive, cables, count)
 }

@@ -9,10 +9,9 @@ ghost use Rattle.record.specs.Change.{on_page};
 ghost use Rattle.record.specs.Did.{Alone, Paged};
 ghost use Rattle.model.specs.Phases as M;
 ghost use Rattle.phases.specs.Promises.{Changed, Queued};
-ghost use Rattle.bus.specs.Sized.{PAGE};
 ghost use Rattle.record.specs.Sizes as Sizes;
 
-use bus::{put_at, word_at};
+use bus::{PAGE, put_at, word_at};
 use record::{Counter, Phase, SETUP_BYTES, Span, State};
 use usbdev::{FRINDEX, OTGSC, PORTSC1, USBSTS};
 
@@ -56,9 +55,8 @@ pub fn counts(s: State) -> State
 }
 
 // The general-purpose timers.
-pub fn timers(mut s: State, page: &mut [u8]) -> State
-    requires page_len { length page.old ≡ PAGE }
-    requires zero_value { (in_range s.timers.zero ≡ true) × (in_range s.timers.one ≡ true) }
+pub fn timers(mut s: State, page: &mut [u8; PAGE]) -> State
+    requires { (in_range s.timers.zero ≡ true) × (in_range s.timers.one ≡ true) }
     ensures { Paged M.ticks s page.old result page.new }
 {
     let both = gptimers::gptimers(page, s.timers, gptimers::STEP, s.port.line);
@@ -82,8 +80,8 @@ pub fn any_span(spans: &[Span], t: u64) -> bool
 }
 
 // A register's word is changed, and bits of USBSTS are raised: the line's flag after that.
-fn change<F: FnOnce(u32) -> u32>(page: &mut [u8], at: usize, sts: u32, flag: bool, f: F) -> bool
-    requires page_len { (length page.old ≡ PAGE) × (at + 4 ≤ PAGE) }
+fn change<F: FnOnce(u32) -> u32>(page: &mut [u8; PAGE], at: usize, sts: u32, flag: bool, f: F) -> bool
+    requires page_len { (at + 4 ≤ PAGE) }
     requires callable { F.IsAlwaysCallable f }
     ensures { Changed (F.post f) at sts flag page.old page.new result }
 {
@@ -93,8 +91,7 @@ fn change<F: FnOnce(u32) -> u32>(page: &mut [u8], at: usize, sts: u32, flag: boo
 }
 
 // The cable comes out: VBUS goes, the port is detached, and the device sees the session change.
-fn cable_out(mut s: State, page: &mut [u8]) -> State
-    requires { length page.old ≡ PAGE }
+fn cable_out(mut s: State, page: &mut [u8; PAGE]) -> State
     ensures { Paged (on_page M.unplugging) s page.old result page.new }
 {
     let otg = word_at(&*page, OTGSC);
@@ -130,8 +127,7 @@ fn host_back(s: State) -> State
 }
 
 // The host goes or comes back where `gone` differs from what the record says.
-pub fn gone_step(mut s: State, page: &mut [u8], gone: bool) -> State
-    requires { length page.old ≡ PAGE }
+pub fn gone_step(mut s: State, page: &mut [u8; PAGE], gone: bool) -> State
     ensures { Paged (M.cable gone) s page.old result page.new }
 {
     if gone == s.port.gone {
@@ -153,8 +149,7 @@ pub fn asleep(s: State) -> State
 }
 
 // The bus is suspended, or resumed by a port change, where `asleep` differs from what the record says.
-pub fn suspend_step(mut s: State, page: &mut [u8], asleep: bool) -> State
-    requires { length page.old ≡ PAGE }
+pub fn suspend_step(mut s: State, page: &mut [u8; PAGE], asleep: bool) -> State
     ensures { Paged (M.suspends asleep) s page.old result page.new }
 {
     if asleep == s.port.suspended {
@@ -207,8 +202,7 @@ pub fn left_step(mut s: State, running: bool, device_stack: bool) -> State
 }
 
 // Cable in: VBUS is valid, and the line follows the session's interrupt.
-pub fn idle(s: State, page: &mut [u8]) -> State
-    requires { length page.old ≡ PAGE }
+pub fn idle(s: State, page: &mut [u8; PAGE]) -> State
     ensures { Paged M.idles s page.old result page.new }
 {
     let otg = word_at(&*page, OTGSC);
@@ -219,8 +213,7 @@ pub fn idle(s: State, page: &mut [u8]) -> State
 }
 
 // The bus reset, once the firmware runs and VBUS has stood long enough.
-pub fn vbus(s: State, page: &mut [u8], running: bool) -> State
-    requires { length page.old ≡ PAGE }
+pub fn vbus(s: State, page: &mut [u8; PAGE], running: bool) -> State
     ensures { Paged (M.powers running) s page.old result page.new }
 {
     let waited = s.port.t.wrapping_add(VBUS_WAIT) < s.port.uf;
@@ -257,9 +250,8 @@ fn first_setups(setups: &mut [u8; SETUP_BYTES], count: usize)
 }
 
 // The reset is done once the firmware has seen it and it has stood long enough: enumeration starts.
-pub fn reset(s: State, page: &mut [u8], setups: &mut [u8; SETUP_BYTES]) -> State
-    requires page_len { length page.old ≡ PAGE }
-    requires setups_bound { s.lengths.setups + 4 ≤ Sizes.SETUPS }
+pub fn reset(s: State, page: &mut [u8; PAGE], setups: &mut [u8; SETUP_BYTES]) -> State
+    requires { s.lengths.setups + 4 ≤ Sizes.SETUPS }
     ensures { Queued M.resets s page.old setups.old result page.new setups.new }
 {
     let waited = s.port.t.wrapping_add(RESET_WAIT) < s.port.uf;
@@ -275,8 +267,7 @@ pub fn reset(s: State, page: &mut [u8], setups: &mut [u8; SETUP_BYTES]) -> State
 }
 
 // The start of a microframe on the bus: FRINDEX counts it.
-pub fn start_of_frame(mut s: State, page: &mut [u8]) -> State
-    requires { length page.old ≡ PAGE }
+pub fn start_of_frame(mut s: State, page: &mut [u8; PAGE]) -> State
     ensures { Paged M.starts_frame s page.old result page.new }
 {
     s.port.line = change(

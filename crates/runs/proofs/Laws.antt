@@ -18,10 +18,10 @@ use Rattle.usbdev.specs.Transfer.{total_of}
 use Rattle.usbdev.proofs.Tokens.{total_lt}
 use Rattle.transfer.specs.Transfer.{pointers, pointers_for, bytes_in, received, sending}
 use Rattle.transfer.proofs.Addresses.{sending_for}
-use Rattle.dtd.specs.declared.Found.TheVariants.{Unprimed, Ended, Active}
+use Rattle.dtd.specs.declared.Found.TheVariants.{Unprimed, Ended}
 use Rattle.dtd.specs.declared.Retired.{Retired}
 use Rattle.dtd.specs.declared.Ran.{Ran}
-use Rattle.dtd.specs.Dtd.{Endpoint, endpoint, bit_of, descriptor, terminates, token_of, is_active, interrupts, moves, bytes_of, data_out, retiring, turning, followed, following, Run, ended, joined, turns, most, primed, queue_head, next_of, next_dtd, settling, settled, run_dtds, found}
+use Rattle.dtd.specs.Dtd.{Endpoint, endpoint, bit_of, descriptor, terminates, token_of, is_active, interrupts, moves, bytes_of, data_out, retiring, turning, followed, following, Run, ended, joined, turns, most, primed, queue_head, next_of, next_dtd, settling, settled, run_dtds, found, active}
 use Rattle.dtd.specs.Promises.{Retires, TakesOne, none_ran, running, Runs}
 use Rattle.dtd.proofs.Runs.{says_unprimed, says_ended, says_active, run_unprimed, run_ended, active_bytes, single, runs_none, runs_unprimed, runs_ended, runs_active, counted_few, lost_few}
 use Rattle.runs.specs.declared.Filled.{Filled}
@@ -639,7 +639,7 @@ module _ (ep : ℕ) (some : 0 < ep) (limit : ℕ) (m : Memory) (out : List ℕ) 
       let says = says_ended here m f in
       no_bytes (ap (λ (r : Run). r.bytes) (run_ended here [] (bus m flag) (single ep true some) says.0 says.1)) (runs_ended here [] m flag z (single ep true some) f d)
 
-  pub in_active : (qh n tok : ℕ) → found here m ≡ Active qh n tok → (bit : ℕ) → bit ≡ bit_of here → {b' : Bus} {out' : List ℕ} {r : Filled} → FillsOne qh n tok bit limit m (bus m flag) b' out out' at r → RunsIn here limit (bus m flag) b' out out' at r
+  pub in_active : (qh n tok : ℕ) → found here m ≡ active qh n tok → (bit : ℕ) → bit ≡ bit_of here → {b' : Bus} {out' : List ℕ} {r : Filled} → FillsOne qh n tok bit limit m (bus m flag) b' out out' at r → RunsIn here limit (bus m flag) b' out out' at r
   unfolding bytes_of
   in_active qh n tok f bit eb {b'} {out'} {r} p =
       let is = says_active here m qh n tok f in

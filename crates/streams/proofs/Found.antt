@@ -10,8 +10,8 @@ use Rattle.bus.specs.Stores.{bus}
 use Rattle.usbdev.specs.Transfer.{total_of}
 use Rattle.usbdev.proofs.Tokens.{total_lt}
 use Rattle.transfer.specs.Transfer.{pointers, bytes_in}
-use Rattle.dtd.specs.declared.Found.TheVariants.{Unprimed, Ended, Active}
-use Rattle.dtd.specs.Dtd.{Endpoint, endpoint, primed, queue_head, next_dtd, next_active, token_of, descriptor, moves, Run, settled, run_dtds, found}
+use Rattle.dtd.specs.declared.Found.TheVariants.{Unprimed, Ended}
+use Rattle.dtd.specs.Dtd.{Endpoint, endpoint, primed, queue_head, next_dtd, next_active, token_of, descriptor, moves, Run, settled, run_dtds, found, active}
 use Rattle.dtd.proofs.Runs.{IsActive, says_unprimed, says_ended, says_active, run_unprimed, run_ended, active_moved, single, input_bytes, input_length}
 
 -- ---- an endpoint is ready where its next descriptor is active, and only there
@@ -23,7 +23,7 @@ module _ (e : Endpoint) (m : Memory) where
   pub ended_not : found e m ≡ Ended → primed e m.page && next_active e m ≡ false
   ended_not f = ap₂ ◌&&◌ (says_ended e m f).0 (says_ended e m f).1
 
-  module _ (qh n tok : ℕ) (f : found e m ≡ Active qh n tok) where
+  module _ (qh n tok : ℕ) (f : found e m ≡ active qh n tok) where
     pub active_ready : primed e m.page && next_active e m ≡ true
     active_ready = ap₂ ◌&&◌ (says_active e m qh n tok f).prime (says_active e m qh n tok f).active
 
@@ -82,5 +82,5 @@ module _ (ep : ℕ) (other : 0 < ep) (m : Memory) (l : Bool) where
   pub ended_bytes : found here m ≡ Ended → (run_dtds here [] (bus m l)).bytes ≡ []
   ended_bytes f = ended_run (says_ended here m f).0 (says_ended here m f).1
 
-  pub active_input : (qh n tok : ℕ) → found here m ≡ Active qh n tok → (run_dtds here [] (bus m l)).bytes ≡ bytes_in m (pointers m (descriptor n)) (total_of tok)
+  pub active_input : (qh n tok : ℕ) → found here m ≡ active qh n tok → (run_dtds here [] (bus m l)).bytes ≡ bytes_in m (pointers m (descriptor n)) (total_of tok)
   active_input qh n tok f = input_bytes ep other m l qh n tok (says_active here m qh n tok f)

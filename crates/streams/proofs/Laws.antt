@@ -15,8 +15,8 @@ use Rattle.bus.specs.Memory.{Memory}
 use Rattle.bus.specs.Stores as S
 use Rattle.usbdev.specs.Transfer.{total_of}
 use Rattle.dtd.specs.declared.Ran.{Ran}
-use Rattle.dtd.specs.declared.Found.TheVariants.{Unprimed, Ended, Active}
-use Rattle.dtd.specs.Dtd.{Endpoint, endpoint, primed, next_active, next_dtd, token_of, run_dtds, found}
+use Rattle.dtd.specs.declared.Found.TheVariants.{Unprimed, Ended}
+use Rattle.dtd.specs.Dtd.{Endpoint, endpoint, primed, next_active, next_dtd, token_of, run_dtds, found, active}
 use Rattle.dtd.specs.Promises.{Runs}
 use Rattle.runs.specs.declared.Filled.{Filled}
 use Rattle.runs.specs.Turns.{kept, kept_end, RunsIn}
@@ -100,11 +100,11 @@ module _ (e : Endpoint) (held : ℕ) (m : Memory) where
   pub served_ended : found e m ≡ Ended → served e held m ≡ false
   served_ended f = served_not (ended_not e m f)
 
-  pub served_active : (held ≡ 0 → ⊥) → (qh n tok : ℕ) → found e m ≡ Active qh n tok → served e held m ≡ true
+  pub served_active : (held ≡ 0 → ⊥) → (qh n tok : ℕ) → found e m ≡ active qh n tok → served e held m ≡ true
   served_active some qh n tok f = ap₂ (λ (t u : Bool). not t && u) (ne_eqb held 0 some) (active_ready e m qh n tok f)
 
 -- what fits, by the token that `find` says
-pub fits_active : (e : Endpoint) (m : Memory) (qh n tok : ℕ) → found e m ≡ Active qh n tok → (held unit k : ℕ) → k ≡ packet_of tok held
+pub fits_active : (e : Endpoint) (m : Memory) (qh n tok : ℕ) → found e m ≡ active qh n tok → (held unit k : ℕ) → k ≡ packet_of tok held
     → k / unit * unit ≡ packet_of (token_of (next_dtd e m) m) held / unit * unit
 fits_active e m qh n tok f held unit k is = ap (λ (x : ℕ). x / unit * unit) (is ∙ ap (λ (x : ℕ). packet_of x held) (active_token e m qh n tok f))
 

@@ -2,14 +2,14 @@
 #![tactic(auto)]
 
 ghost use Rattle.std.specs.Prelude.{◌≡◌, false, ◌+◌, ◌<◌, ◌≤◌, length};
-ghost use Rattle.bus.specs.Memory.{shown};
-ghost use Rattle.bus.specs.Sized.{Sized};
+ghost use Rattle.bus.specs.Windows.{contents, SameWindows};
 ghost use Rattle.dtd.specs.Dtd as D;
 ghost use Rattle.record.specs.World.{with_serial_queue, with_midi_queue};
 ghost use Rattle.record.specs.Did as R;
 ghost use Rattle.model.specs.Streams as M;
 ghost use Rattle.streams.specs.Promises as P;
 
+use bus::Windows;
 use dtd::{Found, Ran};
 use record::{Counter, State};
 
@@ -40,19 +40,17 @@ fn packet_of(tok: u32, queued: usize) -> usize
 // Serial input: its bytes go into the receive area.
 fn serial_in(
     s: State,
-    dynamic: &mut [u8],
-    sram: &mut [u8],
-    page: &mut [u8],
+    windows: &mut Windows<'_>,
     receive: &mut [u8],
 ) -> State
-    requires sized { Sized (shown dynamic.old sram.old page.old) }
-    requires received_in_bounds { s.answer.received + 32767 ≤ length receive.old }
-    ensures { P.Receives M.takes_serial s (shown dynamic.old sram.old page.old) receive.old result (shown dynamic.new sram.new page.new) receive.new }
+    requires { s.answer.received + 32767 ≤ length receive.old }
+    ensures left { P.Receives M.takes_serial s (contents windows.old) receive.old result (contents windows.new) receive.new }
+    ensures same { SameWindows windows.old windows.new }
 {
     let at = s.answer.received;
     let limit = receive.len();
     let line = s.port.line;
-    let filled = runs::run_in(dynamic, sram, page, receive, 2, SECOND_IN, at, limit, line);
+    let filled = runs::run_in(windows, receive, 2, SECOND_IN, at, limit, line);
     let mut next = s.after_run(filled.ran);
     next.answer.received = filled.at;
     next
@@ -60,9 +58,7 @@ fn serial_in(
 
 // Bytes that wait go to an output endpoint whose next descriptor is active: whole units, as many as fit.
 fn give(
-    dynamic: &mut [u8],
-    sram: &mut [u8],
-    page: &mut [u8],
+    windows: &mut Windows<'_>,
     queue: &mut [u8],
     held: usize,
     unit: usize,
@@ -70,19 +66,19 @@ fn give(
     bit: u32,
     line: bool,
 ) -> Option<Taken>
-    requires sized { Sized (shown dynamic.old sram.old page.old) }
     requires held_in_bounds { (held ≤ length queue.old) × (1 ≤ unit) }
     requires le_ep { (1 ≤ ep) × ((ep < 16) × (bit ≡ D.bit_of (D.endpoint ep false))) }
-    ensures { P.Gives (D.endpoint ep false) unit line (shown dynamic.old sram.old page.old) queue.old held result (shown dynamic.new sram.new page.new) queue.new }
+    ensures left { P.Gives (D.endpoint ep false) unit line (contents windows.old) queue.old held result (contents windows.new) queue.new }
+    ensures same { SameWindows windows.old windows.new }
 {
     if held == 0 {
         return None;
     }
-    match dtd::find(&*dynamic, &*sram, &*page, ep, false, bit) {
+    match dtd::find(windows.view(), ep, false, bit) {
         Found::Unprimed | Found::Ended => None,
-        Found::Active(qh, td, tok) => {
-            let bytes = packet_of(tok, held) / unit * unit;
-            let ran = dtd::send_one(dynamic, sram, page, qh, td, tok, bit, &queue[..bytes], line);
+        Found::Active(descriptor) => {
+            let bytes = packet_of(descriptor.token, held) / unit * unit;
+            let ran = dtd::send_one(windows, descriptor, bit, &queue[..bytes], line);
             record::drain(queue, held, bytes);
             Some(Taken { ran, bytes })
         }
@@ -92,18 +88,16 @@ fn give(
 // Serial output, where bytes wait and a descriptor is active.
 fn serial_out(
     s: State,
-    dynamic: &mut [u8],
-    sram: &mut [u8],
-    page: &mut [u8],
+    windows: &mut Windows<'_>,
     serial: &mut [u8],
 ) -> State
-    requires sized { Sized (shown dynamic.old sram.old page.old) }
-    requires serial_in_bounds { s.lengths.serial ≤ length serial.old }
-    ensures { P.Serves with_serial_queue M.gives_serial s (shown dynamic.old sram.old page.old) serial.old result (shown dynamic.new sram.new page.new) serial.new }
+    requires { s.lengths.serial ≤ length serial.old }
+    ensures left { P.Serves with_serial_queue M.gives_serial s (contents windows.old) serial.old result (contents windows.new) serial.new }
+    ensures same { SameWindows windows.old windows.new }
 {
     let held = s.lengths.serial;
     let line = s.port.line;
-    let Some(taken) = give(dynamic, sram, page, serial, held, 1, 2, SECOND_OUT, line) else {
+    let Some(taken) = give(windows, serial, held, 1, 2, SECOND_OUT, line) else {
         return s;
     };
     let mut next = s.after_run(taken.ran);
@@ -114,35 +108,31 @@ fn serial_out(
 // The serial device's two endpoints.
 pub fn serial_step(
     s: State,
-    dynamic: &mut [u8],
-    sram: &mut [u8],
-    page: &mut [u8],
+    windows: &mut Windows<'_>,
     serial: &mut [u8],
     receive: &mut [u8],
 ) -> State
-    requires sized { Sized (shown dynamic.old sram.old page.old) }
-    requires serial_in_bounds { (s.lengths.serial ≤ length serial.old) × (s.answer.received + 32767 ≤ length receive.old) }
-    ensures { P.ServesBoth M.serial_step s (shown dynamic.old sram.old page.old) serial.old receive.old result (shown dynamic.new sram.new page.new) serial.new receive.new }
+    requires { (s.lengths.serial ≤ length serial.old) × (s.answer.received + 32767 ≤ length receive.old) }
+    ensures left { P.ServesBoth M.serial_step s (contents windows.old) serial.old receive.old result (contents windows.new) serial.new receive.new }
+    ensures same { SameWindows windows.old windows.new }
 {
-    let next = serial_in(s, dynamic, sram, page, receive);
-    serial_out(next, dynamic, sram, page, serial)
+    let next = serial_in(s, windows, receive);
+    serial_out(next, windows, serial)
 }
 
 // MIDI output, where packets wait and a descriptor is active: whole packets of four bytes, which are counted.
 pub fn midi_out(
     s: State,
-    dynamic: &mut [u8],
-    sram: &mut [u8],
-    page: &mut [u8],
+    windows: &mut Windows<'_>,
     midi: &mut [u8],
 ) -> State
-    requires sized { Sized (shown dynamic.old sram.old page.old) }
-    requires midi_in_bounds { s.lengths.midi ≤ length midi.old }
-    ensures { P.Serves with_midi_queue M.midi_out s (shown dynamic.old sram.old page.old) midi.old result (shown dynamic.new sram.new page.new) midi.new }
+    requires { s.lengths.midi ≤ length midi.old }
+    ensures left { P.Serves with_midi_queue M.midi_out s (contents windows.old) midi.old result (contents windows.new) midi.new }
+    ensures same { SameWindows windows.old windows.new }
 {
     let held = s.lengths.midi;
     let line = s.port.line;
-    let Some(taken) = give(dynamic, sram, page, midi, held, 4, 1, MIDI_OUT, line) else {
+    let Some(taken) = give(windows, midi, held, 4, 1, MIDI_OUT, line) else {
         return s;
     };
     let packets = (taken.bytes / 4) as u64;
@@ -154,12 +144,12 @@ pub fn midi_out(
 }
 
 // The vendor interface's input, whose bytes are only counted.
-pub fn vendor(s: State, dynamic: &mut [u8], sram: &mut [u8], page: &mut [u8]) -> State
-    requires { Sized (shown dynamic.old sram.old page.old) }
-    ensures did { R.Did M.reads_vendor s (shown dynamic.old sram.old page.old) result (shown dynamic.new sram.new page.new) }
+pub fn vendor(s: State, windows: &mut Windows<'_>) -> State
+    ensures did { R.Did M.reads_vendor s (contents windows.old) result (contents windows.new) }
     ensures fewer { P.Fewer s.lengths result.lengths }
+    ensures same { SameWindows windows.old windows.new }
 {
-    let ran = dtd::run_count(dynamic, sram, page, 2, SECOND_IN, s.port.line);
+    let ran = dtd::run_count(windows, 2, SECOND_IN, s.port.line);
     s.after_run(ran)
         .count(Counter::VendorInBytes, u64::from(ran.moved))
 }

@@ -2,55 +2,50 @@
 #![tactic(auto)]
 
 ghost use Rattle.std.specs.Prelude.{◌≡◌, ℕ, ◌+◌, ◌*◌, ◌/◌, ◌%◌, ◌<◌, ◌≤◌, Bool, length, OnOk};
+ghost use Rattle.bus.specs.Windows.{viewed, contents, SameWindows};
 ghost use Rattle.refusal.specs.Number.{number_of};
 ghost use Rattle.bus.specs.Checked.{poked_of};
-ghost use Rattle.bus.specs.Memory.{shown};
 ghost use Rattle.bus.specs.Memory as M;
-ghost use Rattle.bus.specs.Sized.{Sized, Left};
+ghost use Rattle.bus.specs.Memory.{shown};
+ghost use Rattle.bus.specs.Sized.{Sized};
 ghost use Rattle.bus.specs.Steps.{exec};
 ghost use Rattle.bus.specs.Stores.{bus, store, Does};
 ghost use Rattle.transfer.specs.Transfer as T;
 ghost use Rattle.transfer.specs.Pages as P;
 ghost use Rattle.transfer.specs.Checked as C;
 
-use bus::{Place, locate, peek32, sized};
+use bus::{Place, View, Windows, locate, sized};
 use refusal::{Refusal, unless};
 use std::num::wrapping_add_u32;
 
 // The nine page pointers of the dTD at td.
 #[tactic(auto, unfolding(crate::specs::Transfer::pointers, bus::specs::Memory::after))]
-pub fn pointers(dynamic: &[u8], sram: &[u8], page: &[u8], td: u32) -> [u32; 9]
-    requires { Sized (shown dynamic.now sram.now page.now) }
-    ensures { result ≡ T.pointers (shown dynamic.now sram.now page.now) td }
+pub fn pointers(view: View<'_>, td: u32) -> [u32; 9]
+    ensures { result ≡ T.pointers (viewed view.entry) td }
 {
-    let p0 = peek32(dynamic, sram, page, wrapping_add_u32(td, 8));
-    let p1 = peek32(dynamic, sram, page, wrapping_add_u32(td, 12));
-    let p2 = peek32(dynamic, sram, page, wrapping_add_u32(td, 16));
-    let p3 = peek32(dynamic, sram, page, wrapping_add_u32(td, 20));
-    let p4 = peek32(dynamic, sram, page, wrapping_add_u32(td, 24));
-    let p5 = peek32(dynamic, sram, page, wrapping_add_u32(td, 28));
-    let p6 = peek32(dynamic, sram, page, wrapping_add_u32(td, 32));
-    let p7 = peek32(dynamic, sram, page, wrapping_add_u32(td, 36));
-    let p8 = peek32(dynamic, sram, page, wrapping_add_u32(td, 40));
+    let p0 = view.peek32(wrapping_add_u32(td, 8));
+    let p1 = view.peek32(wrapping_add_u32(td, 12));
+    let p2 = view.peek32(wrapping_add_u32(td, 16));
+    let p3 = view.peek32(wrapping_add_u32(td, 20));
+    let p4 = view.peek32(wrapping_add_u32(td, 24));
+    let p5 = view.peek32(wrapping_add_u32(td, 28));
+    let p6 = view.peek32(wrapping_add_u32(td, 32));
+    let p7 = view.peek32(wrapping_add_u32(td, 36));
+    let p8 = view.peek32(wrapping_add_u32(td, 40));
     [p0, p1, p2, p3, p4, p5, p6, p7, p8]
 }
 
 // The page pointers that the first total bytes of the dTD at td use; an entry that is not read is 0.
-pub fn pointers_for(dynamic: &[u8], sram: &[u8], page: &[u8], td: u32, total: usize) -> [u32; 9]
-    requires sized { Sized (shown dynamic.now sram.now page.now) }
-    requires total_bound { total ≤ 32767 }
-    ensures { result ≡ T.pointers_for (shown dynamic.now sram.now page.now) td total }
+pub fn pointers_for(view: View<'_>, td: u32, total: usize) -> [u32; 9]
+    requires { total ≤ 32767 }
+    ensures { result ≡ T.pointers_for (viewed view.entry) td total }
 {
-    let p0 = peek32(dynamic, sram, page, wrapping_add_u32(td, 8));
+    let p0 = view.peek32(wrapping_add_u32(td, 8));
     let end = (p0 % 4096) as usize + total;
     let mut ps = [0u32; 9];
     ps[0] = p0;
     for i in 1..end / 4096 + 1 {
-        ps[i] = peek32(
-            dynamic,
-            sram,
-            page,
-            wrapping_add_u32(td, 8 + 4 * (i as u32)),
+        ps[i] = view.peek32(wrapping_add_u32(td, 8 + 4 * (i as u32)),
         );
     }
     ps
@@ -74,12 +69,16 @@ pub fn data_addr(pointers: &[u32; 9], k: usize) -> u32
 }
 
 // Fills target with the bytes of memory from address a on, which lie in one page: no window ends inside one, so one test serves them all.
-fn page_in(dynamic: &[u8], sram: &[u8], page: &[u8], a: u32, target: &mut [u8])
-    requires sized { Sized (shown dynamic.now sram.now page.now) }
-    requires target_bound { a % 4096 + length target.old ≤ 4096 }
-    ensures { target.new ≡ P.run_in (shown dynamic.now sram.now page.now) a (length target.old) }
+fn page_in(view: View<'_>, a: u32, target: &mut [u8])
+    requires { a % 4096 + length target.old ≤ 4096 }
+    ensures { target.new ≡ P.run_in (viewed view.entry) a (length target.old) }
 {
     let n = target.len();
+    let View {
+        dynamic,
+        sram,
+        page,
+    } = view;
     match locate(dynamic.len(), a) {
         Place::Dynamic(i) => target.copy_from_slice(&dynamic[i..i + n]),
         Place::Static(i) => target.copy_from_slice(&sram[i..i + n]),
@@ -89,24 +88,24 @@ fn page_in(dynamic: &[u8], sram: &[u8], page: &[u8], a: u32, target: &mut [u8])
 }
 
 // Writes source to memory from address a on, in one page, and answers how many bytes were dropped.
-fn page_out(dynamic: &mut [u8], sram: &mut [u8], page: &mut [u8], a: u32, source: &[u8]) -> u32
-    requires sized { Sized (shown dynamic.old sram.old page.old) }
-    requires source_bound { a % 4096 + length source.now ≤ 4096 }
-    ensures left { Left (shown dynamic.new sram.new page.new) (P.run_out (shown dynamic.old sram.old page.old) a source.now (length source.now)) }
+fn page_out(windows: &mut Windows<'_>, a: u32, source: &[u8]) -> u32
+    requires { a % 4096 + length source.now ≤ 4096 }
+    ensures left { contents windows.new ≡ P.run_out (contents windows.old) a source.now (length source.now) }
     ensures value { result ≡ length source.now * M.dropped8 a }
+    ensures same { SameWindows windows.old windows.new }
 {
     let n = source.len();
-    match locate(dynamic.len(), a) {
+    match locate(windows.dynamic.len(), a) {
         Place::Dynamic(i) => {
-            dynamic[i..i + n].copy_from_slice(source);
+            windows.dynamic[i..i + n].copy_from_slice(source);
             0
         }
         Place::Static(i) => {
-            sram[i..i + n].copy_from_slice(source);
+            windows.sram[i..i + n].copy_from_slice(source);
             0
         }
         Place::Page(i) => {
-            page[i..i + n].copy_from_slice(source);
+            windows.page[i..i + n].copy_from_slice(source);
             0
         }
         Place::Nowhere => n as u32,
@@ -123,23 +122,20 @@ fn run_of(a: u32, left: usize) -> usize
 
 // Fills out with the bytes of a transfer from byte start on.
 pub fn copy_part(
-    dynamic: &[u8],
-    sram: &[u8],
-    page: &[u8],
+    view: View<'_>,
     pointers: &[u32; 9],
     start: usize,
     out: &mut [u8],
 )
-    requires sized { Sized (shown dynamic.now sram.now page.now) }
-    requires out_bound { start + length out.old ≤ 32767 }
-    ensures { out.new ≡ T.bytes_from (shown dynamic.now sram.now page.now) pointers.now start (length out.old) }
+    requires { start + length out.old ≤ 32767 }
+    ensures { out.new ≡ T.bytes_from (viewed view.entry) pointers.now start (length out.old) }
 {
     let total = out.len();
     let mut i = 0;
     while i < total {
         let a = data_addr(pointers, start + i);
         let n = run_of(a, total - i);
-        page_in(dynamic, sram, page, a, &mut out[i..i + n]);
+        page_in(view, a, &mut out[i..i + n]);
         i += n;
     }
 }
@@ -147,42 +143,37 @@ pub fn copy_part(
 // Copies the first n bytes of a transfer to out, from index at on.
 #[tactic(auto, using(crate::proofs::Loops::part_received))]
 pub fn copy_in(
-    dynamic: &[u8],
-    sram: &[u8],
-    page: &[u8],
+    view: View<'_>,
     pointers: &[u32; 9],
     n: usize,
     out: &mut [u8],
     at: usize,
 )
-    requires sized { Sized (shown dynamic.now sram.now page.now) }
     requires n_bound { n ≤ 32767 }
     requires n_in_bounds { at + n ≤ length out.old }
-    ensures { out.new ≡ T.received (shown dynamic.now sram.now page.now) pointers.now n out.old at }
+    ensures { out.new ≡ T.received (viewed view.entry) pointers.now n out.old at }
 {
-    copy_part(dynamic, sram, page, pointers, 0, &mut out[at..at + n]);
+    copy_part(view, pointers, 0, &mut out[at..at + n]);
 }
 
 // Writes the first n bytes of source to memory, and answers how many were dropped.
 pub fn copy_out(
-    dynamic: &mut [u8],
-    sram: &mut [u8],
-    page: &mut [u8],
+    windows: &mut Windows<'_>,
     pointers: &[u32; 9],
     source: &[u8],
     n: usize,
 ) -> u32
-    requires sized { Sized (shown dynamic.old sram.old page.old) }
     requires n_bound { n ≤ 32767 }
     requires n_in_bounds { n ≤ length source.now }
-    ensures { (l : Bool) → Does (T.sending pointers.now source.now n) (bus (shown dynamic.old sram.old page.old) l) (bus (shown dynamic.new sram.new page.new) l) result }
+    ensures left { (l : Bool) → Does (T.sending pointers.now source.now n) (bus (contents windows.old) l) (bus (contents windows.new) l) result }
+    ensures same { SameWindows windows.old windows.new }
 {
     let mut lost: u32 = 0;
     let mut i = 0;
     while i < n {
         let a = data_addr(pointers, i);
         let run = run_of(a, n - i);
-        let d = page_out(dynamic, sram, page, a, &source[i..i + run]);
+        let d = page_out(windows, a, &source[i..i + run]);
         lost += d;
         i += run;
     }

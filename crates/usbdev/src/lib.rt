@@ -10,9 +10,9 @@ ghost use Rattle.usbdev.specs.Registers.{registers};
 ghost use Rattle.usbdev.specs.Access as Access;
 ghost use Rattle.usbdev.specs.Transfer as T;
 ghost use Rattle.usbdev.specs.Checked as C;
-ghost use Rattle.bus.specs.Sized.{PAGE};
+ghost use Rattle.bus.specs.Sized as Sizes;
 
-use bus::{put_at, word_at};
+use bus::{PAGE, put_at, word_at};
 use refusal::{Refusal, unless};
 
 pub const USBCMD: usize = 0x140;
@@ -45,8 +45,7 @@ pub const EPCR0: usize = 0x1C0;
 
 // The interrupt line: an enabled USBSTS bit, or an enabled OTGSC status bit.
 #[tactic(auto, unfolding(crate::specs::Registers::line_of))]
-pub fn line(page: &[u8]) -> bool
-    requires { length page.now ≡ PAGE }
+pub fn line(page: &[u8; PAGE]) -> bool
     ensures { result ≡ R.line_of page.now }
 {
     if bits::any(word_at(page, USBSTS), word_at(page, USBINTR)) {
@@ -58,8 +57,7 @@ pub fn line(page: &[u8]) -> bool
 
 // Sets bits of USBSTS; the line's flag goes in and follows the line.
 #[tactic(auto, unfolding(bus::specs::Steps::and_then, crate::specs::Registers::store, crate::specs::Registers::setting, crate::specs::Registers::following))]
-pub fn raise(page: &mut [u8], sts: u32, flag: bool) -> bool
-    requires { length page.old ≡ PAGE }
+pub fn raise(page: &mut [u8; PAGE], sts: u32, flag: bool) -> bool
     ensures { registers page.new result ≡ R.done (R.raising sts) (registers page.old flag) }
 {
     let old = word_at(&*page, USBSTS);
@@ -80,19 +78,9 @@ fn fits(off: u32, size: u32) -> bool
     }
 }
 
-// Accepts an access that lies aligned and whole in a page of the right length.
-#[tactic(auto, using(crate::proofs::Laws::accepted), unfolding(crate::specs::Access::refusal))]
-fn accept(len: usize, off: u32, size: u32) -> Result<(), Refusal>
-    ensures number { number_of result ≡ Access.refusal len off size }
-    ensures inside { OnOk result ((len ≡ PAGE) × ((off + size ≤ PAGE) × (1 ≤ size))) }
-{
-    unless(len == bus::PAGE, Refusal::Windows)?;
-    unless(fits(off, size), Refusal::Access)
-}
-
 #[tactic(auto, unfolding(crate::specs::Access::half_at))]
-fn half_at(page: &[u8], off: usize) -> u32
-    requires { off + 2 ≤ length page.now }
+fn half_at(page: &[u8; PAGE], off: usize) -> u32
+    requires { off + 2 ≤ Sizes.PAGE }
     ensures { result ≡ Access.half_at page.now off }
 {
     u32::from(page[off]) * 256 + u32::from(page[off + 1])
@@ -100,8 +88,8 @@ fn half_at(page: &[u8], off: usize) -> u32
 
 // A four-byte read.
 #[tactic(auto, unfolding(crate::specs::Access::read_word))]
-fn read_word(page: &[u8], off: usize) -> u32
-    requires { (length page.now ≡ PAGE) × (off + 4 ≤ PAGE) }
+fn read_word(page: &[u8; PAGE], off: usize) -> u32
+    requires { off + 4 ≤ Sizes.PAGE }
     ensures { result ≡ Access.read_word page.now off }
 {
     match off {
@@ -113,9 +101,8 @@ fn read_word(page: &[u8], off: usize) -> u32
 
 // An accepted read.
 #[tactic(auto, unfolding(crate::specs::Access::read_sized))]
-fn read_sized(page: &[u8], off: usize, size: u32) -> u32
-    requires page_len { (length page.now ≡ PAGE) × (off + size ≤ PAGE) }
-    requires le_size { 1 ≤ size }
+fn read_sized(page: &[u8; PAGE], off: usize, size: u32) -> u32
+    requires { (off + size ≤ Sizes.PAGE) × (1 ≤ size) }
     ensures { result ≡ Access.read_sized page.now off size }
 {
     match size {
@@ -130,14 +117,15 @@ fn read_sized(page: &[u8], off: usize, size: u32) -> u32
 pub fn read(page: &[u8], off: u32, size: u32) -> Result<u32, Refusal>
     ensures { value_of result ≡ Access.reading page.now off size }
 {
-    accept(page.len(), off, size)?;
+    let page = page.as_array::<PAGE>().ok_or(Refusal::Windows)?;
+    unless(fits(off, size), Refusal::Access)?;
     Ok(read_sized(page, off as usize, size))
 }
 
 // Stores what a four-byte write lists, or the word as it is; whether it was listed.
 #[tactic(auto, using(crate::proofs::Laws::clears, crate::proofs::Laws::clears_not), unfolding(crate::specs::Access::listed, crate::specs::Access::listing, crate::specs::Registers::store))]
-fn put_listed(page: &mut [u8], off: usize, v: u32) -> bool
-    requires { (length page.old ≡ PAGE) × (off + 4 ≤ PAGE) }
+fn put_listed(page: &mut [u8; PAGE], off: usize, v: u32) -> bool
+    requires { off + 4 ≤ Sizes.PAGE }
     ensures { (result ≡ Access.listed off) × ((l : Bool) → registers page.new l ≡ R.done (Access.listing off v) (registers page.old l)) }
 {
     match off {
@@ -182,8 +170,8 @@ fn written_otgsc(keep: u32, v: u32) -> u32
 }
 
 // A four-byte write.
-fn write_word(page: &mut [u8], off: usize, v: u32, flag: bool) -> bool
-    requires { (length page.old ≡ PAGE) × (off + 4 ≤ PAGE) }
+fn write_word(page: &mut [u8; PAGE], off: usize, v: u32, flag: bool) -> bool
+    requires { off + 4 ≤ Sizes.PAGE }
     ensures { registers page.new result ≡ R.done (Access.writing_word off v) (registers page.old flag) }
 {
     if put_listed(page, off, v) {
@@ -193,8 +181,8 @@ fn write_word(page: &mut [u8], off: usize, v: u32, flag: bool) -> bool
 }
 
 #[tactic(auto, unfolding(crate::specs::Access::half_put))]
-fn put_half(page: &mut [u8], off: usize, v: u32)
-    requires { off + 2 ≤ length page.old }
+fn put_half(page: &mut [u8; PAGE], off: usize, v: u32)
+    requires { off + 2 ≤ Sizes.PAGE }
     ensures { page.new ≡ Access.half_put page.old off v }
 {
     page[off] = (v / 256 % 256) as u8;
@@ -203,9 +191,8 @@ fn put_half(page: &mut [u8], off: usize, v: u32)
 
 // An accepted write.
 #[tactic(auto, unfolding(crate::specs::Access::write_sized))]
-fn write_sized(page: &mut [u8], off: usize, size: u32, v: u32, flag: bool) -> bool
-    requires page_len { (length page.old ≡ PAGE) × (off + size ≤ PAGE) }
-    requires le_size { 1 ≤ size }
+fn write_sized(page: &mut [u8; PAGE], off: usize, size: u32, v: u32, flag: bool) -> bool
+    requires { (off + size ≤ Sizes.PAGE) × (1 ≤ size) }
     ensures { registers page.new result ≡ Access.write_sized (registers page.old flag) off size v }
 {
     match size {
@@ -226,7 +213,8 @@ fn write_sized(page: &mut [u8], off: usize, size: u32, v: u32, flag: bool) -> bo
 pub fn write(page: &mut [u8], off: u32, size: u32, v: u32, flag: bool) -> Result<bool, Refusal>
     ensures { (written_of flag result ≡ Access.writing (registers page.old flag) off size v) × (page.new ≡ Access.written (registers page.old flag) off size v) }
 {
-    accept(page.len(), off, size)?;
+    let page = page.as_mut_array::<PAGE>().ok_or(Refusal::Windows)?;
+    unless(fits(off, size), Refusal::Access)?;
     Ok(write_sized(page, off as usize, size, v, flag))
 }
 
@@ -259,7 +247,7 @@ pub fn token_after(tok: u32, n: u32) -> u32
 pub fn checked_line(page: &[u8]) -> Result<bool, Refusal>
     ensures { written_of false result ≡ C.lined page.now }
 {
-    unless(page.len() == bus::PAGE, Refusal::Windows)?;
+    let page = page.as_array::<PAGE>().ok_or(Refusal::Windows)?;
     Ok(line(page))
 }
 
@@ -267,6 +255,6 @@ pub fn checked_line(page: &[u8]) -> Result<bool, Refusal>
 pub fn checked_raise(page: &mut [u8], sts: u32, flag: bool) -> Result<bool, Refusal>
     ensures { (written_of flag result ≡ C.raised sts (registers page.old flag)) × (page.new ≡ C.raised_page sts (registers page.old flag)) }
 {
-    unless(page.len() == bus::PAGE, Refusal::Windows)?;
+    let page = page.as_mut_array::<PAGE>().ok_or(Refusal::Windows)?;
     Ok(raise(page, sts, flag))
 }

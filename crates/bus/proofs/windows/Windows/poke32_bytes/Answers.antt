@@ -1,9 +1,9 @@
--- `bus::poke32_bytes` meets its contract: each call leaves what one step of `poke32` says. Assumes nothing.
+-- `bus::Windows::poke32_bytes` meets its contract: each call leaves what one step of `poke32` says. Assumes nothing.
 use Rattle.std.proofs.Common.{◌≡◌, ℕ, ◌+◌, ◌≤◌, ap, arith}
-use Rattle.bus.specs.Memory.{shown, after, dropped8, dropped32}
-use Rattle.bus.proofs.Places.{left}
-use Rattle.bus.proofs.Words.{poke32_steps, kept_poke32, dropped8_le}
-use Rattle.bus.proofs.poke32_bytes.Goals as goal
+use Rattle.bus.specs.Memory.{after, dropped8, dropped32}
+use Rattle.bus.specs.Windows.{contents}
+use Rattle.bus.proofs.Words.{poke32_steps, dropped8_le}
+use Rattle.bus.proofs.windows.Windows.poke32_bytes.Goals as goal
 
 -- each call drops one byte at most, and together they drop what a word does
 record Counts (a n0 n1 n2 n3 : ℕ) : Type 0 where
@@ -36,19 +36,19 @@ overflow_add-result-3 c =
     let n = counted c.args.a c.poke8-n0.ensures.value c.wrapping_add_u32.ensures.value c.poke8-n1.ensures.value c.wrapping_add_u32-2.ensures.value c.poke8-n2.ensures.value c.wrapping_add_u32-3.ensures.value c.poke8-n3.ensures.value in
     omega (arith, n.few)
 
-pub returns : goal.returns
+pub returns-clause-left : goal.returns-clause-left
 unfolding after
-returns c =
-    let n = counted c.args.a c.poke8-n0.ensures.value c.wrapping_add_u32.ensures.value c.poke8-n1.ensures.value c.wrapping_add_u32-2.ensures.value c.poke8-n2.ensures.value c.wrapping_add_u32-3.ensures.value c.poke8-n3.ensures.value in
-    record {
-      left = left c.requires (kept_poke32 _ _ _)
-          (poke32_steps (shown c.args.dynamic.now c.args.sram.now c.args.page.now) c.args.a c.args.v
-          c.poke8-n0.ensures.left.is
-          c.wrapping_add_u32.ensures.value
-          c.poke8-n1.ensures.left.is
-          c.wrapping_add_u32-2.ensures.value
-          c.poke8-n2.ensures.left.is
-          c.wrapping_add_u32-3.ensures.value
-          c.poke8-n3.ensures.left.is);
-      value = n.all;
-    }
+returns-clause-left c =
+    poke32_steps (contents c.args.self.now) c.args.a c.args.v
+    c.poke8-n0.ensures.left
+    c.wrapping_add_u32.ensures.value
+    c.poke8-n1.ensures.left
+    c.wrapping_add_u32-2.ensures.value
+    c.poke8-n2.ensures.left
+    c.wrapping_add_u32-3.ensures.value
+    c.poke8-n3.ensures.left
+
+pub returns-clause-value : goal.returns-clause-value
+unfolding after
+returns-clause-value c =
+    (counted c.args.a c.poke8-n0.ensures.value c.wrapping_add_u32.ensures.value c.poke8-n1.ensures.value c.wrapping_add_u32-2.ensures.value c.poke8-n2.ensures.value c.wrapping_add_u32-3.ensures.value c.poke8-n3.ensures.value).all
