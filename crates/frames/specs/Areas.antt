@@ -3,7 +3,7 @@ use Rattle.std.specs.Prelude.{◌≡◌}
 use Rattle.bus.specs.declared.Windows.{Windows}
 use Rattle.bus.specs.Windows.{contents}
 use Rattle.record.specs.World.{Own, own, Lent, lent}
-use Rattle.frames.specs.declared.Areas.{Areas}
+use Rattle.frames.specs.declared.areas.Areas.{Areas}
 
 -- the arrays of the record
 abbrev pub own_of : Areas → Own
