@@ -1,8 +1,8 @@
 -- The received ring and the blocks of a run: what one frame, one block and the loops over them leave.
-use Rattle.std.proofs.Common.{◌≡◌, ℕ, zero, suc, ◌+◌, ◌-◌, ◌*◌, ◌/◌, ◌%◌, ◌<◌, ◌≤◌, Bool, true, false, eqb, List, [], ◌∷◌, length, get_or, take, drop, set, sym, refl, ap, ◌∙◌, subst, ap₂, add-zero, mod-eq_of_lt, add-one, arith, length-drop, length-set, drop_of_length-le, length-take, get_or-drop, drop-cons, get_or-take, drop-drop, eq-eqb, ne_eqb, le-leb}
+use Rattle.std.proofs.Common.{◌≡◌, ℕ, zero, suc, ◌+◌, ◌-◌, ◌*◌, ◌/◌, ◌%◌, ◌<◌, ◌≤◌, Bool, true, false, eqb, List, [], ◌∷◌, length, get_or, take, drop, set, sym, refl, ap, ◌∙◌, subst, ap₂, add-zero, mod-eq_of_lt, add-one, arith, length-drop, drop_of_length-le, length-take, get_or-drop, drop-cons, get_or-take, drop-drop, eq-eqb, ne_eqb, le-leb}
 use native.Mathlib.Nat.{mod-eq-sub-mod}
 use borrow.Author.Tests.{lt-leb, eqb-false}
-use lib.Seq.{sets, length-sets}
+use lib.Seq.{sets}
 use Rattle.bits.specs.Pick.{pick}
 use Rattle.bus.specs.Memory.{Memory, word}
 use Rattle.bus.specs.Words.{word_at}
@@ -53,18 +53,16 @@ twelve_words bs = length_tabulate 12 (λ c. word (get_or bs (4 * c) 0) (get_or b
 -- where a loop stands that stores the words of the bytes bs: what is left to store from here makes the whole
 pub record Wording (bs l₀ l : List ℕ) (at c : ℕ) : Type 0 where
   pub few : c ≤ 12
-  pub long : length l ≡ length l₀
   pub same : sets l (at * 12 + c) (drop c (words_of bs)) ≡ sets l₀ (at * 12) (words_of bs)
 
 pub wording_none : (bs l : List ℕ) (at : ℕ) → Wording bs l l at 0
-wording_none bs l at = record { few = omega arith; long = refl; same = ap (λ (i : ℕ). sets l i (words_of bs)) (add-zero (at * 12)) }
+wording_none bs l at = record { few = omega arith; same = ap (λ (i : ℕ). sets l i (words_of bs)) (add-zero (at * 12)) }
 
 module _ {bs l₀ l : List ℕ} {at c : ℕ} (inv : Wording bs l₀ l at c) where
   pub wording_step : (v : ℕ) → v ≡ get_or (words_of bs) c 0 → c < 12 → Wording bs l₀ (set l (12 * at + c) v) at (c + 1)
   wording_step v e h =
       record {
         few = omega arith;
-        long = length-set l (12 * at + c) v ∙ inv.long;
         same =
             let i : 12 * at + c ≡ at * 12 + c = omega arith in
             let j : at * 12 + (c + 1) ≡ suc (at * 12 + c) = omega arith in
@@ -109,11 +107,10 @@ frames_step n bs w r l = exec_then apply (one (λ v. frame (words_of (take 48 bs
 pub record Framing (bs : List ℕ) (r₀ : Ring) (l₀ : List ℕ) (r : Ring) (l : List ℕ) (f : ℕ) : Type 0 where
   pub few : f ≤ 7
   pub inside : InRing r
-  pub long : length l ≡ length l₀
   pub same : (w : World) → left (keeps_frames (7 - f) (drop (48 * f) bs)) (at_ring w r l) ≡ left (keeps_frames 7 bs) (at_ring w r₀ l₀)
 
 pub framing_none : (bs : List ℕ) (r : Ring) (l : List ℕ) → InRing r → Framing bs r l r l 0
-framing_none bs r l i = record { few = omega arith; inside = i; long = refl; same = λ w. refl }
+framing_none bs r l i = record { few = omega arith; inside = i; same = λ w. refl }
 
 module _ {bs : List ℕ} {r₀ : Ring} {l₀ : List ℕ} {r : Ring} {l : List ℕ} {f : ℕ} (inv : Framing bs r₀ l₀ r l f) where
   pub framing_step : f < 7 → (at : ℕ) → at ≡ (r.start + r.len) % 48000
@@ -125,7 +122,6 @@ module _ {bs : List ℕ} {r₀ : Ring} {l₀ : List ℕ} {r : Ring} {l : List �
       record {
         few = omega arith;
         inside = subst InRing (sym er) (ring_inside r inv.inside);
-        long = ap length el ∙ length-sets l (at * 12) (words_of (take 48 (drop (48 * f) bs))) ∙ inv.long;
         same = λ w. step w;
       }
     where
@@ -240,7 +236,6 @@ module _ (m : Memory) (ps : List ℕ) (total : ℕ) where
   pub record Decoding (d₀ : Decoded) (l₀ : List ℕ) (d : Decoded) (l : List ℕ) (i : ℕ) : Type 0 where
     pub few : i ≤ total / 368
     pub inside : InRing d.ring
-    pub long : length l ≡ length l₀
     pub same : (w : World) → left (keeps_blocks (rest i)) (at_blocks w d l) ≡ left (keeps_blocks (blocks_of (bytes_in m ps total))) (at_blocks w d₀ l₀)
 
   whole : total - 0 ≡ length (bytes_in m ps total)
@@ -251,7 +246,6 @@ module _ (m : Memory) (ps : List ℕ) (total : ℕ) where
       record {
         few = omega arith;
         inside = i;
-        long = refl;
         same = λ w. ap (λ (n : ℕ). left (keeps_blocks (blocks n (bytes_in m ps total))) (at_blocks w d l)) whole;
       }
 
@@ -265,12 +259,11 @@ module _ (m : Memory) (ps : List ℕ) (total : ℕ) where
         ∙ ap₂ (λ (x : List ℕ) (y : List ℕ). x ∷ blocks (total - (i + 1)) y) (sym (from_in m ps (368 * i) 368 total (omega arith)))
         (drop-drop 368 (368 * i) (bytes_in m ps total) ∙ ap (λ (x : ℕ). drop x (bytes_in m ps total)) k)
 
-    pub decoding_step : i < total / 368 → (d' : Decoded) (l' : List ℕ) → length l' ≡ length l → Keeps (keeps_block (bytes_from m ps (368 * i) 368)) d l d' l' → Decoding d₀ l₀ d' l' (i + 1)
-    decoding_step h d' l' long p =
+    pub decoding_step : i < total / 368 → (d' : Decoded) (l' : List ℕ) → Keeps (keeps_block (bytes_from m ps (368 * i) 368)) d l d' l' → Decoding d₀ l₀ d' l' (i + 1)
+    decoding_step h d' l' p =
         record {
           few = omega arith;
           inside = p.inside;
-          long = long ∙ inv.long;
           same = λ w. ap (left (keeps_blocks (rest (i + 1)))) (p.leads w).is ∙ sym (keeps_more (bytes_from m ps (368 * i) 368) (rest (i + 1)) (at_blocks w d l)) ∙ ap (λ (x : List (List ℕ)). left (keeps_blocks x) (at_blocks w d l)) (sym (rest_more h)) ∙ inv.same w;
         }
 

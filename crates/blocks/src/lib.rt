@@ -11,7 +11,7 @@ ghost use Rattle.record.specs.Sizes as Sizes;
 ghost use Rattle.blocks.specs.Promises.{InRing, Keeps, KeepsFrames, one_bad, one_good};
 
 use bus::View;
-use record::{Audio, RING_FRAMES, Ring, RING};
+use record::{Audio, RING, RING_FRAMES, Ring};
 
 // The place `ahead` frames behind place `start` of a ring with this capacity.
 pub fn place(start: usize, ahead: usize, capacity: usize) -> usize
