@@ -1,15 +1,16 @@
 -- Pairs in a list of structs: where an interface stands, and what a pair taken there leaves.
-use Rattle.std.specs.Prelude.{◌≡◌, ℕ, suc, ◌+◌, ◌≤◌, ◌<◌, Bool, true, false, List, [], ◌∷◌, ◌++◌, length, take, eqb, ltb, refl, Some, None, position, is_some}
+use Rattle.std.specs.Prelude.{◌≡◌, ℕ, suc, ◌+◌, ◌≤◌, ◌<◌, replicate, Bool, true, false, List, [], ◌∷◌, ◌++◌, length, take, eqb, ltb, refl, Some, None, position, is_some}
 use Rattle.std.specs.List.{position_or_len}
 use Rattle.std.proofs.Common.{set, sym, ap, ◌∙◌, arith}
-use Rattle.std.proofs.lemmas.List.{map-set, map-append, take_more_set}
+use Rattle.std.proofs.lemmas.List.{map-set, map-append, take_more_set, length-set, drop-set-lt, drop-replicate}
+use Rattle.std.proofs.lemmas.Grind.{drop_more_same}
 use lib.ListN.{length-map, length-append}
 use lib.Seq.{length-take-le}
 use Rattle.std.proofs.Math.Seq.{take-set-lt}
 use borrow.Author.Tests.{lt-ltb, ltb-true}
 use lib.Dec.{leb-suc-suc}
 use Rattle.config.specs.Config.{member, placed, interfaces}
-use Rattle.config.specs.Pairs.{pair_of, listed, OneEach}
+use Rattle.config.specs.Pairs.{pair_of, no_pair, listed, OneEach, Holds}
 use Rattle.config.specs.declared.Pair.{Pair}
 use Rattle.config.proofs.Cases.{by_test}
 use Rattle.config.proofs.Few.{one_each_placed, one_each_few}
@@ -95,3 +96,28 @@ module _ (i : ℕ) where
     taken_new h o all f =
         let inside : n < length table = omega (arith, room h o f) in
         ap listed (take_more_set table n _ inside) ∙ map-append pair_of (take n table) _ ∙ rw (← same) (sym (placed_new ps a f))
+
+    -- and the table still holds its pairs
+    pub holds_there : {k : ℕ} → i < 256 → Holds table n → position is_here ps ≡ Some k → Holds (set table k (record { interface = i; alternate = a })) n
+    holds_there {k} b h f =
+        let m = found_member ps f in
+        let inside : k < n = omega (arith, size, ltb-true (position_or_len is_here ps) (length ps) (place_member ps ∙ m.0), m.1) in
+        record {
+          few = h.few;
+          long = length-set table k _ ∙ h.long;
+          rest = drop-set-lt n table k _ inside ∙ h.rest;
+          each = rw (taken_there f) (one_each_placed i a (listed (take n table)) b h.each);
+        }
+
+    pub holds_new : i < 256 → Holds table n → position is_here ps ≡ None → Holds (set table n (record { interface = i; alternate = a })) (n + 1)
+    holds_new b h f =
+        let fits = room b h.each f in
+        record {
+          few = omega (arith, fits);
+          long = length-set table n _ ∙ h.long;
+          rest =
+              drop-set-lt (n + 1) table n _ (omega arith)
+              ∙ drop_more_same table (replicate 256 no_pair) n (h.rest ∙ sym (drop-replicate n 256 no_pair))
+              ∙ drop-replicate (n + 1) 256 no_pair;
+          each = rw (taken_new b h.each h.long f) (one_each_placed i a (listed (take n table)) b h.each);
+        }

@@ -1,3 +1,4 @@
 pub mod Config
 pub mod Pairs
 pub mod Table
+pub mod Inverse

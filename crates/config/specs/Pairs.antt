@@ -1,5 +1,5 @@
 -- Pairs as the code keeps them, and what is true of them.
-use Rattle.std.specs.Prelude.{ℕ, ◌<◌, List, [], ◌∷◌, map}
+use Rattle.std.specs.Prelude.{◌≡◌, ℕ, ◌-◌, ◌<◌, ◌≤◌, List, [], ◌∷◌, ◌++◌, map, length, take, drop, replicate}
 use Rattle.config.specs.Config.{Distinct, interfaces}
 use Rattle.config.specs.declared.Pair.{Pair}
 
@@ -10,6 +10,17 @@ pair_of p = (p.interface, p.alternate)
 abbrev pub listed : List Pair → List (ℕ × ℕ)
 listed ps = map pair_of ps
 
+abbrev pub pair_at : ℕ × ℕ → Pair
+pair_at p = record { interface = p.0; alternate = p.1 }
+
+-- what stands behind the last pair
+abbrev pub no_pair : Pair
+no_pair = record { interface = 0; alternate = 0 }
+
+-- pairs in 256 places, those behind the last zero
+abbrev pub placed_in : List (ℕ × ℕ) → List Pair
+placed_in ps = map pair_at ps ++ replicate (256 - length ps) no_pair
+
 -- every number of a list is below k
 unfoldable pub Below : ℕ → List ℕ → Type 0
 Below k [] = Unit {0}
@@ -19,3 +30,10 @@ Below k (x ∷ xs) = (x < k) × Below k xs
 pub record OneEach (ps : List (ℕ × ℕ)) : Type 0 where
   pub distinct : Distinct (interfaces ps)
   pub below : Below 256 (interfaces ps)
+
+-- the first n of 256 places hold pairs, and the others none
+pub record Holds (places : List Pair) (n : ℕ) : Type 0 where
+  pub few : n ≤ 256
+  pub long : length places ≡ 256
+  pub rest : drop n places ≡ replicate (256 - n) no_pair
+  pub each : OneEach (listed (take n places))

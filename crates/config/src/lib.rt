@@ -17,21 +17,26 @@ pub struct Pair {
 }
 
 // The pairs by first appearance of their interfaces, of which no two are the same.
-#[derive(Drop)]
+#[derive(Clone, Copy)]
 pub struct Pairs {
     places: [Pair; 256],
     count: usize,
 }
 
 impl Model for Pairs {
-    ghost use Rattle.std.specs.Prelude.{ℕ, ◌≤◌, List, take};
-    ghost use Rattle.config.specs.Pairs.{listed, OneEach};
+    ghost use Rattle.std.specs.Prelude.{ℕ, List, length, take, refl};
+    ghost use Rattle.config.specs.Pairs.{listed, placed_in, Holds};
+    ghost use Rattle.config.specs.Inverse.{held, whole};
 
     ghost Value = { List (ℕ × ℕ) };
 
     ghost view = { λ p. listed (take p.count p.places) };
 
-    ghost invariant = { λ p. (p.count ≤ 256) × OneEach (listed (take p.count p.places)) };
+    ghost invariant = { λ p. Holds p.places p.count };
+
+    ghost inverse = { λ ps. record { places = placed_in ps; count = length ps } };
+
+    ghost inverse_ok = { λ p h. rw (whole p.places p.count h, held p.places p.count h) refl };
 }
 
 impl Pairs {
@@ -93,7 +98,7 @@ fn find(pairs: &[Pair], interface: u8) -> Option<usize>
 }
 
 // The pairs, and the packet size of each direction.
-#[derive(Drop)]
+#[derive(Clone, Copy)]
 pub struct ConfigInfo {
     pub pairs: Pairs,
     pub ob_in_packet: u32,
@@ -157,7 +162,7 @@ fn packet_size(x: &[u8]) -> u32
 }
 
 // The walk over the descriptors: the interface being read, and the choice so far.
-#[derive(Drop)]
+#[derive(Clone, Copy)]
 struct Walk {
     reading: Interface,
     choice: ConfigInfo,
