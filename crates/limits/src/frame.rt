@@ -1,9 +1,9 @@
 // A microframe on real areas of the lengths of a case.
 use crate::calls::{Seen, addresses};
 use crate::case::{Field, Row};
-use crate::marks::{MARK, WORD_MARK, changed};
+use crate::marks::{MARK, WORD_MARK, changed, word_marks};
 
-// The areas that a microframe is lent.
+// The areas that a microframe may write.
 #[derive(Drop)]
 struct Areas {
     dynamic: [u8; record::RECEIVE],
@@ -14,7 +14,6 @@ struct Areas {
     receive: [u8; record::RECEIVE],
     cables: [u8; record::RECEIVE],
     received: [u32; 576_012],
-    sending: [u32; 576_012],
 }
 
 impl Areas {
@@ -32,7 +31,7 @@ impl Areas {
 }
 
 // On the first of each area, as much as the case says, and on the record's own arrays.
-fn run(row: &Row, areas: &mut Areas) -> Seen {
+fn run(row: &Row, areas: &mut Areas, sending: &[u32]) -> Seen {
     let mut setups = addresses();
     let mut midi = [MARK; record::QUEUE];
     let mut serial = [MARK; record::QUEUE];
@@ -53,7 +52,7 @@ fn run(row: &Row, areas: &mut Areas) -> Seen {
         row.first_mut(Field::ReceiveArea, &mut areas.receive),
         row.first_mut(Field::CablesArea, &mut areas.cables),
         row.first_mut(Field::ReceivedRing, &mut areas.received),
-        row.first(Field::SendingRing, &areas.sending),
+        row.first(Field::SendingRing, sending),
         0,
     );
     let queues = (changed(&midi, MARK) == 0) & (changed(&serial, MARK) == 0);
@@ -71,7 +70,6 @@ pub fn microframe(row: &Row) -> Seen {
         receive: [MARK; record::RECEIVE],
         cables: [MARK; record::RECEIVE],
         received: [WORD_MARK; 576_012],
-        sending: [WORD_MARK; 576_012],
     };
-    run(row, &mut areas)
+    run(row, &mut areas, &word_marks())
 }
