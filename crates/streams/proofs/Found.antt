@@ -2,6 +2,7 @@
 use Prim.Native.Nat.{ℕ, ◌≤◌, ◌<◌}
 use mathlib.Core.Bool.{Bool, true, false, ◌&&◌}
 use mathlib.Core.List.{[]}
+use Rattle.std.proofs.Common.{◌⊎◌, ⊎_elim}
 use mathlib.Core.Path.{◌≡◌, refl, sym, ap, ap₂, ◌∙◌}
 use native.Mathlib.Omega.{arith}
 use lib.ListN.{length}
@@ -12,16 +13,14 @@ use Rattle.usbdev.proofs.Tokens.{total_lt}
 use Rattle.transfer.specs.Transfer.{pointers, bytes_in}
 use Rattle.dtd.specs.declared.Found.TheVariants.{Unprimed, Ended}
 use Rattle.dtd.specs.Dtd.{Endpoint, endpoint, primed, queue_head, next_dtd, next_active, token_of, descriptor, moves, Run, settled, run_dtds, found, active}
-use Rattle.dtd.proofs.Runs.{IsActive, says_unprimed, says_ended, says_active, run_unprimed, run_ended, active_moved, single, input_bytes, input_length}
+use Rattle.dtd.proofs.Runs.{IsActive, says_unprimed, says_ended, says_active, run_unprimed, run_ended, active_moved, single, idle_run, input_bytes, input_length}
 
 -- ---- an endpoint is ready where its next descriptor is active, and only there
 
 module _ (e : Endpoint) (m : Memory) where
-  pub unprimed_not : found e m ≡ Unprimed → primed e m.page && next_active e m ≡ false
-  unprimed_not f = ap (λ (x : Bool). x && next_active e m) (says_unprimed e m f)
-
-  pub ended_not : found e m ≡ Ended → primed e m.page && next_active e m ≡ false
-  ended_not f = ap₂ ◌&&◌ (says_ended e m f).0 (says_ended e m f).1
+  pub found_idle : (found e m ≡ Unprimed) ⊎ (found e m ≡ Ended) → primed e m.page && next_active e m ≡ false
+  found_idle =
+      ⊎_elim (λ f. ap (λ (x : Bool). x && next_active e m) (says_unprimed e m f)) (λ f. ap₂ ◌&&◌ (says_ended e m f).0 (says_ended e m f).1)
 
   module _ (qh n tok : ℕ) (f : found e m ≡ active qh n tok) where
     pub active_ready : primed e m.page && next_active e m ≡ true
@@ -47,13 +46,9 @@ module _ (ep : ℕ) (other : 0 < ep) (m : Memory) (l : Bool) where
     unfolding moves
     is_moved = active_moved here [] (bus m l) (single ep true other) qh n tok is
 
-  -- of one that is not primed, or whose list ends
-  pub unprimed_run : primed here m.page ≡ false → (run_dtds here [] (bus m l)).bytes ≡ []
-  unprimed_run h = ap (λ (r : Run). r.bytes) (run_unprimed here [] (bus m l) h)
-
-  pub ended_run : primed here m.page ≡ true → next_active here m ≡ false → (run_dtds here [] (bus m l)).bytes ≡ []
-  unfolding settled
-  ended_run up h = ap (λ (r : Run). r.bytes) (run_ended here [] (bus m l) (single ep true other) up h)
+  -- of one that is not ready
+  pub idle_bytes : primed here m.page && next_active here m ≡ false → (run_dtds here [] (bus m l)).bytes ≡ []
+  idle_bytes h = (idle_run here [] (bus m l) (single ep true other) h).bytes
 
   none_brings : (r : Run) → r.moved ≡ 0 → r.bytes ≡ [] → Brings r
   none_brings r p q = record { moved = p ∙ sym (ap length q); few = omega (arith, ap length q) }
@@ -64,9 +59,11 @@ module _ (ep : ℕ) (other : 0 < ep) (m : Memory) (l : Bool) where
     where
       by_cases : (p a : Bool) → primed here m.page ≡ p → next_active here m ≡ a → Brings (run_dtds here [] (bus m l))
       by_cases false a ep ea =
-          none_brings (run_dtds here [] (bus m l)) (ap (λ (r : Run). r.moved) (run_unprimed here [] (bus m l) ep)) (unprimed_run ep)
+          none_brings (run_dtds here [] (bus m l)) (ap (λ (r : Run). r.moved) (run_unprimed here [] (bus m l) ep))
+          (idle_bytes (ap (λ (x : Bool). x && next_active here m) ep))
       by_cases true false ep ea =
-          none_brings (run_dtds here [] (bus m l)) (ap (λ (r : Run). r.moved) (run_ended here [] (bus m l) (single _ true other) ep ea)) (ended_run ep ea)
+          none_brings (run_dtds here [] (bus m l)) (ap (λ (r : Run). r.moved) (run_ended here [] (bus m l) (single _ true other) ep ea))
+          (idle_bytes (ap₂ ◌&&◌ ep ea))
       by_cases true true ep ea =
           let is : IsActive here m (queue_head here m.page) (next_dtd here m) (token_of (next_dtd here m) m) = record { prime = ep; active = ea; head = refl; next = refl; token = refl } in
           let size = input_length _ other m l (queue_head here m.page) (next_dtd here m) (token_of (next_dtd here m) m) is in
@@ -74,13 +71,6 @@ module _ (ep : ℕ) (other : 0 < ep) (m : Memory) (l : Bool) where
             moved = is_moved (queue_head here m.page) (next_dtd here m) (token_of (next_dtd here m) m) is ∙ sym size;
             few = omega (arith, size, total_lt (token_of (next_dtd here m) m));
           }
-
-  -- by the answers of `find`
-  pub unprimed_bytes : found here m ≡ Unprimed → (run_dtds here [] (bus m l)).bytes ≡ []
-  unprimed_bytes f = unprimed_run (says_unprimed here m f)
-
-  pub ended_bytes : found here m ≡ Ended → (run_dtds here [] (bus m l)).bytes ≡ []
-  ended_bytes f = ended_run (says_ended here m f).0 (says_ended here m f).1
 
   pub active_input : (qh n tok : ℕ) → found here m ≡ active qh n tok → (run_dtds here [] (bus m l)).bytes ≡ bytes_in m (pointers m (descriptor n)) (total_of tok)
   active_input qh n tok f = input_bytes ep other m l qh n tok (says_active here m qh n tok f)

@@ -15,7 +15,6 @@ use Rattle.bus.specs.Memory.{Memory}
 use Rattle.bus.specs.Stores as S
 use Rattle.usbdev.specs.Transfer.{total_of}
 use Rattle.dtd.specs.declared.Ran.{Ran}
-use Rattle.dtd.specs.declared.Found.TheVariants.{Unprimed, Ended}
 use Rattle.dtd.specs.Dtd.{Endpoint, endpoint, primed, next_active, next_dtd, token_of, run_dtds, found, active}
 use Rattle.dtd.specs.Promises.{Runs}
 use Rattle.runs.specs.declared.Filled.{Filled}
@@ -31,7 +30,7 @@ use Rattle.model.specs.Streams.{ready, fitting, drains_serial, serial_step, drai
 use Rattle.streams.specs.declared.Taken.{Taken}
 use Rattle.streams.specs.Promises.{at_receive, packet_of, served, Fewer, GivesBytes, Gives, Receives, Serves, ServesBoth}
 use Rattle.model.specs.Streams.{takes_serial, gives_serial}
-use Rattle.streams.proofs.Found.{unprimed_not, ended_not, active_ready, active_token, brings}
+use Rattle.streams.proofs.Found.{active_ready, active_token, brings}
 
 -- ---- what is in use
 
@@ -91,14 +90,8 @@ module _ (e : Endpoint) (held : ℕ) (m : Memory) where
   pub served_none : held ≡ 0 → served e held m ≡ false
   served_none h = ap (λ (t : Bool). not t && (primed e m.page && next_active e m)) (eq-eqb held 0 h)
 
-  served_not : primed e m.page && next_active e m ≡ false → served e held m ≡ false
+  pub served_not : primed e m.page && next_active e m ≡ false → served e held m ≡ false
   served_not h = ap (λ (t : Bool). not (eqb held 0) && t) h ∙ and_false (not (eqb held 0))
-
-  pub served_unprimed : found e m ≡ Unprimed → served e held m ≡ false
-  served_unprimed f = served_not (unprimed_not e m f)
-
-  pub served_ended : found e m ≡ Ended → served e held m ≡ false
-  served_ended f = served_not (ended_not e m f)
 
   pub served_active : (held ≡ 0 → ⊥) → (qh n tok : ℕ) → found e m ≡ active qh n tok → served e held m ≡ true
   served_active some qh n tok f = ap₂ (λ (t u : Bool). not t && u) (ne_eqb held 0 some) (active_ready e m qh n tok f)
@@ -207,50 +200,77 @@ module _ (s : State) (m m' : Memory) (q q' : List ℕ) (r : Ran) (n : ℕ) (run 
 pub units_held : (tok held k unit : ℕ) → k ≡ packet_of tok held → k / unit * unit ≤ held
 units_held tok held k unit e = le_trans (div-mul-le_self k unit) (omega (arith, e, min-le_right (min (total_of tok) 512) held))
 
--- ---- an output by what `give` answers: f makes the step of what fits, and drains that of whole units of it
+-- ---- an output by what `give` answers
 
-module _ (e : Endpoint) (unit : ℕ) (held : Lengths → ℕ) (put : World → List ℕ → World) (f drains : ℕ → Step) (same : (x : ℕ) → drains (x / unit * unit) ≡ f x)
-    (s : State) (m m' : Memory) (q q' : List ℕ) (k : Option Taken) (g : Gives e unit s.port.line m q (held s.lengths) k m' q') where
+-- an output endpoint and its queue: step takes what fits, which drains does in whole units
+pub record Output : Type 0 where
+  pub to : Endpoint
+  pub unit : ℕ
+  pub held : Lengths → ℕ
+  pub put : World → List ℕ → World
+  pub step : ℕ → Step
+  pub drains : ℕ → Step
+  pub same : (x : ℕ) → drains (x / unit * unit) ≡ step x
+
+module _ (o : Output) (s : State) (m m' : Memory) (q q' : List ℕ) (k : Option Taken) (g : Gives o.to o.unit s.port.line m q (o.held s.lengths) k m' q') where
   abbrev As : Option Taken → Type 0
-  As x = Gives e unit s.port.line m q (held s.lengths) x m' q'
+  As x = Gives o.to o.unit s.port.line m q (o.held s.lengths) x m' q'
 
   abbrev given : Step
-  given = sends e (λ v. held v.state.lengths) f
+  given = sends o.to (λ v. o.held v.state.lengths) o.step
 
-  pub nothing_given : k ≡ None → Serves put given s m q s m' q'
+  pub nothing_given : k ≡ None → Serves o.put given s m q s m' q'
   unfolding Gives
   nothing_given is =
       let none = subst As is g in
       record {
-        leads = λ w. leads_as (none_sent e (λ v. held v.state.lengths) f (at_bus (put w q) s m) none.none) (ap₂ (λ (x : Memory) (y : List ℕ). at_bus (put w y) s x) none.memory none.queue);
+        leads = λ w. leads_as (none_sent o.to (λ v. o.held v.state.lengths) o.step (at_bus (o.put w q) s m) none.none) (ap₂ (λ (x : Memory) (y : List ℕ). at_bus (o.put w y) s x) none.memory none.queue);
         sized = none.sized;
         few = fewer_same refl;
       }
 
   module _ {t : Taken} (is : k ≡ Some t) where
-    some : GivesBytes e unit s.port.line m q (held s.lengths) t m' q'
+    some : GivesBytes o.to o.unit s.port.line m q (o.held s.lengths) t m' q'
     unfolding Gives
     some = subst As is g
 
-    pub bytes_held : t.bytes ≤ held s.lengths
+    pub bytes_held : t.bytes ≤ o.held s.lengths
     bytes_held = some.few
 
-    pub bytes_run : Runs e (take t.bytes q) (S.bus m s.port.line) (S.bus m' t.ran.line) t.ran
-    bytes_run = some.run
-
-    pub bytes_left : q' ≡ drained q (held s.lengths) t.bytes
-    bytes_left = some.queue
-
-    pub bytes_given : {next : State} → Serves put (drains t.bytes) s m q next m' q' → Serves put given s m q next m' q'
-    bytes_given p =
+    pub bytes_given : {next : State}
+        → (Runs o.to (take t.bytes q) (S.bus m s.port.line) (S.bus m' t.ran.line) t.ran → q' ≡ drained q (o.held s.lengths) t.bytes → Serves o.put (o.drains t.bytes) s m q next m' q')
+        → Serves o.put given s m q next m' q'
+    bytes_given sent =
+        let p = sent some.run some.queue in
         record {
-          leads = λ w. some_sent e (λ v. held v.state.lengths) f (at_bus (put w q) s m) some.some
-              (leads_by {f = drains t.bytes} (ap (λ (x : ℕ). drains x (at_bus (put w q) s m)) some.fits ∙ ap (λ (h : Step). h (at_bus (put w q) s m)) (same _)) (p.leads w));
+          leads = λ w. some_sent o.to (λ v. o.held v.state.lengths) o.step (at_bus (o.put w q) s m) some.some
+              (leads_by {f = o.drains t.bytes} (ap (λ (x : ℕ). o.drains x (at_bus (o.put w q) s m)) some.fits ∙ ap (λ (h : Step). h (at_bus (o.put w q) s m)) (o.same _)) (p.leads w));
           sized = p.sized;
           few = p.few;
         }
 
 -- ---- the two outputs: units of one byte leave none out
 
-pub each_byte : (x : ℕ) → drains_serial (x / 1 * 1) ≡ drains_serial x
-each_byte x = let one : x / 1 * 1 ≡ x = omega arith in ap drains_serial one
+abbrev pub serial_output : Output
+serial_output =
+    record {
+      to = endpoint 2 false;
+      unit = 1;
+      held = λ l. l.serial;
+      put = with_serial_queue;
+      step = drains_serial;
+      drains = drains_serial;
+      same = λ x. let one : x / 1 * 1 ≡ x = omega arith in ap drains_serial one;
+    }
+
+abbrev pub midi_output : Output
+midi_output =
+    record {
+      to = endpoint 1 false;
+      unit = 4;
+      held = λ l. l.midi;
+      put = with_midi_queue;
+      step = λ n. drains_midi (n / 4 * 4);
+      drains = drains_midi;
+      same = λ x. refl;
+    }

@@ -38,11 +38,7 @@ fn packet_of(tok: u32, queued: usize) -> usize
 }
 
 // Serial input: its bytes go into the receive area.
-fn serial_in(
-    s: State,
-    windows: &mut Windows<'_>,
-    receive: &mut [u8],
-) -> State
+fn serial_in(s: State, windows: &mut Windows<'_>, receive: &mut [u8]) -> State
     requires { s.answer.received + 32767 ≤ length receive.old }
     ensures left { P.Receives M.takes_serial s (contents windows.old) receive.old result (contents windows.new) receive.new }
     ensures same { SameWindows windows.old windows.new }
@@ -86,11 +82,7 @@ fn give(
 }
 
 // Serial output, where bytes wait and a descriptor is active.
-fn serial_out(
-    s: State,
-    windows: &mut Windows<'_>,
-    serial: &mut [u8],
-) -> State
+fn serial_out(s: State, windows: &mut Windows<'_>, serial: &mut [u8]) -> State
     requires { s.lengths.serial ≤ length serial.old }
     ensures left { P.Serves with_serial_queue M.gives_serial s (contents windows.old) serial.old result (contents windows.new) serial.new }
     ensures same { SameWindows windows.old windows.new }
@@ -121,11 +113,7 @@ pub fn serial_step(
 }
 
 // MIDI output, where packets wait and a descriptor is active: whole packets of four bytes, which are counted.
-pub fn midi_out(
-    s: State,
-    windows: &mut Windows<'_>,
-    midi: &mut [u8],
-) -> State
+pub fn midi_out(s: State, windows: &mut Windows<'_>, midi: &mut [u8]) -> State
     requires { s.lengths.midi ≤ length midi.old }
     ensures left { P.Serves with_midi_queue M.midi_out s (contents windows.old) midi.old result (contents windows.new) midi.new }
     ensures same { SameWindows windows.old windows.new }
