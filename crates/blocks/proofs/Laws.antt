@@ -1,6 +1,5 @@
 -- The received ring and the blocks of a run: what one frame, one block and the loops over them leave.
-use Rattle.std.proofs.Common.{◌≡◌, ℕ, zero, suc, ◌+◌, ◌-◌, ◌*◌, ◌/◌, ◌%◌, ◌<◌, ◌≤◌, Bool, true, false, eqb, List, [], ◌∷◌, length, get_or, take, drop, set, sym, refl, ap, ◌∙◌, subst, ap₂, add-zero, mod-eq_of_lt, add-one, arith, length-drop, drop_of_length-le, length-take, get_or-drop, drop-cons, get_or-take, drop-drop, eq-eqb, ne_eqb, le-leb}
-use native.Mathlib.Nat.{mod-eq-sub-mod}
+use Rattle.std.proofs.Common.{◌≡◌, ℕ, zero, suc, ◌+◌, ◌-◌, ◌*◌, ◌/◌, ◌%◌, ◌<◌, ◌≤◌, Bool, true, false, eqb, List, [], ◌∷◌, length, get_or, take, drop, set, sym, refl, ap, ◌∙◌, subst, ap₂, add-zero, add-one, arith, length-drop, drop_of_length-le, length-take, get_or-drop, drop-cons, get_or-take, drop-drop, eq-eqb, ne_eqb, le-leb}
 use borrow.Author.Tests.{lt-leb, eqb-false}
 use lib.Seq.{sets}
 use Rattle.bits.specs.Pick.{pick}
@@ -22,18 +21,6 @@ use Rattle.blocks.specs.Promises.{InRing, at_ring, KeepsFrames, at_blocks, Keeps
 
 -- ---- places
 
--- a place behind the end comes round once
-pub comes_round : (sum capacity : ℕ) → capacity ≤ sum → sum < capacity + capacity → sum - capacity ≡ sum % capacity
-comes_round sum capacity h less = sym (mod-eq-sub-mod h ∙ mod-eq_of_lt (omega arith))
-
-pub ring_room : (r : Ring) → r.len < 48000 → record { start = r.start; len = r.len + 1 } ≡ ringed_place r
-unfolding ringed_place
-ring_room r h = simp (ne_eqb r.len 48000 (λ e. omega arith))
-
-pub ring_full : (r : Ring) (at : ℕ) → r.len ≡ 48000 → at ≡ (r.start + 1) % 48000 → record { start = at; len = 48000 } ≡ ringed_place r
-unfolding ringed_place
-ring_full r at h e = simp (eq-eqb r.len 48000 h, e)
-
 pub ring_inside : (r : Ring) → InRing r → InRing (ringed_place r)
 unfolding ringed_place
 ring_inside r i = by_test (eqb r.len 48000) refl
@@ -43,9 +30,6 @@ ring_inside r i = by_test (eqb r.len 48000) refl
     by_test false e = record { start = i.start; len = omega (arith, i.len, eqb-false r.len 48000 e) }
 
 -- ---- a frame's words
-
-pub drop_past : (l : List ℕ) (i : ℕ) → length l ≤ i → drop i l ≡ []
-drop_past l i h = drop_of_length-le l h
 
 pub twelve_words : (bs : List ℕ) → length (words_of bs) ≡ 12
 twelve_words bs = length_tabulate 12 (λ c. word (get_or bs (4 * c) 0) (get_or bs (4 * c + 1) 0) (get_or bs (4 * c + 2) 0) (get_or bs (4 * c + 3) 0))
@@ -73,7 +57,7 @@ module _ {bs l₀ l : List ℕ} {at c : ℕ} (inv : Wording bs l₀ l at c) wher
       }
 
   pub wording_end : 12 ≤ c → l ≡ sets l₀ (at * 12) (words_of bs)
-  wording_end h = ap (sets l (at * 12 + c)) (sym (drop_past (words_of bs) c (omega (arith, twelve_words bs)))) ∙ inv.same
+  wording_end h = ap (sets l (at * 12 + c)) (sym (drop_of_length-le (words_of bs) (omega (arith, twelve_words bs)))) ∙ inv.same
 
 module _ (b : List ℕ) (f : ℕ) where
   -- the bytes of frame f
@@ -275,7 +259,7 @@ module _ (m : Memory) (ps : List ℕ) (total : ℕ) where
       pub decoding_even : total % 368 ≡ 0 → Keeps (keeps_blocks (blocks_of (bytes_in m ps total))) d₀ l₀ d l
       unfolding keeps_blocks nothing
       decoding_even h =
-          let none : rest i ≡ [] = ap (blocks (total - i)) (drop_past (bytes_in m ps total) (368 * i) (omega (arith, length_bytes_in m ps total, at_end))) ∙ blocks_none (total - i) in
+          let none : rest i ≡ [] = ap (blocks (total - i)) (drop_of_length-le (bytes_in m ps total) (omega (arith, length_bytes_in m ps total, at_end))) ∙ blocks_none (total - i) in
           record {
             leads = λ w. record { is = ap (λ (x : List (List ℕ)). left (keeps_blocks x) (at_blocks w d l)) (sym none) ∙ inv.same w };
             inside = inv.inside;
@@ -290,7 +274,7 @@ module _ (m : Memory) (ps : List ℕ) (total : ℕ) where
           let some_left : 0 < total % 368 = omega arith in
           let n : total - i ≡ suc (total - (i + 1)) = omega (arith, at_end) in
           ap (λ (x : ℕ). blocks x short) n ∙ blocks_more (total - (i + 1)) short (omega (arith, left_long i, at_end))
-          ∙ ap (λ (y : List (List ℕ)). take 368 short ∷ y) (ap (blocks (total - (i + 1))) (drop_past short 368 (omega (arith, left_long i, at_end))) ∙ blocks_none (total - (i + 1)))
+          ∙ ap (λ (y : List (List ℕ)). take 368 short ∷ y) (ap (blocks (total - (i + 1))) (drop_of_length-le short {i = 368} (omega (arith, left_long i, at_end))) ∙ blocks_none (total - (i + 1)))
 
       pub decoding_short : (total % 368 ≡ 0 → ⊥) → (r : Decoded) → r ≡ one_bad d → Keeps (keeps_blocks (blocks_of (bytes_in m ps total))) d₀ l₀ r l
       unfolding keeps_blocks nothing

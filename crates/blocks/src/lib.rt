@@ -26,6 +26,7 @@ pub fn place(start: usize, ahead: usize, capacity: usize) -> usize
 }
 
 // The received ring after one more frame: a full one loses its oldest.
+#[tactic(auto, unfolding(record::specs::Change::ringed_place))]
 fn pushed(ring: Ring) -> Ring
     requires { InRing ring }
     ensures { result ≡ ringed_place ring }
@@ -43,6 +44,7 @@ fn pushed(ring: Ring) -> Ring
 }
 
 // Frame f of a block goes to a place of the received ring.
+#[tactic(auto, using(crate::proofs::Laws::wording_step, crate::proofs::Laws::wording_end, crate::proofs::Laws::word_of))]
 fn decode_frame(block: &[u8], f: usize, received: &mut [u32; RING], at: usize)
     requires block_len { (length block.now ≡ 368) × (f < 7) }
     requires at_bound { at < Sizes.FRAMES }
