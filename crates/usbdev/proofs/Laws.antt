@@ -1,10 +1,6 @@
 -- Facts on device accesses that their proofs cite.
-use Rattle.std.proofs.Common.{◌≡◌, ℕ, zero, suc, ◌+◌, ◌%◌, ◌≤◌, Bool, true, false, ◌&&◌, ◌||◌, eqb, leb, ◌⊎◌, List, [], ◌∷◌, map, sym, refl, ap, ◌∙◌, subst, inl, inr, ⊎_elim, arith, ne_eqb, eqb-true, le-leb, leb-false, leb-true}
+use Rattle.std.proofs.Common.{◌≡◌, ℕ, ◌+◌, ◌≤◌, Bool, true, false, leb, ◌⊎◌, List, [], ◌∷◌, map, sym, refl, ap, ◌∙◌, subst, inl, inr, ⊎_elim, arith, ne_eqb, le-leb, leb-false, leb-true}
 use borrow.Author.Tests.{lt-leb}
-use Rattle.std.specs.Prelude.{Result, Ok, Err, OnOk}
-use Rattle.bits.specs.Pick.{pick}
-use Rattle.refusal.specs.declared.Refusal.{Refusal}
-use Rattle.refusal.specs.Number.{number_of}
 use Rattle.bus.specs.Memory.{Memory, memory}
 use Rattle.bus.specs.Steps.{replay, exec_then}
 use Rattle.bus.specs.Stores as S
@@ -13,7 +9,7 @@ use Rattle.bus.specs.Sized.{Sized}
 use Rattle.bus.proofs.Places.{sized_kept}
 use Rattle.bus.proofs.Registers.{poke32_register, dropped_register}
 use Rattle.bus.proofs.Storing.{kept_stored}
-use Rattle.usbdev.specs.Access.{fits, refusal, clears_by_one}
+use Rattle.usbdev.specs.Access.{clears_by_one}
 use Rattle.usbdev.specs.Registers.{Registers, registers, PageStore, put, irq, store, on_bus, PageStep, lifted, done, ◌then◌, following, line_of}
 
 -- a bound on where an access ends as one on where it starts
@@ -23,26 +19,6 @@ within off size last e = by_test (leb off last) refl
     by_test : (t : Bool) → leb off last ≡ t → leb (off + size) 4096 ≡ t
     by_test true h = le-leb (off + size) 4096 (omega (arith, leb-true off last h))
     by_test false h = lt-leb (off + size) 4096 (omega (arith, leb-false off last h))
-
-zero_means : (t u v w : Bool) → pick {A = ℕ} t (pick (u && (v && w)) 0 4) 1 ≡ 0 → (t ≡ true) × (u ≡ true) × (w ≡ true)
-zero_means true true true true e = (refl, refl, refl)
-zero_means true true true false e = absurd (omega arith)
-zero_means true true false w e = absurd (omega arith)
-zero_means true false v w e = absurd (omega arith)
-zero_means false u v w e = absurd (omega arith)
-
-some_size : (size : ℕ) → eqb size 1 || (eqb size 2 || eqb size 4) ≡ true → 1 ≤ size
-some_size zero e = let z : ◌≡◌ {A = ℕ} 0 1 = cc in omega arith
-some_size (suc n) e = omega arith
-
--- an answer with the number of its refusal: one that is accepted lies in a page of 4,096 bytes, and has a size
-pub accepted : (len off size : ℕ) (r : Result (Unit {0}) Refusal) → number_of r ≡ refusal len off size
-    → OnOk r ((len ≡ 4096) × ((off + size ≤ 4096) × (1 ≤ size)))
-unfolding refusal fits
-accepted len off size (Ok t) e =
-    let z = zero_means (eqb len 4096) (eqb size 1 || (eqb size 2 || eqb size 4)) (eqb (off % size) 0) (leb (off + size) 4096) (sym e) in
-    (eqb-true len 4096 z.0, (leb-true (off + size) 4096 z.2, some_size size z.1))
-accepted len off size (Err r) e = tt
 
 -- a register whose bits a one clears is one of four, and any other is none of them
 pub clears : (off : ℕ) → (off ≡ 0x144) ⊎ ((off ≡ 0x178) ⊎ ((off ≡ 0x1AC) ⊎ (off ≡ 0x1BC))) → clears_by_one off ≡ true

@@ -1,9 +1,7 @@
 // The register page of the USB controller: what the device reads and writes, the interrupt line, and `raise`.
 #![tactic(auto)]
 
-ghost use Rattle.std.specs.Prelude.{◌≡◌, ◌+◌, ◌≤◌, Bool, false, length, OnOk};
-ghost use Rattle.bits.specs.Pick.{pick};
-ghost use Rattle.refusal.specs.Number.{number_of};
+ghost use Rattle.std.specs.Prelude.{◌≡◌, ◌+◌, ◌≤◌, Bool, true, false};
 ghost use Rattle.usbdev.specs.Answers.{value_of, written_of};
 ghost use Rattle.usbdev.specs.Registers as R;
 ghost use Rattle.usbdev.specs.Registers.{registers};
@@ -13,7 +11,7 @@ ghost use Rattle.usbdev.specs.Checked as C;
 ghost use Rattle.bus.specs.Sized as Sizes;
 
 use bus::{PAGE, put_at, word_at};
-use refusal::{Refusal, unless};
+use refusal::Refusal;
 
 pub const USBCMD: usize = 0x140;
 
@@ -68,7 +66,8 @@ pub fn raise(page: &mut [u8; PAGE], sts: u32, flag: bool) -> bool
 // Whether an access of `size` bytes at `off` lies aligned and whole in the page.
 #[tactic(auto, using(crate::proofs::Laws::within), unfolding(crate::specs::Access::fits))]
 fn fits(off: u32, size: u32) -> bool
-    ensures { result ≡ Access.fits off size }
+    ensures value { result ≡ Access.fits off size }
+    ensures inside { result ≡ true → (off + size ≤ Sizes.PAGE) × (1 ≤ size) }
 {
     match size {
         1 => off <= 4095,
@@ -113,12 +112,14 @@ fn read_sized(page: &[u8; PAGE], off: usize, size: u32) -> u32
 }
 
 // What a device read of `size` bytes at `off` gives.
-#[tactic(auto, unfolding(crate::specs::Access::reading))]
+#[tactic(auto, unfolding(crate::specs::Access::refusal, crate::specs::Access::reading))]
 pub fn read(page: &[u8], off: u32, size: u32) -> Result<u32, Refusal>
     ensures { value_of result ≡ Access.reading page.now off size }
 {
     let page = page.as_array::<PAGE>().ok_or(Refusal::Windows)?;
-    unless(fits(off, size), Refusal::Access)?;
+    if !fits(off, size) {
+        return Err(Refusal::Access);
+    }
     Ok(read_sized(page, off as usize, size))
 }
 
@@ -209,12 +210,14 @@ fn write_sized(page: &mut [u8; PAGE], off: usize, size: u32, v: u32, flag: bool)
 }
 
 // A device write of `size` bytes at `off`; the line's flag goes in and comes out. A refusal leaves the flag and the page.
-#[tactic(auto, unfolding(crate::specs::Access::writing, crate::specs::Access::written))]
+#[tactic(auto, unfolding(crate::specs::Access::refusal, crate::specs::Access::writing, crate::specs::Access::written))]
 pub fn write(page: &mut [u8], off: u32, size: u32, v: u32, flag: bool) -> Result<bool, Refusal>
     ensures { (written_of flag result ≡ Access.writing (registers page.old flag) off size v) × (page.new ≡ Access.written (registers page.old flag) off size v) }
 {
     let page = page.as_mut_array::<PAGE>().ok_or(Refusal::Windows)?;
-    unless(fits(off, size), Refusal::Access)?;
+    if !fits(off, size) {
+        return Err(Refusal::Access);
+    }
     Ok(write_sized(page, off as usize, size, v, flag))
 }
 
