@@ -1,15 +1,12 @@
 -- What the timers' proofs cite: bounds of counts, and each function's steps as those of its definition.
 use Prim.Native.Nat.{ℕ, ◌+◌, ◌-◌, ◌^◌, ◌≤◌, ◌<◌}
-use mathlib.Core.Bool.{Bool, true, false, ◌&&◌}
+use mathlib.Core.Bool.{Bool, true, false}
 use mathlib.Core.List.{List}
 use mathlib.Core.Path.{◌≡◌, refl, sym, ap, subst, ◌∙◌}
-use native.Mathlib.Omega.{arith}
-use borrow.Author.Tests.{eqb-true, leb-true, lt-ltb, le-ltb}
-use lib.Dec.{eqb, leb, ltb}
-use Rattle.std.specs.Prelude.{Some, Result, Ok, Err, OnOk}
-use Rattle.bits.specs.Pick.{pick, pick_both}
-use Rattle.refusal.specs.declared.Refusal.{Refusal}
-use Rattle.refusal.specs.Number.{number_of}
+use borrow.Author.Tests.{leb-true, lt-ltb, le-ltb}
+use lib.Dec.{leb, ltb}
+use Rattle.std.specs.Prelude.{Some}
+use Rattle.bits.specs.Pick.{pick_both}
 use Rattle.bits.specs.Word.{any}
 use Rattle.bus.specs.Words.{word_at}
 use Rattle.bus.proofs.Sizes.{and_true}
@@ -17,7 +14,6 @@ use Rattle.usbdev.specs.Registers.{Registers, registers, done, ◌then◌, raisi
 use Rattle.usbdev.proofs.Laws.{done_then}
 use Rattle.gptimers.specs.declared.Timers.{Timers}
 use Rattle.gptimers.specs.Timer.{Timer, ZERO, counting, control_register, RUN, RESET, resetting, after_reset, start_of, stopping, expiring, next, expired, counted, counted_timer, ticking, ticked, ticking_both, ticked_both, LOWEST, HIGHEST, in_range}
-use Rattle.gptimers.specs.Checked.{refusal}
 
 -- a count that stands is within its bounds
 pub range : (n : ℕ) → in_range (Some n) ≡ true → (LOWEST ≤ n) × (n ≤ HIGHEST)
@@ -130,18 +126,3 @@ module _ (step k c : ℕ) (t : Timer) (p : List ℕ) (flag : Bool) (stands : any
   pub idle_stands : t ≡ counted_timer step k c t (registers p flag)
   unfolding counted_timer
   idle_stands = simp stands
-
-zero_means : (a b c : Bool) → pick {A = ℕ} a (pick (b && c) 0 5) 1 ≡ 0 → (a ≡ true) × (b ≡ true) × (c ≡ true)
-zero_means true true true e = (refl, refl, refl)
-zero_means true true false e = absurd (omega arith)
-zero_means true false c e = absurd (omega arith)
-zero_means false b c e = absurd (omega arith)
-
--- a call that is accepted: the page has its length, and both counts are in their bounds
-pub accepted : (ts : Timers) (len : ℕ) (r : Result (Unit {0}) Refusal) → number_of r ≡ refusal ts len
-    → OnOk r ((len ≡ 4096) × ((in_range ts.zero ≡ true) × (in_range ts.one ≡ true)))
-unfolding refusal
-accepted ts len (Ok t) e =
-    let z = zero_means (eqb len 4096) (in_range ts.zero) (in_range ts.one) (sym e) in
-    (eqb-true len 4096 z.0, (z.1, z.2))
-accepted ts len (Err r) e = tt

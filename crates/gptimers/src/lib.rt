@@ -1,15 +1,14 @@
 // The general-purpose timers of the USB controller.
 #![tactic(auto)]
 
-ghost use Rattle.std.specs.Prelude.{◌≡◌, Bool, true, ◌+◌, ◌-◌, ◌<◌, ◌≤◌, ◌^◌, length, OnOk};
-ghost use Rattle.refusal.specs.Number.{number_of};
+ghost use Rattle.std.specs.Prelude.{◌≡◌, Bool, true, ◌+◌, ◌<◌, ◌≤◌, ◌^◌};
 ghost use Rattle.usbdev.specs.Registers.{registers, done};
 ghost use Rattle.gptimers.specs.Timer as T;
 ghost use Rattle.gptimers.specs.Checked as C;
 ghost use Rattle.gptimers.specs.Checked.{ticked_of};
 
 use bus::{PAGE, put_at, word_at};
-use refusal::{Refusal, unless};
+use refusal::Refusal;
 
 // The count that stands for 0; lower ones are below zero.
 pub const ZERO: u64 = 0x4_0000_0000_0000;
@@ -163,7 +162,14 @@ fn count(
 }
 
 // One microframe of timer k, whose bit of USBSTS is `bit`.
-fn gptimer(page: &mut [u8; PAGE], k: usize, bit: u32, t: Option<u64>, step: u64, flag: bool) -> Timed
+fn gptimer(
+    page: &mut [u8; PAGE],
+    k: usize,
+    bit: u32,
+    t: Option<u64>,
+    step: u64,
+    flag: bool,
+) -> Timed
     requires k_bound { (k < 2) × (step ≤ 1000) }
     requires bit_value { (bit ≡ 2 ^ (24 + k)) × (T.in_range t ≡ true) }
     ensures { (registers page.new result.line ≡ done (T.ticking step k t) (registers page.old flag)) × (result.timer ≡ T.ticked step k t (registers page.old flag)) }
@@ -192,11 +198,13 @@ pub fn gptimers(page: &mut [u8; PAGE], ts: Timers, step: u64, flag: bool) -> Tim
 }
 
 // Both timers in one microframe at high speed, on a page of any length and with any counts. A refusal leaves timers, flag and page.
-#[tactic(auto, unfolding(crate::specs::Checked::ticked_answer, crate::specs::Checked::ticked_page))]
+#[tactic(auto, unfolding(crate::specs::Checked::refusal, crate::specs::Checked::ticked_answer, crate::specs::Checked::ticked_page))]
 pub fn checked_gptimers(page: &mut [u8], ts: Timers, flag: bool) -> Result<TimedBoth, Refusal>
     ensures { (ticked_of ts flag result ≡ C.ticked_answer ts (registers page.old flag)) × (page.new ≡ C.ticked_page ts (registers page.old flag)) }
 {
     let page = page.as_mut_array::<PAGE>().ok_or(Refusal::Windows)?;
-    unless(in_range(ts.zero) & in_range(ts.one), Refusal::Bounds)?;
+    if !(in_range(ts.zero) && in_range(ts.one)) {
+        return Err(Refusal::Bounds);
+    }
     Ok(gptimers(page, ts, STEP, flag))
 }

@@ -5,9 +5,8 @@ use Rattle.gptimers.proofs.Laws.{range_reset, tick_steps, tick_stands}
 use Rattle.gptimers.specs.Timer.{in_range}
 use Rattle.gptimers.proofs.gptimer.Goals as goal
 
-pub count-requires : goal.count-requires
-count-requires c =
-    record { page_len = (search rules, (search rules, search rules)); bit_value = (search rules, ap in_range c.after_reset-kept.ensures ∙ range_reset _ c.args.t c.requires.bit_value.1) }
+pub count-requires-clause-bit_value : goal.count-requires-clause-bit_value
+count-requires-clause-bit_value c = (search rules, ap in_range c.after_reset-kept.ensures ∙ range_reset _ c.args.t c.requires.bit_value.1)
 
 pub returns : goal.returns
 returns c =
