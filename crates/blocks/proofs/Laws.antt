@@ -1,5 +1,5 @@
 -- The received ring and the blocks of a run: what one frame, one block and the loops over them leave.
-use Rattle.std.proofs.Common.{◌≡◌, ℕ, zero, suc, ◌+◌, ◌-◌, ◌*◌, ◌/◌, ◌%◌, ◌<◌, ◌≤◌, Bool, true, false, eqb, List, [], ◌∷◌, length, get_or, take, drop, set, sym, refl, ap, ◌∙◌, subst, ap₂, add-zero, add-one, arith, length-drop, drop_of_length-le, length-take, get_or-drop, drop-cons, get_or-take, drop-drop, eq-eqb, ne_eqb, le-leb}
+use Rattle.std.proofs.Common.{◌≡◌, ℕ, zero, suc, ◌+◌, ◌-◌, ◌*◌, ◌/◌, ◌%◌, ◌<◌, ◌≤◌, Bool, true, false, eqb, List, [], ◌∷◌, length, get_or, take, drop, set, sym, refl, ap, ◌∙◌, subst, ap₂, add-one, arith, length-drop, drop_of_length-le, length-take, get_or-drop, drop-cons, get_or-take, drop-drop, eq-eqb, ne_eqb, le-leb}
 use borrow.Author.Tests.{lt-leb, eqb-false}
 use lib.Seq.{sets}
 use Rattle.bits.specs.Pick.{pick}
@@ -38,9 +38,6 @@ twelve_words bs = length_tabulate 12 (λ c. word (get_or bs (4 * c) 0) (get_or b
 pub record Wording (bs l₀ l : List ℕ) (at c : ℕ) : Type 0 where
   pub few : c ≤ 12
   pub same : sets l (at * 12 + c) (drop c (words_of bs)) ≡ sets l₀ (at * 12) (words_of bs)
-
-pub wording_none : (bs l : List ℕ) (at : ℕ) → Wording bs l l at 0
-wording_none bs l at = record { few = omega arith; same = ap (λ (i : ℕ). sets l i (words_of bs)) (add-zero (at * 12)) }
 
 module _ {bs l₀ l : List ℕ} {at c : ℕ} (inv : Wording bs l₀ l at c) where
   pub wording_step : (v : ℕ) → v ≡ get_or (words_of bs) c 0 → c < 12 → Wording bs l₀ (set l (12 * at + c) v) at (c + 1)
@@ -92,9 +89,6 @@ pub record Framing (bs : List ℕ) (r₀ : Ring) (l₀ : List ℕ) (r : Ring) (l
   pub few : f ≤ 7
   pub inside : InRing r
   pub same : (w : World) → left (keeps_frames (7 - f) (drop (48 * f) bs)) (at_ring w r l) ≡ left (keeps_frames 7 bs) (at_ring w r₀ l₀)
-
-pub framing_none : (bs : List ℕ) (r : Ring) (l : List ℕ) → InRing r → Framing bs r l r l 0
-framing_none bs r l i = record { few = omega arith; inside = i; same = λ w. refl }
 
 module _ {bs : List ℕ} {r₀ : Ring} {l₀ : List ℕ} {r : Ring} {l : List ℕ} {f : ℕ} (inv : Framing bs r₀ l₀ r l f) where
   pub framing_step : f < 7 → (at : ℕ) → at ≡ (r.start + r.len) % 48000
