@@ -5,7 +5,7 @@ use native.Mathlib.Nat.{min-zero, zero-min, mod_self}
 use lib.Bits.{bit_and, and_step, and_self, and_mask}
 use lib.Pow.{pow-lt}
 use Rattle.bus.specs.Memory.{Memory}
-use Rattle.bus.specs.Sized.{Power, Sized, is_power, is_sized}
+use Rattle.bus.specs.Sized.{Power, Sized, Accepted, is_power, is_sized}
 
 -- both sides of a conjunction that holds
 pub and_true : (a b : Bool) → a && b ≡ true → (a ≡ true) × (b ≡ true)
@@ -92,7 +92,7 @@ sized_is m s =
     (eq-eqb (length m.sram) 65536 s.sram_length, eq-eqb (length m.page) 4096 s.page_length, power_is (length m.dynamic) s.dynamic_length)
 
 -- the three tests, one by one
-pub sized_parts : (m : Memory) → is_sized m ≡ true → (is_power (length m.dynamic) ≡ true) × ((length m.sram ≡ 65536) × (length m.page ≡ 4096))
+pub sized_parts : (m : Memory) → is_sized m ≡ true → Accepted m
 unfolding is_sized
 sized_parts m e =
     let p = and_true (eqb (length m.sram) 65536) (eqb (length m.page) 4096 && is_power (length m.dynamic)) e in

@@ -1,5 +1,5 @@
 -- The lengths of the three windows that are accepted (document 01, "Numbers of refusal", 1), and the test that decides them.
-use Rattle.std.specs.Prelude.{◌≡◌, ℕ, ◌+◌, ◌-◌, ◌%◌, ◌^◌, ◌≤◌, Bool, ◌&&◌, length, ◌==◌, bit_and, nat_le}
+use Rattle.std.specs.Prelude.{◌≡◌, ℕ, ◌+◌, ◌-◌, ◌%◌, ◌^◌, ◌≤◌, Bool, true, ◌&&◌, length, ◌==◌, bit_and, nat_le}
 use Rattle.bus.specs.declared.Place.{Place}
 use Rattle.bus.specs.declared.Place.TheVariants.{Dynamic, Static, Page, Nowhere}
 use Rattle.bus.specs.Memory.{Memory}
@@ -42,3 +42,7 @@ is_power n = nat_le 4096 n && (nat_le n 67108864 && bit_and n (n - 1) == 0)
 -- the test for Sized (laws is-sized and sized-is)
 unfoldable pub is_sized : Memory → Bool
 is_sized m = length m.sram == SRAM && (length m.page == PAGE && is_power (length m.dynamic))
+
+-- what a value that holds the windows needs to know of their lengths
+abbrev pub Accepted : Memory → Type 0
+Accepted m = (is_power (length m.dynamic) ≡ true) × ((length m.sram ≡ SRAM) × (length m.page ≡ PAGE))

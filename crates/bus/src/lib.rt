@@ -7,8 +7,7 @@ ghost use Rattle.refusal.specs.declared.Refusal.TheVariants.{Windows as Refusal�
 ghost use Rattle.std.proofs.lemmas.List.Edits.{sets};
 ghost use Rattle.bus.specs.Memory as M;
 ghost use Rattle.bus.specs.Memory.{shown};
-ghost use Rattle.bus.specs.Sized.{Power, PageFits, is_power, is_sized};
-ghost use Rattle.bus.specs.Sized as S;
+ghost use Rattle.bus.specs.Sized.{Power, PageFits, Accepted, is_power, is_sized};
 ghost use Rattle.bus.specs.Words as W;
 ghost use Rattle.bus.specs.Checked.{peeked, poked, peeked_of, poked_of, kept};
 
@@ -118,7 +117,7 @@ pub fn sized(dynamic: &[u8], sram: &[u8], page: &[u8]) -> bool
 // Accepts windows that are as long as they must be.
 pub fn accept(dynamic: &[u8], sram: &[u8], page: &[u8]) -> Result<(), Refusal>
     ensures tested { result ≡ pick (is_sized (shown dynamic.now sram.now page.now)) (Ok tt) (Err Refusal·Windows) }
-    ensures fits { OnOk result ((is_power (length dynamic.now) ≡ true) × ((length sram.now ≡ S.SRAM) × (length page.now ≡ S.PAGE))) }
+    ensures fits { OnOk result (Accepted (shown dynamic.now sram.now page.now)) }
 {
     refusal::unless(sized(dynamic, sram, page), Refusal::Windows)
 }
