@@ -7,14 +7,14 @@ ghost use Rattle.refusal.specs.Number.{number_of};
 ghost use Rattle.bus.specs.Checked.{poked_of};
 ghost use Rattle.bus.specs.Memory as M;
 ghost use Rattle.bus.specs.Memory.{shown};
-ghost use Rattle.bus.specs.Sized.{Sized};
+ghost use Rattle.bus.specs.Sized.{Sized, Accepted};
 ghost use Rattle.bus.specs.Steps.{exec};
 ghost use Rattle.bus.specs.Stores.{bus, store, Does};
 ghost use Rattle.transfer.specs.Transfer as T;
 ghost use Rattle.transfer.specs.Pages as P;
 ghost use Rattle.transfer.specs.Checked as C;
 
-use bus::{Place, View, Windows, locate, sized};
+use bus::{PAGE, Place, SRAM, View, Windows, locate};
 use refusal::{Refusal, unless};
 use std::num::wrapping_add_u32;
 
@@ -45,8 +45,7 @@ pub fn pointers_for(view: View<'_>, td: u32, total: usize) -> [u32; 9]
     let mut ps = [0u32; 9];
     ps[0] = p0;
     for i in 1..end / 4096 + 1 {
-        ps[i] = view.peek32(wrapping_add_u32(td, 8 + 4 * (i as u32)),
-        );
+        ps[i] = view.peek32(wrapping_add_u32(td, 8 + 4 * (i as u32)));
     }
     ps
 }
@@ -97,15 +96,18 @@ fn page_out(windows: &mut Windows<'_>, a: u32, source: &[u8]) -> u32
     let n = source.len();
     match locate(windows.dynamic.len(), a) {
         Place::Dynamic(i) => {
-            windows.dynamic[i..i + n].copy_from_slice(source);
+            let dynamic = &mut *windows.dynamic;
+            dynamic[i..i + n].copy_from_slice(source);
             0
         }
         Place::Static(i) => {
-            windows.sram[i..i + n].copy_from_slice(source);
+            let sram = &mut *windows.sram;
+            sram[i..i + n].copy_from_slice(source);
             0
         }
         Place::Page(i) => {
-            windows.page[i..i + n].copy_from_slice(source);
+            let page = &mut *windows.page;
+            page[i..i + n].copy_from_slice(source);
             0
         }
         Place::Nowhere => n as u32,
@@ -121,12 +123,7 @@ fn run_of(a: u32, left: usize) -> usize
 }
 
 // Fills out with the bytes of a transfer from byte start on.
-pub fn copy_part(
-    view: View<'_>,
-    pointers: &[u32; 9],
-    start: usize,
-    out: &mut [u8],
-)
+pub fn copy_part(view: View<'_>, pointers: &[u32; 9], start: usize, out: &mut [u8])
     requires { start + length out.old ≤ 32767 }
     ensures { out.new ≡ T.bytes_from (viewed view.entry) pointers.now start (length out.old) }
 {
@@ -142,13 +139,7 @@ pub fn copy_part(
 
 // Copies the first n bytes of a transfer to out, from index at on.
 #[tactic(auto, using(crate::proofs::Loops::part_received))]
-pub fn copy_in(
-    view: View<'_>,
-    pointers: &[u32; 9],
-    n: usize,
-    out: &mut [u8],
-    at: usize,
-)
+pub fn copy_in(view: View<'_>, pointers: &[u32; 9], n: usize, out: &mut [u8], at: usize)
     requires n_bound { n ≤ 32767 }
     requires n_in_bounds { at + n ≤ length out.old }
     ensures { out.new ≡ T.received (viewed view.entry) pointers.now n out.old at }
@@ -157,12 +148,7 @@ pub fn copy_in(
 }
 
 // Writes the first n bytes of source to memory, and answers how many were dropped.
-pub fn copy_out(
-    windows: &mut Windows<'_>,
-    pointers: &[u32; 9],
-    source: &[u8],
-    n: usize,
-) -> u32
+pub fn copy_out(windows: &mut Windows<'_>, pointers: &[u32; 9], source: &[u8], n: usize) -> u32
     requires n_bound { n ≤ 32767 }
     requires n_in_bounds { n ≤ length source.now }
     ensures left { (l : Bool) → Does (T.sending pointers.now source.now n) (bus (contents windows.old) l) (bus (contents windows.new) l) result }
@@ -192,8 +178,9 @@ pub fn accept(
 ) -> Result<(), Refusal>
     ensures number { number_of result ≡ C.refusal (shown dynamic.now sram.now page.now) at n size }
     ensures inside { OnOk result (Sized (shown dynamic.now sram.now page.now) × ((n ≤ 32767) × (at + n ≤ size))) }
+    ensures windows { OnOk result (Accepted (shown dynamic.now sram.now page.now)) }
 {
-    unless(sized(dynamic, sram, page), Refusal::Windows)?;
+    bus::accept(dynamic, sram, page)?;
     unless(n <= 32767, Refusal::Areas)?;
     unless(n <= size, Refusal::Areas)?;
     unless(at <= size - n, Refusal::Areas)
@@ -213,7 +200,14 @@ pub fn checked_copy_in(
     ensures { (number_of result ≡ C.refusal (shown dynamic.now sram.now page.now) at n (length out.old)) × (out.new ≡ C.checked_received (shown dynamic.now sram.now page.now) pointers.now n out.old at) }
 {
     accept(dynamic, sram, page, at, n, out.len())?;
-    copy_in(dynamic, sram, page, pointers, n, out, at);
+    let sram = sram.as_array::<SRAM>().unwrap();
+    let page = page.as_array::<PAGE>().unwrap();
+    let view = View {
+        dynamic,
+        sram,
+        page,
+    };
+    copy_in(view, pointers, n, out, at);
     Ok(())
 }
 
@@ -230,7 +224,14 @@ pub fn checked_copy_part(
     ensures { (number_of result ≡ C.refusal (shown dynamic.now sram.now page.now) start (length out.old) 32767) × (out.new ≡ C.checked_from (shown dynamic.now sram.now page.now) pointers.now start out.old) }
 {
     accept(dynamic, sram, page, start, out.len(), 32767)?;
-    copy_part(dynamic, sram, page, pointers, start, out);
+    let sram = sram.as_array::<SRAM>().unwrap();
+    let page = page.as_array::<PAGE>().unwrap();
+    let view = View {
+        dynamic,
+        sram,
+        page,
+    };
+    copy_part(view, pointers, start, out);
     Ok(())
 }
 
@@ -247,5 +248,12 @@ pub fn checked_copy_out(
     ensures { (poked_of result ≡ C.sent (shown dynamic.old sram.old page.old) pointers.now source.now n) × ((l : Bool) → bus (shown dynamic.new sram.new page.new) l ≡ exec store (C.checked_sending pointers.now source.now n) (bus (shown dynamic.old sram.old page.old) l)) }
 {
     accept(&*dynamic, &*sram, &*page, 0, n, source.len())?;
-    Ok(copy_out(dynamic, sram, page, pointers, source, n))
+    let sram = sram.as_mut_array::<SRAM>().unwrap();
+    let page = page.as_mut_array::<PAGE>().unwrap();
+    let mut windows = Windows {
+        dynamic,
+        sram,
+        page,
+    };
+    Ok(copy_out(&mut windows, pointers, source, n))
 }

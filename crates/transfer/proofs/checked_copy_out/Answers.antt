@@ -1,12 +1,10 @@
 -- `transfer::checked_copy_out` meets its contract.
-use Rattle.std.proofs.Common.{false, sym}
-use Rattle.bus.specs.Stores.{when}
-use Rattle.transfer.specs.Transfer.{sending}
-use Rattle.transfer.specs.Checked.{checked_sending, sent}
+use Rattle.std.proofs.Common.{rules}
+use Rattle.transfer.proofs.Checked.{sent_out}
 use Rattle.transfer.proofs.checked_copy_out.Goals as goal
 
+pub invariant_of-windows-clause-power : goal.invariant_of-windows-clause-power
+invariant_of-windows-clause-power c = c.in_ok-accept.ensures.windows.0
+
 pub returns : goal.returns
-unfolding checked_sending sent when sending
-returns c =
-    let number = sym c.in_ok-accept.ensures.number in
-    (simp (number, (c.copy_out.ensures false).counted), λ l. simp number (c.copy_out.ensures l).is)
+returns c = sent_out _ _ _ c.in_ok-accept.ensures.number (search rules) (search rules) c.copy_out.ensures.left
