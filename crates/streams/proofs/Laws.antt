@@ -70,9 +70,6 @@ module _ (s : State) (m m' : Memory) (r : Ran) (run : Runs (endpoint 2 true) [] 
         sized = run.does.sized;
       }
 
-  pub vendor_few : {t : State} → t ≡ counting next r.moved → Fewer s.lengths t.lengths
-  vendor_few {t} e = fewer_same (ap (λ (x : State). x.lengths) (e ∙ ap (λ (x : State). counting x r.moved) is))
-
 -- ---- what waits is sent to an endpoint that is ready
 
 module _ (e : Endpoint) (held : World → ℕ) (f : ℕ → Step) where

@@ -53,6 +53,7 @@ fn serial_in(s: State, windows: &mut Windows<'_>, receive: &mut [u8]) -> State
 }
 
 // Bytes that wait go to an output endpoint whose next descriptor is active: whole units, as many as fit.
+#[tactic(auto, using(crate::proofs::Laws::served_none, crate::proofs::Laws::served_not, crate::proofs::Found::found_idle, bus::proofs::Lengths::sized_of), unfolding(crate::specs::Promises::Gives))]
 fn give(
     windows: &mut Windows<'_>,
     queue: &mut [u8],
