@@ -80,8 +80,14 @@ pub fn any_span(spans: &[Span], t: u64) -> bool
 }
 
 // A register's word is changed, and bits of USBSTS are raised: the line's flag after that.
-fn change<F: FnOnce(u32) -> u32>(page: &mut [u8; PAGE], at: usize, sts: u32, flag: bool, f: F) -> bool
-    requires page_len { (at + 4 ≤ PAGE) }
+fn change<F: FnOnce(u32) -> u32>(
+    page: &mut [u8; PAGE],
+    at: usize,
+    sts: u32,
+    flag: bool,
+    f: F,
+) -> bool
+    requires fits { at + 4 ≤ PAGE }
     requires callable { F.IsAlwaysCallable f }
     ensures { Changed (F.post f) at sts flag page.old page.new result }
 {
