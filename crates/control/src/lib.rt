@@ -59,6 +59,7 @@ fn configured(s: State) -> State
 }
 
 // The setup packet goes to the queue head as its two words; the bytes dropped.
+#[tactic(auto, using(dtd::proofs::Laws::dropped32_le))]
 fn put_words(windows: &mut Windows<'_>, setup: Setup) -> u32
     ensures left { ((l : Bool) → Does (P.puts_setup (D.queue_head (D.endpoint 0 false) windows.old.page.now) setup.first setup.second) (Stores·bus (contents windows.old) l) (Stores·bus (contents windows.new) l) result) × (result ≤ 8) }
     ensures same { SameWindows windows.old windows.new }
@@ -146,11 +147,7 @@ fn to_host(s: State) -> bool
 }
 
 // The data stage from the device: its bytes go behind the reply, up to the asked length.
-fn data_in(
-    s: State,
-    windows: &mut Windows<'_>,
-    reply: &mut [u8],
-) -> State
+fn data_in(s: State, windows: &mut Windows<'_>, reply: &mut [u8]) -> State
     requires { Ready s × (Sizes.REPLY ≤ length reply.old) }
     ensures left { P.Stages C.data_in s (contents windows.old) reply.old result (contents windows.new) reply.new }
     ensures same { SameWindows windows.old windows.new }
@@ -181,11 +178,7 @@ fn data_out(s: State, windows: &mut Windows<'_>) -> State
 }
 
 // The data stage, unless it is over, where the request has one.
-fn data_stage(
-    s: State,
-    windows: &mut Windows<'_>,
-    reply: &mut [u8],
-) -> State
+fn data_stage(s: State, windows: &mut Windows<'_>, reply: &mut [u8]) -> State
     requires { Ready s × (Sizes.REPLY ≤ length reply.old) }
     ensures left { P.Stages P.data_first s (contents windows.old) reply.old result (contents windows.new) reply.new }
     ensures same { SameWindows windows.old windows.new }
@@ -203,11 +196,7 @@ fn data_stage(
 }
 
 // The run of the status stage: the other direction, and no bytes.
-fn status_stage(
-    s: State,
-    windows: &mut Windows<'_>,
-    reply: &mut [u8],
-) -> Ran
+fn status_stage(s: State, windows: &mut Windows<'_>, reply: &mut [u8]) -> Ran
     requires { Ready s }
     ensures left { P.Acknowledges s (contents windows.old) result (contents windows.new) × (reply.new ≡ reply.old) }
     ensures same { SameWindows windows.old windows.new }
@@ -264,15 +253,7 @@ fn request(
     let next = data_stage(s, windows, reply);
     match next.control.stage {
         Stage::Data => unless_late(next),
-        Stage::Status => acknowledge(
-            next,
-            device_stack,
-            setups,
-            device,
-            windows,
-            reply,
-            config,
-        ),
+        Stage::Status => acknowledge(next, device_stack, setups, device, windows, reply, config),
     }
 }
 
@@ -291,15 +272,7 @@ pub fn control(
     ensures same { SameWindows windows.old windows.new }
 {
     if s.control.on {
-        return request(
-            s,
-            device_stack,
-            setups,
-            device,
-            windows,
-            reply,
-            config,
-        );
+        return request(s, device_stack, setups, device, windows, reply, config);
     }
     let Some(setup) = next_setup(&*setups, s.lengths.setups) else {
         return configured(s);
