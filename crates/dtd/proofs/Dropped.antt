@@ -1,27 +1,19 @@
 -- How many bytes a run moves, and how many of its bytes no window takes, by the descriptors that it retires: a total has at most 32,767 bytes, and a
 -- retirement stores five words outside the page (usbhost.rs 558-601).
-use Rattle.std.proofs.Common.{◌≡◌, ℕ, zero, suc, ◌+◌, ◌*◌, ◌≤◌, Bool, not, List, ◌++◌, length, drop, refl, arith}
-use native.Mathlib.Nat.{min-le_left}
+use Rattle.std.proofs.Common.{◌≡◌, ℕ, zero, suc, ◌+◌, ◌*◌, ◌≤◌, Bool, not, List, ◌++◌, drop, refl, arith}
 use Rattle.bits.specs.Pick.{pick_both}
 use Rattle.bus.specs.Memory.{after, peek32}
 use Rattle.bus.specs.Steps.{exec, and_then}
 use Rattle.bus.specs.Stores.{Bus, Store, store, stored, dropped, dropped_by, dropped_append, putting, when}
 use Rattle.usbdev.specs.Registers as usb
 use Rattle.usbdev.specs.Registers.{registers, PageStore, lifted, setting}
-use Rattle.usbdev.specs.Transfer.{total_of}
 use Rattle.usbdev.proofs.Laws.{Inside, none_dropped}
-use Rattle.usbdev.proofs.Tokens.{total_lt}
 use Rattle.transfer.specs.Transfer.{pointers}
 use Rattle.dtd.specs.Dtd.{Endpoint, bit_of, primed, queue_head, next_dtd, terminates, descriptor, token_of, is_active, interrupts, moves, data_out, closing, completing, advancing, retiring, turning, following, Run, ended, joined, turns, most, list_ends, unpriming, reporting, settling, settled, run_dtds}
 use Rattle.dtd.proofs.Laws.{dropped32_le}
-use Rattle.dtd.proofs.Runs.{lost_few}
+use Rattle.dtd.proofs.Runs.{moves_few, lost_few}
 
 -- ---- one descriptor
-
-moves_few : (e : Endpoint) (tok : ℕ) (bs : List ℕ) → moves e tok bs ≤ 32767
-unfolding moves
-moves_few e tok bs =
-    pick_both (λ (n : ℕ). n ≤ 32767) e.input (omega (arith, total_lt tok)) (omega (arith, min-le_left (total_of tok) (length bs), total_lt tok))
 
 data_few : (e : Endpoint) (n tok : ℕ) (bs : List ℕ) (b : Bus) → dropped_by (data_out e n tok bs b) ≤ moves e tok bs
 unfolding data_out when dropped_by

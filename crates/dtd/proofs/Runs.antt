@@ -1,12 +1,12 @@
 -- What a run of at most one descriptor is, by what stands before it.
-use Rattle.std.proofs.Common.{◌≡◌, ℕ, ◌+◌, ◌<◌, ◌≤◌, min, Bool, true, false, not, ◌&&◌, List, [], ◌++◌, length, sym, refl, ap, ◌∙◌, subst, ap₂, append_assoc, append-nil, arith, ne_eqb}
-use Rattle.bits.specs.Pick.{pick}
+use Rattle.std.proofs.Common.{◌≡◌, ℕ, ◌+◌, ◌<◌, ◌≤◌, min, Bool, true, false, not, ◌&&◌, List, [], ◌++◌, length, sym, refl, ap, ◌∙◌, subst, ap₂, append_assoc, append-nil, Ok, arith, ne_eqb}
+use Rattle.bits.specs.Pick.{pick, pick_both}
 use Rattle.bits.proofs.Tests.{false_true, or_false}
 use Rattle.bus.specs.Memory.{Memory}
 use Rattle.bus.specs.Steps.{and_then, replay_append}
 use Rattle.bus.specs.Sized.{Sized}
 use Rattle.bus.specs.Stores.{Bus, bus, Store, store, stored, dropped_by, ◌then◌, when, Does}
-use Rattle.bus.proofs.Storing.{does_then, does_as, does_counted}
+use Rattle.bus.proofs.Storing.{does_then, does_as}
 use Rattle.usbdev.specs.Transfer.{total_of}
 use Rattle.transfer.specs.Transfer.{pointers, pointers_for, bytes_in, sending}
 use Rattle.transfer.proofs.Addresses.{sending_for}
@@ -19,7 +19,7 @@ use Rattle.dtd.specs.declared.Found.TheVariants.{Unprimed, Ended, Active}
 use Rattle.dtd.specs.declared.Descriptor.{Descriptor}
 use Rattle.dtd.specs.declared.Finished.{Finished}
 use Rattle.dtd.specs.declared.Ran.{Ran}
-use Rattle.dtd.specs.Promises.{Finishes, none_ran, Turns, SendsOne, TakesOne, running, Runs}
+use Rattle.dtd.specs.Promises.{Finishes, none_ran, ran_of, Turns, running, Runs, Begins}
 use Rattle.dtd.specs.Dtd.{Endpoint, endpoint, descriptor, bit_of, primed, queue_head, next_dtd, terminates, token_of, is_active, interrupts, next_active, moves, bytes_of, data_out, turning, following, Run, ended, joined, turns, most, list_ends, unpriming, reporting, settling, settled, run_dtds, finishing, found, active}
 
 -- ---- what each answer of `find` says
@@ -214,51 +214,39 @@ module _ (e : Endpoint) (bs : List ℕ) (m : Memory) (l : Bool) (z : Sized m) wh
 pub single : (ep : ℕ) (input : Bool) → 0 < ep → most (endpoint ep input) ≡ 1
 single ep input h = simp (ne_eqb ep 0 (λ e. omega arith))
 
--- an output descriptor: its bytes, by the pointers that they use, and then its retirement
-module _ (qh n tok bit : ℕ) (bs : List ℕ) (m m₁ : Memory) (flag : Bool) (b' : Bus) (total count td lost : ℕ) (ps : List ℕ) (f : Finished)
-    (is-total : total ≡ total_of tok) (is-count : count ≡ min total (length bs)) (is-descriptor : td ≡ descriptor n)
-    (few : count ≤ 32767) (is-pointers : ps ≡ pointers_for m td count)
-    (copied : (l : Bool) → Does (sending ps bs count) (bus m l) (bus m₁ l) lost)
-    (finished : Finishes qh n tok count bit (bus m₁ flag) b' f) where
-  same_count : count ≡ moves (endpoint 0 false) tok bs
-  unfolding moves
-  same_count = is-count ∙ ap (λ (x : ℕ). min x (length bs)) is-total
+pub moves_few : (e : Endpoint) (tok : ℕ) (bs : List ℕ) → moves e tok bs ≤ 32767
+unfolding moves
+moves_few e tok bs =
+    pick_both (λ (n : ℕ). n ≤ 32767) e.input (omega (arith, total_lt tok)) (omega (arith, min-le_left (total_of tok) (length bs), total_lt tok))
 
-  sends : Does (data_out (endpoint 0 false) n tok bs) (bus m flag) (bus m₁ flag) lost
-  unfolding data_out when
-  sends =
-      does_as
-      (ap (λ (x : List ℕ). sending x bs count (bus m flag)) is-pointers ∙ sending_for m td count few bs count (bus m flag) (omega arith)
-      ∙ ap₂ (λ (x y : ℕ). sending (pointers m x) bs y (bus m flag)) is-descriptor same_count)
-      (copied flag)
+-- a run that begins at an active descriptor is that descriptor's
+pub runs_begun : (ep : ℕ) (input : Bool) (bs : List ℕ) {l : Bool} {m m₁ : Memory} {d : Descriptor} {bit : ℕ} {b' : Bus} {r : Ran} → 0 < ep → bit ≡ bit_of (endpoint ep input) → Begins (endpoint ep input) l m m₁ (Ok d)
+    → Sized m → Turns (endpoint ep input) d.queue_head d.pointer d.token bit bs (bus m₁ l) b' r → Runs (endpoint ep input) bs (bus m l) b' r
+runs_begun ep input bs {l} {m} {m₁} {d} {bit} {b'} {r} h eb begun z t =
+    runs_active (endpoint ep input) bs m l z (single ep input h) d.queue_head d.pointer d.token begun.0 bit eb
+    (subst (λ (x : Memory). Turns (endpoint ep input) d.queue_head d.pointer d.token bit bs (bus x l) b' r) begun.1 t)
 
-  pub send_steps : SendsOne qh n tok bit bs (bus m flag) b' (record { done = f.done; moved = count; retired = 1; dropped = lost + f.dropped; line = f.line })
-  unfolding moves data_out
-  send_steps ep =
-      record {
-        does = does_then sends (does_as (ap (λ (x : ℕ). finishing qh n tok x bit (bus m₁ flag)) same_count) finished.does);
-        done = finished.done;
-        moved = same_count;
-        retired = refl;
-      }
+-- what an output descriptor takes, by the pointers that its bytes use
+pub data_sent : (ep n tok : ℕ) (bs : List ℕ) {m : Memory} {b' : Bus} {l : Bool} {count td lost : ℕ} {ps : List ℕ} → count ≡ moves (endpoint ep false) tok bs → td ≡ descriptor n
+    → ps ≡ pointers_for m td count → Does (sending ps bs count) (bus m l) b' lost → Does (data_out (endpoint ep false) n tok bs) (bus m l) b' lost
+unfolding data_out when
+data_sent ep n tok bs {m} {b'} {l} {count} {td} is_moved is-descriptor is-pointers d =
+    does_as
+    (ap (λ (x : List ℕ). sending x bs count (bus m l)) is-pointers ∙ sending_for m td count (omega (arith, is_moved, moves_few (endpoint ep false) tok bs)) bs count (bus m l) (omega arith)
+    ∙ ap₂ (λ (x y : ℕ). sending (pointers m x) bs y (bus m l)) is-descriptor is_moved)
+    d
 
--- an input descriptor stores nothing before its retirement
-module _ (qh n tok bit : ℕ) (b b' : Bus) (z : Sized b.memory) (moved : ℕ) (f : Finished) (is_moved : moved ≡ total_of tok)
-    (finished : Finishes qh n tok moved bit b b' f) where
-  takes : Does (data_out (endpoint 0 true) n tok []) b b 0
-  unfolding data_out when dropped_by
-  takes = record { is = refl; sized = z; counted = refl }
-
-  pub take_steps : TakesOne qh n tok bit b b' (record { done = f.done; moved = moved; retired = 1; dropped = f.dropped; line = f.line })
-  unfolding moves data_out
-  take_steps ep =
-      let none : 0 + f.dropped ≡ f.dropped = omega arith in
-      record {
-        does = does_counted none (does_then takes (does_as (ap (λ (x : ℕ). finishing qh n tok x bit b) is_moved) finished.does));
-        done = finished.done;
-        moved = is_moved;
-        retired = refl;
-      }
+-- the data of one descriptor, and then its retirement
+pub turn_steps : (e : Endpoint) (qh n tok bit : ℕ) (bs : List ℕ) {b b₁ : Bus} {m : Memory} {moved lost : ℕ} {f : Finished} {r : Ran} → moved ≡ moves e tok bs → Does (data_out e n tok bs) b b₁ lost
+    → Finishes qh n tok moved bit b₁ (bus m f.line) f → r ≡ ran_of f moved lost → Turns e qh n tok bit bs b (bus m r.line) r
+turn_steps e qh n tok bit bs {b} {b₁} {m} is_moved sent finished h =
+    subst (λ (x : Ran). Turns e qh n tok bit bs b (bus m x.line) x) (sym h)
+    (record {
+      does = does_then sent (does_as (ap (λ (x : ℕ). finishing qh n tok x bit b₁) is_moved) finished.does);
+      done = finished.done;
+      moved = is_moved;
+      retired = refl;
+    })
 
 -- an answer by another name
 pub runs_as : {e : Endpoint} {bs : List ℕ} {b : Bus} {m : Memory} {r r' : Ran} → r ≡ r' → Runs e bs b (bus m r'.line) r' → Runs e bs b (bus m r.line) r

@@ -64,8 +64,7 @@ pub fn next_dtd(view: View<'_>, qh: u32) -> u32
 pub fn token_of(view: View<'_>, n: u32) -> u32
     ensures { result ≡ D.token_of n (viewed view.entry) }
 {
-    view.peek32(wrapping_add_u32(bits::clear(n, 0x1F), 4),
-    )
+    view.peek32(wrapping_add_u32(bits::clear(n, 0x1F), 4))
 }
 
 // What stands before a descriptor of the endpoint, whose bit of EPSR is `bit`.
@@ -74,8 +73,9 @@ pub fn find(view: View<'_>, ep: u32, dir_in: bool, bit: u32) -> Found
     requires { (ep < 16) × (bit ≡ D.bit_of (D.endpoint ep dir_in)) }
     ensures { result ≡ D.found (D.endpoint ep dir_in) (viewed view.entry) }
 {
-    if bits::any(word_at(view.page, EPSR), bit) {
-        let head = qh(view.page, ep, dir_in);
+    let page = view.page;
+    if bits::any(word_at(page, EPSR), bit) {
+        let head = qh(page, ep, dir_in);
         let next = next_dtd(view, head);
         if bits::any(next, 1) {
             return Found::Ended;
@@ -94,11 +94,8 @@ pub fn find(view: View<'_>, ep: u32, dir_in: bool, bit: u32) -> Found
 }
 
 // Token, frame number and current pointer of a descriptor, of which `moved` bytes have moved; the bytes dropped.
-fn close(
-    windows: &mut Windows<'_>,
-    descriptor: Descriptor,
-    moved: u32,
-) -> u32
+#[tactic(auto, using(crate::proofs::Laws::dropped32_le))]
+fn close(windows: &mut Windows<'_>, descriptor: Descriptor, moved: u32) -> u32
     ensures left { ((l : Bool) → Does (D.closing descriptor.queue_head descriptor.pointer descriptor.token moved) (Stores·bus (contents windows.old) l) (Stores·bus (contents windows.new) l) result) × (result ≤ 12) }
     ensures same { SameWindows windows.old windows.new }
 {
@@ -132,11 +129,8 @@ pub struct Retired {
 }
 
 // Next pointer, token copy and completion bit of a descriptor.
-fn advance(
-    windows: &mut Windows<'_>,
-    descriptor: Descriptor,
-    bit: u32,
-) -> Retired
+#[tactic(auto, using(crate::proofs::Laws::dropped32_le))]
+fn advance(windows: &mut Windows<'_>, descriptor: Descriptor, bit: u32) -> Retired
     ensures left { P.Advances descriptor.queue_head descriptor.pointer descriptor.token bit (contents windows.old) (contents windows.new) result }
     ensures same { SameWindows windows.old windows.new }
 {
@@ -153,12 +147,7 @@ fn advance(
 }
 
 // Retires a descriptor, of which `moved` bytes have moved.
-pub fn retire(
-    windows: &mut Windows<'_>,
-    descriptor: Descriptor,
-    moved: u32,
-    bit: u32,
-) -> Retired
+pub fn retire(windows: &mut Windows<'_>, descriptor: Descriptor, moved: u32, bit: u32) -> Retired
     ensures left { P.Retires descriptor.queue_head descriptor.pointer descriptor.token moved bit (contents windows.old) (contents windows.new) result }
     ensures same { SameWindows windows.old windows.new }
 {
@@ -204,13 +193,7 @@ fn report(page: &mut [u8; PAGE], completed: bool, flag: bool) -> bool
 }
 
 // What follows the last descriptor of a run that ended at the pointer n; the line's flag goes in and comes out.
-pub fn settle(
-    windows: &mut Windows<'_>,
-    bit: u32,
-    n: u32,
-    completed: bool,
-    flag: bool,
-) -> bool
+pub fn settle(windows: &mut Windows<'_>, bit: u32, n: u32, completed: bool, flag: bool) -> bool
     ensures left { Does (D.settling bit n completed) (Stores·bus (contents windows.old) flag) (Stores·bus (contents windows.new) result) 0 }
     ensures same { SameWindows windows.old windows.new }
 {
@@ -288,6 +271,7 @@ impl Finished {
 }
 
 // An active output descriptor takes what it can of `bytes`, and is retired.
+#[tactic(auto, using(usbdev::proofs::Tokens::total_lt))]
 pub fn send_one(
     windows: &mut Windows<'_>,
     descriptor: Descriptor,
@@ -307,12 +291,7 @@ pub fn send_one(
 }
 
 // An active input descriptor, whose bytes the caller has read or need not read, is retired.
-pub fn take_one(
-    windows: &mut Windows<'_>,
-    descriptor: Descriptor,
-    bit: u32,
-    flag: bool,
-) -> Ran
+pub fn take_one(windows: &mut Windows<'_>, descriptor: Descriptor, bit: u32, flag: bool) -> Ran
     ensures left { P.TakesOne descriptor.queue_head descriptor.pointer descriptor.token bit (Stores·bus (contents windows.old) flag) (Stores·bus (contents windows.new) result.line) result }
     ensures same { SameWindows windows.old windows.new }
 {
@@ -340,13 +319,7 @@ pub fn begin(
 }
 
 // A run on an endpoint other than 0, towards the device.
-pub fn run_out(
-    windows: &mut Windows<'_>,
-    ep: u32,
-    bit: u32,
-    bytes: &[u8],
-    flag: bool,
-) -> Ran
+pub fn run_out(windows: &mut Windows<'_>, ep: u32, bit: u32, bytes: &[u8], flag: bool) -> Ran
     requires { (0 < ep) × ((ep < 16) × (bit ≡ D.bit_of (D.endpoint ep false))) }
     ensures left { P.Runs (D.endpoint ep false) bytes.now (Stores·bus (contents windows.old) flag) (Stores·bus (contents windows.new) result.line) result }
     ensures same { SameWindows windows.old windows.new }
@@ -358,12 +331,7 @@ pub fn run_out(
 }
 
 // A run on an endpoint other than 0, from the device, whose bytes are only counted.
-pub fn run_count(
-    windows: &mut Windows<'_>,
-    ep: u32,
-    bit: u32,
-    flag: bool,
-) -> Ran
+pub fn run_count(windows: &mut Windows<'_>, ep: u32, bit: u32, flag: bool) -> Ran
     requires { (0 < ep) × ((ep < 16) × (bit ≡ D.bit_of (D.endpoint ep true))) }
     ensures left { P.Runs (D.endpoint ep true) [] (Stores·bus (contents windows.old) flag) (Stores·bus (contents windows.new) result.line) result }
     ensures same { SameWindows windows.old windows.new }

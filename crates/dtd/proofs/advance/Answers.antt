@@ -1,15 +1,16 @@
 -- `dtd::advance` meets its contract. Assumes nothing.
-use Rattle.std.proofs.Common.{arith}
-use Rattle.bus.specs.Memory.{shown}
-use Rattle.dtd.proofs.Laws.{dropped32_le, advance_steps}
+use Rattle.std.proofs.Common.{false, ◌∙◌}
+use Rattle.bus.proofs.Lengths.{sized_of}
+use Rattle.dtd.specs.Dtd.{completing}
+use Rattle.dtd.proofs.Laws.{page_kept, advance_steps}
 use Rattle.dtd.proofs.advance.Goals as goal
 
-pub overflow_add-result : goal.overflow_add-result
-overflow_add-result c = omega (arith, c.poke32-n0.ensures.value, c.poke32-n1.ensures.value, dropped32_le c.wrapping_add_u32.result, dropped32_le c.wrapping_add_u32-3.result)
+pub invariant_of-windows-clause-page_length : goal.invariant_of-windows-clause-page_length
+invariant_of-windows-clause-page_length c = page_kept (completing c.args.descriptor.token c.args.bit) _ (c.complete.ensures false) ∙ c.poke32-n1.new.self.page_length
 
-pub returns : goal.returns
-returns c =
-    advance_steps c.args.qh c.args.n c.args.tok c.args.bit (shown c.args.dynamic.now c.args.sram.now c.args.page.now)
+pub returns-clause-left : goal.returns-clause-left
+returns-clause-left c =
+    advance_steps c.args.descriptor.queue_head c.args.descriptor.pointer c.args.descriptor.token c.args.bit (sized_of c.poke32-n1.new.self)
     c.clear-td.ensures c.peek32-next.ensures
     c.wrapping_add_u32.ensures.value c.poke32-n0.ensures.left c.poke32-n0.ensures.value
     c.wrapping_add_u32-2.ensures.value c.peek32-copy.ensures

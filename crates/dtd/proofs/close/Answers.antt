@@ -1,27 +1,16 @@
 -- `dtd::close` meets its contract. Assumes nothing.
-use Rattle.std.proofs.Common.{arith}
-use Rattle.dtd.proofs.Laws.{dropped32_le, close_steps, close_few}
-use Rattle.bus.specs.Memory.{shown}
+use Rattle.std.proofs.Common.{ℕ, List, ap, ◌∙◌}
+use Rattle.bus.specs.Words.{word_at}
+use Rattle.usbdev.specs.Offsets.{FRINDEX}
+use Rattle.bus.proofs.Lengths.{sized_of}
+use Rattle.dtd.proofs.Laws.{close_steps}
 use Rattle.dtd.proofs.close.Goals as goal
 
-pub overflow_add-result : goal.overflow_add-result
-overflow_add-result c = omega (arith, c.poke32-n0.ensures.value, c.poke32-n1.ensures.value, c.poke32-n2.ensures.value, dropped32_le c.wrapping_add_u32.result, dropped32_le c.wrapping_add_u32-3.result, dropped32_le c.wrapping_add_u32-4.result)
-
-pub overflow_add-result-2 : goal.overflow_add-result-2
-overflow_add-result-2 c = omega (arith, c.poke32-n0.ensures.value, c.poke32-n1.ensures.value, c.poke32-n2.ensures.value, dropped32_le c.wrapping_add_u32.result, dropped32_le c.wrapping_add_u32-3.result, dropped32_le c.wrapping_add_u32-4.result)
-
-pub returns : goal.returns
-returns c = (
-  close_steps c.args.qh c.args.n c.args.tok c.args.moved (shown c.args.dynamic.now c.args.sram.now c.args.page.now)
-      c.clear-td.ensures c.token_after-token.ensures
-      c.wrapping_add_u32.ensures.value c.poke32-n0.ensures.left c.poke32-n0.ensures.value
-      c.wrapping_add_u32-2.ensures.value c.peek32-second.ensures c.word_at-frame.ensures c.replace-framed.ensures
-      c.wrapping_add_u32-3.ensures.value c.poke32-n1.ensures.left c.poke32-n1.ensures.value
-      c.wrapping_add_u32-4.ensures.value c.poke32-n2.ensures.left c.poke32-n2.ensures.value,
-  close_few c.args.qh c.args.n c.args.tok c.args.moved (shown c.args.dynamic.now c.args.sram.now c.args.page.now)
-      c.clear-td.ensures c.token_after-token.ensures
-      c.wrapping_add_u32.ensures.value c.poke32-n0.ensures.left c.poke32-n0.ensures.value
-      c.wrapping_add_u32-2.ensures.value c.peek32-second.ensures c.word_at-frame.ensures c.replace-framed.ensures
-      c.wrapping_add_u32-3.ensures.value c.poke32-n1.ensures.left c.poke32-n1.ensures.value
-      c.wrapping_add_u32-4.ensures.value c.poke32-n2.ensures.left c.poke32-n2.ensures.value,
-)
+pub returns-clause-left : goal.returns-clause-left
+returns-clause-left c =
+    close_steps c.args.descriptor.queue_head c.args.descriptor.pointer c.args.descriptor.token c.args.moved (sized_of c.poke32-n2.new.self)
+    c.clear-td.ensures c.token_after-token.ensures
+    c.wrapping_add_u32.ensures.value c.poke32-n0.ensures.left c.poke32-n0.ensures.value
+    c.wrapping_add_u32-2.ensures.value c.peek32-second.ensures (c.word_at-frame.ensures ∙ ap (λ (p : List ℕ). word_at p FRINDEX) c.registers.ensures) c.replace-framed.ensures
+    c.wrapping_add_u32-3.ensures.value c.poke32-n1.ensures.left c.poke32-n1.ensures.value
+    c.wrapping_add_u32-4.ensures.value c.poke32-n2.ensures.left c.poke32-n2.ensures.value

@@ -1,24 +1,12 @@
 -- `dtd::run_count` meets its contract. Assumes nothing.
-use Rattle.std.proofs.Common.{ℕ, true, false, [], sym, ap, ◌∙◌}
-use Rattle.bus.specs.Memory.{shown}
-use Rattle.dtd.specs.Dtd.{endpoint, settling}
-use Rattle.bus.specs.Stores.{bus}
-use Rattle.bus.proofs.Storing.{does_as}
-use Rattle.dtd.proofs.Runs.{single, runs_as, runs_unprimed, runs_ended, runs_active}
+use Rattle.std.proofs.Common.{true, []}
+use Rattle.bus.proofs.Lengths.{sized_of}
+use Rattle.dtd.proofs.Runs.{runs_begun}
 use Rattle.dtd.proofs.run_count.Goals as goal
 
-pub returns-in-Unprimed : goal.returns-in-Unprimed
-returns-in-Unprimed c =
-    let f = sym c.find.ensures ∙ c.in-Unprimed.is in
-    runs_as c.none_ran.ensures (runs_unprimed (endpoint c.args.ep true) [] (shown c.args.dynamic.now c.args.sram.now c.args.page.now) c.args.flag c.requires.sized f)
+pub returns-in-Ok-clause-left : goal.returns-in-Ok-clause-left
+returns-in-Ok-clause-left c =
+    runs_begun c.args.ep true [] c.requires.0 c.requires.1.1 c.in-Ok.ensures.left (sized_of c.args.windows.now) (c.take_one.ensures.left c.args.ep)
 
-pub returns-in-Ended : goal.returns-in-Ended
-returns-in-Ended c =
-    let f = sym c.find.ensures ∙ c.in-Ended.is in
-    let settled = does_as (ap (λ (x : ℕ). settling x 1 false (bus (shown c.args.dynamic.now c.args.sram.now c.args.page.now) c.args.flag)) c.requires.ep_nonzero.1.1) c.settle.ensures in
-    runs_as c.none_ran-in-Ended.ensures (runs_ended (endpoint c.args.ep true) [] (shown c.args.dynamic.now c.args.sram.now c.args.page.now) c.args.flag c.requires.sized (single c.args.ep true c.requires.ep_nonzero.0) f settled)
-
-pub returns-in-Active : goal.returns-in-Active
-returns-in-Active c =
-    let f = sym c.find.ensures ∙ c.in-Active.is in
-    runs_active (endpoint c.args.ep true) [] (shown c.args.dynamic.now c.args.sram.now c.args.page.now) c.args.flag c.requires.sized (single c.args.ep true c.requires.ep_nonzero.0) _ _ _ f _ c.requires.ep_nonzero.1.1 (c.take_one.ensures c.args.ep)
+pub returns-in-Err-clause-left : goal.returns-in-Err-clause-left
+returns-in-Err-clause-left c = c.in-Err.ensures.left []

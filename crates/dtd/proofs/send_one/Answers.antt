@@ -1,19 +1,21 @@
 -- `dtd::send_one` meets its contract. Assumes nothing.
-use Rattle.std.proofs.Common.{false, arith}
-use Rattle.bus.specs.Memory.{shown}
-use Rattle.dtd.proofs.Runs.{counted_few, counted_held, lost_few, send_steps}
+use Rattle.std.proofs.Common.{ℕ, false, arith, ap, ◌∙◌, min, length}
+use Rattle.transfer.specs.Transfer.{pointers_for}
+use Rattle.usbdev.proofs.Tokens.{total_lt}
+use Rattle.bus.specs.Memory.{Memory}
+use Rattle.dtd.specs.Dtd.{endpoint, moves}
+use Rattle.dtd.proofs.Runs.{lost_few, data_sent, turn_steps}
 use Rattle.dtd.proofs.send_one.Goals as goal
 
-pub pointers_for-ps-requires : goal.pointers_for-ps-requires
-pointers_for-ps-requires c = record { sized = c.requires; total_bound = counted_few c.args.tok _ _ _ c.total.ensures c.min-count.ensures }
+pub ran-requires : goal.ran-requires
+ran-requires c = (c.finish.ensures.left.few, omega (arith, total_lt, lost_few _ _ _ _ (c.copy_out-lost.ensures.left false).counted))
 
-pub copy_out-lost-requires : goal.copy_out-lost-requires
-copy_out-lost-requires c = record { sized = c.requires; n_bound = counted_few c.args.tok _ _ _ c.total.ensures c.min-count.ensures; n_in_bounds = counted_held c.args.tok _ _ _ c.total.ensures c.min-count.ensures }
-
-pub overflow_add-result : goal.overflow_add-result
-overflow_add-result c = omega (arith, lost_few _ _ _ _ (c.copy_out-lost.ensures false).counted, counted_few c.args.tok _ _ _ c.total.ensures c.min-count.ensures, c.finish-finished.ensures.few)
-
-pub returns : goal.returns
-returns c =
-    send_steps c.args.qh c.args.n c.args.tok c.args.bit c.args.bytes.now (shown c.args.dynamic.now c.args.sram.now c.args.page.now) _ c.args.flag _ _ _ _ _ _ _
-    c.total.ensures c.min-count.ensures c.clear-td.ensures (counted_few c.args.tok _ _ _ c.total.ensures c.min-count.ensures) c.pointers_for-ps.ensures c.copy_out-lost.ensures c.finish-finished.ensures
+pub returns-clause-left : goal.returns-clause-left
+unfolding moves
+returns-clause-left c =
+    λ ep.
+    let is_moved = c.min-count.ensures ∙ ap (λ (x : ℕ). min x (length c.args.bytes.now)) c.total.ensures in
+    let is-pointers = c.pointers_for-ps.ensures ∙ ap (λ (x : Memory). pointers_for x c.clear-td.result c.min-count.result) c.view.ensures in
+    turn_steps (endpoint ep false) c.args.descriptor.queue_head c.args.descriptor.pointer c.args.descriptor.token c.args.bit c.args.bytes.now is_moved
+    (data_sent ep c.args.descriptor.pointer c.args.descriptor.token c.args.bytes.now is_moved c.clear-td.ensures is-pointers (c.copy_out-lost.ensures.left c.args.flag))
+    c.finish.ensures.left c.ran.ensures

@@ -1,6 +1,13 @@
 -- `dtd::take_one` meets its contract. Assumes nothing.
-use Rattle.dtd.proofs.Runs.{take_steps}
+use Rattle.std.proofs.Common.{true, [], refl}
+use Rattle.bus.specs.Stores.{dropped_by, when}
+use Rattle.bus.proofs.Lengths.{sized_of}
+use Rattle.dtd.specs.Dtd.{endpoint, moves, data_out}
+use Rattle.dtd.proofs.Runs.{turn_steps}
 use Rattle.dtd.proofs.take_one.Goals as goal
 
-pub returns : goal.returns
-returns c = take_steps c.args.qh c.args.n c.args.tok c.args.bit _ _ c.requires _ _ c.total-moved.ensures c.finish-finished.ensures
+pub returns-clause-left : goal.returns-clause-left
+unfolding moves data_out when dropped_by
+returns-clause-left c =
+    λ ep. turn_steps (endpoint ep true) c.args.descriptor.queue_head c.args.descriptor.pointer c.args.descriptor.token c.args.bit [] c.total-moved.ensures
+    (record { is = refl; sized = sized_of c.args.windows.now; counted = refl }) c.finish.ensures.left c.ran.ensures
