@@ -1,9 +1,9 @@
 -- How the steps of a microframe make the whole: from what each function promises to what its caller does.
 use Prim.Native.Nat.{ℕ, ◌≤◌}
 use mathlib.Core.Path.{◌≡◌, refl, sym, ap, subst, ◌∙◌}
+use mathlib.Core.Logic.{◌≢◌}
 use mathlib.Core.Bool.{Bool, true, false}
-use mathlib.Core.List.{List, [], ◌∷◌}
-use native.Mathlib.Omega.{arith}
+use mathlib.Core.List.{List, []}
 use lib.ListN.{length, take}
 use Rattle.bus.specs.Memory.{Memory, memory}
 use Rattle.bus.specs.Sized.{Sized}
@@ -12,10 +12,6 @@ use Rattle.bus.specs.Words.{word_at}
 use Rattle.usbdev.specs.Offsets.{USBCMD}
 use Rattle.record.specs.declared.Phase.{Phase}
 use Rattle.record.specs.declared.Phase.TheVariants.{Idle, Vbus, Reset, Enumerate, Stream}
-use mathlib.Core.Logic.{⊎_elim}
-use Rattle.record.specs.contracts.Phase.{the_type as the-phase}
-use denote.Enum.Declared.{tag_of}
-use types.Run.{OneOf}
 use Rattle.record.specs.declared.Settings.{Settings}
 use Rattle.record.specs.declared.State.{State}
 use Rattle.record.specs.World.{Own, Lent, World, world, own, own_setups, lent, lent_page}
@@ -25,6 +21,7 @@ use Rattle.record.proofs.Laws.{in_turn, by_true, by_false, unchanged, from_here}
 use Rattle.model.specs.Phases.{within, any_span, sleeps, suspends, leaves, idles, powers, resets, starts_frame}
 use Rattle.model.specs.Control.{controls}
 use Rattle.model.specs.Microframe.{transfers, enumerates, talks, at_phase, by_phase, opens, frame_of, microframe}
+use Rattle.kept.proofs.Shape.{Shape, step_kept}
 use Rattle.phases.specs.Promises.{Queued}
 use Rattle.control.specs.Promises.{Bounded, at_control, Controls}
 use Rattle.framing.specs.Promises.{Rings, Flows, Transfers}
@@ -42,9 +39,26 @@ bounded_of s a =
       running = λ e. record { alone = a.alone e; short = a.short e; inside = a.inside e };
     }
 
--- another page of the same length
-pub sized_page : (dynamic sram page page' : List ℕ) → Sized (memory dynamic sram page) → length page' ≡ 4096 → Sized (memory dynamic sram page')
-sized_page dynamic sram page page' z e = record { dynamic_length = z.dynamic_length; sram_length = z.sram_length; page_length = e }
+-- ---- a step keeps the length of the page
+
+length_kept : (f : Step) (w v : World) → Leads f w v → length v.lent.memory.page ≡ length w.lent.memory.page
+length_kept f w v l = ap (λ (x : World). length x.lent.memory.page) l.is ∙ ap (λ (x : Shape). x.memory.page) (step_kept f w)
+
+pub paged_length : (c : Settings) (f : Step) (s s' : State) (p p' : List ℕ) → Paged f s p s' p' → length p ≡ 4096 → length p' ≡ 4096
+paged_length c f s s' p p' l e = length_kept _ _ _ (l.leads (some c s [])) ∙ e
+
+pub queued_length : (c : Settings) (f : Step) (s s' : State) (p q p' q' : List ℕ) → Queued f s p q s' p' q' → length p ≡ 4096 → length p' ≡ 4096
+queued_length c f s s' p q p' q' l e = length_kept _ _ _ (l.leads (some c s [])) ∙ e
+
+module _ (c : Settings) {d m p p' : List ℕ} (z : Sized (memory d m p)) where
+  sized_page : length p' ≡ 4096 → Sized (memory d m p')
+  sized_page e = record { dynamic_length = z.dynamic_length; sram_length = z.sram_length; page_length = e }
+
+  pub sized_paged : {f : Step} {s s' : State} → Paged f s p s' p' → Sized (memory d m p')
+  sized_paged l = sized_page (paged_length c _ _ _ _ _ l z.page_length)
+
+  sized_queued : {f : Step} {s s' : State} {q q' : List ℕ} → Queued f s p q s' p' q' → Sized (memory d m p')
+  sized_queued l = sized_page (queued_length c _ _ _ _ _ _ _ l z.page_length)
 
 -- ---- start of frame, control and streams
 
@@ -85,35 +99,32 @@ module _ (c : Settings) (t : ℕ) (s : State) (o : Own) (l : Lent) where
 -- ---- by the phase
 
 -- enumeration and streaming
-talks_phase : (c : Settings) (t : ℕ) (rs : Bool) (p : Phase) → OneOf (3 ∷ 4 ∷ []) (tag_of the-phase p) → at_phase c t rs p ≡ talks c t rs
-talks_phase c t rs Idle o = absurd (⊎_elim (λ e. omega arith) (λ e. omega arith) o)
-talks_phase c t rs Vbus o = absurd (⊎_elim (λ e. omega arith) (λ e. omega arith) o)
-talks_phase c t rs Reset o = absurd (⊎_elim (λ e. omega arith) (λ e. omega arith) o)
-talks_phase c t rs Enumerate o = refl
-talks_phase c t rs Stream o = refl
+talks_phase : (c : Settings) (t : ℕ) (rs : Bool) (p : Phase) → p ≢ Idle → p ≢ Vbus → p ≢ Reset → at_phase c t rs p ≡ talks c t rs
+talks_phase c t rs Idle i v r = absurd (i refl)
+talks_phase c t rs Vbus i v r = absurd (v refl)
+talks_phase c t rs Reset i v r = absurd (r refl)
+talks_phase c t rs Enumerate i v r = refl
+talks_phase c t rs Stream i v r = refl
 
 at_phase_lem : (c : Settings) (t : ℕ) (rs : Bool) (p : Phase) (x y : World) → x.state.phase ≡ p → Leads (at_phase c t rs p) x y → Leads (by_phase c t rs) x y
 unfolding by_phase
 at_phase_lem c t rs p x y e l = from_here _ x (subst (λ (q : Phase). Leads (at_phase c t rs q) x y) (sym e) l)
 
 module _ (c : Settings) (t : ℕ) (rs : Bool) (s : State) (o : Own) (l : Lent) where
-  module _ (page' : List ℕ) (s' : State) (z : Sized l.memory) (same : length page' ≡ 4096) where
-    sized_next : Sized (lent_page l page').memory
-    sized_next = sized_page l.memory.dynamic l.memory.sram l.memory.page page' z same
-
+  module _ (page' : List ℕ) (s' : State) (z : Sized l.memory) where
     pub phase_idle : s.phase ≡ Idle → Paged idles s l.memory.page s' page' → Goes (by_phase c t rs) s o l s' o (lent_page l page')
-    phase_idle e p = record { leads = λ w. at_phase_lem c t rs _ _ _ e (p.leads (at_all w s o l)); sized = sized_next }
+    phase_idle e p = record { leads = λ w. at_phase_lem c t rs _ _ _ e (p.leads (at_all w s o l)); sized = sized_paged c z p }
 
     pub phase_vbus : s.phase ≡ Vbus → Paged (powers rs) s l.memory.page s' page' → Goes (by_phase c t rs) s o l s' o (lent_page l page')
-    phase_vbus e p = record { leads = λ w. at_phase_lem c t rs _ _ _ e (p.leads (at_all w s o l)); sized = sized_next }
+    phase_vbus e p = record { leads = λ w. at_phase_lem c t rs _ _ _ e (p.leads (at_all w s o l)); sized = sized_paged c z p }
 
     pub phase_reset : s.phase ≡ Reset → (q : List ℕ) → Queued resets s l.memory.page o.setups s' page' q
         → Goes (by_phase c t rs) s o l s' (own_setups o q) (lent_page l page')
-    phase_reset e q p = record { leads = λ w. at_phase_lem c t rs _ _ _ e (p.leads (at_all w s o l)); sized = sized_next }
+    phase_reset e q p = record { leads = λ w. at_phase_lem c t rs _ _ _ e (p.leads (at_all w s o l)); sized = sized_queued c z p }
 
-  pub phase_talks : (s' : State) (o' : Own) (l' : Lent) → OneOf (3 ∷ 4 ∷ []) (tag_of the-phase s.phase) → Goes (talks c t rs) s o l s' o' l' → Goes (by_phase c t rs) s o l s' o' l'
-  phase_talks s' o' l' tag p =
-      record { leads = λ w. at_phase_lem c t rs s.phase _ _ refl (subst (λ (f : Step). Leads f (at_all w s o l) (at_all w s' o' l')) (sym (talks_phase c t rs s.phase tag)) (p.leads w)); sized = p.sized }
+  pub phase_talks : (s' : State) (o' : Own) (l' : Lent) → s.phase ≢ Idle → s.phase ≢ Vbus → s.phase ≢ Reset → Goes (talks c t rs) s o l s' o' l' → Goes (by_phase c t rs) s o l s' o' l'
+  phase_talks s' o' l' i v r p =
+      record { leads = λ w. at_phase_lem c t rs s.phase _ _ refl (subst (λ (f : Step). Leads f (at_all w s o l) (at_all w s' o' l')) (sym (talks_phase c t rs s.phase i v r)) (p.leads w)); sized = p.sized }
 
 -- ---- suspended, gone, and the whole
 

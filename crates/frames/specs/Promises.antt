@@ -1,5 +1,5 @@
 -- What the chain of a microframe's steps asks of the host record, and what each of its functions promises.
-use Rattle.std.specs.Prelude.{ℕ, ◌≤◌, Bool, true, false, List, ◌≡◌, length}
+use Rattle.std.specs.Prelude.{ℕ, ◌≤◌, Bool, true, false, List, ◌≡◌}
 use Rattle.bus.specs.Sized.{Sized}
 use Rattle.gptimers.specs.Timer.{in_range}
 use Rattle.midi.specs.declared.Packer.{Packer}
@@ -15,7 +15,7 @@ use Rattle.model.specs.Phases.{sleeps, suspends, leaves}
 use Rattle.model.specs.Control.{asks_for, w_length}
 use Rattle.model.specs.Microframe.{by_phase, microframe}
 use Rattle.framing.specs.Promises.{Flows}
-use Rattle.record.specs.Sizes.{SETUPS, REPLY, RECEIVE, RING}
+use Rattle.record.specs.Sizes.{SETUPS}
 
 -- ---- what the steps ask of the host record (document 01, refusal 5)
 
@@ -51,14 +51,6 @@ after_gone c t rs true s = sleeps
 after_gone c t rs false s = suspends s then after_suspend c t rs s
 
 -- ---- a World with what a function takes in its place
-
--- the areas are long enough
-pub record Long (reply config receive cables received : List ℕ) : Type 0 where
-  pub reply_long : REPLY ≤ length reply
-  pub config_long : REPLY ≤ length config
-  pub receive_long : RECEIVE ≤ length receive
-  pub cables_long : RECEIVE ≤ length cables
-  pub received_whole : length received ≡ RING
 
 abbrev pub at_all : World → State → Own → Lent → World
 at_all w s o l = world w.settings w.packers s o l

@@ -10,12 +10,12 @@ ghost use Rattle.frames.specs.Promises as P;
 mod areas;
 
 pub use crate::areas::Areas;
-
 use bus::Windows;
 use record::{Phase, Settings, State};
 use usbdev::USBCMD;
 
 // Enumeration and streaming: nothing while the firmware does not run; else the start of the frame, control, and the streams.
+#[tactic(auto, using(crate::proofs::Steps::paged_length))]
 fn connected(
     s: State,
     c: Settings,
@@ -43,11 +43,21 @@ fn connected(
         areas.config,
     );
     framing::streaming(
-        next, c, areas.midi, areas.serial, windows, areas.receive, areas.cables, areas.received, areas.sending, time,
+        next,
+        c,
+        areas.midi,
+        areas.serial,
+        windows,
+        areas.receive,
+        areas.cables,
+        areas.received,
+        areas.sending,
+        time,
     )
 }
 
 // The step of the phase.
+#[tactic(auto, using(crate::proofs::Steps::paged_length, crate::proofs::Steps::queued_length))]
 fn by_phase(
     s: State,
     c: Settings,
@@ -70,6 +80,7 @@ fn by_phase(
 }
 
 // One microframe of 125 microseconds at a time: nothing but MIDI's sleep while the host is gone or the bus suspended; else device left, and the phase.
+#[tactic(auto, using(crate::proofs::Steps::paged_length))]
 pub fn microframe(
     s: State,
     c: Settings,
