@@ -16,8 +16,8 @@ use Rattle.usbdev.specs.Registers as usb
 use Rattle.usbdev.specs.Registers.{Registers, registers, PageStore, put, irq, PageStep, lifted, done, setting}
 use Rattle.usbdev.specs.Transfer.{token_after}
 use Rattle.usbdev.proofs.Laws.{Inside, does_page}
-use Rattle.dtd.specs.declared.Found.TheVariants.{Unprimed, Ended}
-use Rattle.dtd.specs.Dtd.{Endpoint, bit_of, primed, queue_head, next_of, next_dtd, token_of, next_active, found, descriptor, interrupts, framed, closing, completing, advancing, list_ends, unpriming, reporting, settling, active}
+use Rattle.dtd.specs.declared.Found.TheVariants.{Unprimed, Ended, Active}
+use Rattle.dtd.specs.Dtd.{Endpoint, bit_of, primed, queue_head, next_of, next_dtd, token_of, next_active, found, descriptor, interrupts, framed, closing, completing, advancing, list_ends, unpriming, reporting, settling}
 use Rattle.dtd.specs.Promises.{Advances}
 
 -- a list address leaves room for its queue heads
@@ -62,12 +62,12 @@ module _ (e : Endpoint) (m : Memory) (w bit : ℕ) (t : Bool) (is_IsWord : w ≡
       same_token : tok ≡ token_of (next_dtd e m) m
       same_token = is-token ∙ ap (λ (x : ℕ). token_of x m) same_next
 
-      pub found_active : any tok 0x80 ≡ true → active head next tok ≡ found e m
+      pub found_active : any tok 0x80 ≡ true → Active (record { queue_head = head; pointer = next; token = tok; bit = bit }) ≡ found e m
       unfolding found next_active
       found_active h =
           simp
           (is_primed true up, ap (λ (x : ℕ). any x 1) (sym same_next) ∙ goes, ap (λ (x : ℕ). any x 0x80) (sym same_token) ∙ h)
-          (cc (is-head, same_next, same_token))
+          (cc (is-head, same_next, same_token, is-bit))
 
       pub found_inactive : any tok 0x80 ≡ false → Ended ≡ found e m
       unfolding found next_active

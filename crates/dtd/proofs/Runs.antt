@@ -24,7 +24,7 @@ use Rattle.dtd.specs.Dtd.{Endpoint, endpoint, descriptor, bit_of, primed, queue_
 
 -- ---- what each answer of `find` says
 
-by_tests : (e : Endpoint) (m : Memory) (p a : Bool) → primed e m.page ≡ p → next_active e m ≡ a → found e m ≡ pick p (pick a (active (queue_head e m.page) (next_dtd e m) (token_of (next_dtd e m) m)) Ended) Unprimed
+by_tests : (e : Endpoint) (m : Memory) (p a : Bool) → primed e m.page ≡ p → next_active e m ≡ a → found e m ≡ pick p (pick a (active e (queue_head e m.page) (next_dtd e m) (token_of (next_dtd e m) m)) Ended) Unprimed
 unfolding found
 by_tests e m p a ep ea = simp (ep, ea)
 
@@ -54,7 +54,7 @@ pub record IsActive (e : Endpoint) (m : Memory) (qh n tok : ℕ) : Type 0 where
 named : {d d' : Descriptor} → Active d ≡ Active d' → d ≡ d'
 named f = cc
 
-pub says_active : (e : Endpoint) (m : Memory) (qh n tok : ℕ) → found e m ≡ active qh n tok → IsActive e m qh n tok
+pub says_active : (e : Endpoint) (m : Memory) (qh n tok : ℕ) → found e m ≡ active e qh n tok → IsActive e m qh n tok
 says_active e m qh n tok f = by_cases (primed e m.page) (next_active e m) refl refl
   where
     by_cases : (p a : Bool) → primed e m.page ≡ p → next_active e m ≡ a → IsActive e m qh n tok
@@ -65,6 +65,19 @@ says_active e m qh n tok f = by_cases (primed e m.page) (next_active e m) refl r
         record { prime = ep; active = ea; head = sym (ap (λ (x : Descriptor). x.queue_head) d); next = same; token = there ∙ ap (λ (x : ℕ). token_of x m) (sym same) }
     by_cases true false ep ea = let w = sym (by_tests e m true false ep ea) ∙ f in let z : ◌≡◌ {A = ℕ} 0 1 = cc in absurd (omega arith)
     by_cases false a ep ea = let w = sym (by_tests e m false a ep ea) ∙ f in let z : ◌≡◌ {A = ℕ} 0 1 = cc in absurd (omega arith)
+
+-- a descriptor that is found has its endpoint's bit
+pub says_bit : (e : Endpoint) (m : Memory) {d : Descriptor} → found e m ≡ Active d → d.bit ≡ bit_of e
+says_bit e m {d} f = by_cases (primed e m.page) (next_active e m) refl refl
+  where
+    by_cases : (p a : Bool) → primed e m.page ≡ p → next_active e m ≡ a → d.bit ≡ bit_of e
+    by_cases true true ep ea = sym (ap (λ (x : Descriptor). x.bit) (named (sym (by_tests e m true true ep ea) ∙ f)))
+    by_cases true false ep ea = let w = sym (by_tests e m true false ep ea) ∙ f in let z : ◌≡◌ {A = ℕ} 0 1 = cc in absurd (omega arith)
+    by_cases false a ep ea = let w = sym (by_tests e m false a ep ea) ∙ f in let z : ◌≡◌ {A = ℕ} 0 1 = cc in absurd (omega arith)
+
+pub says_found : (e : Endpoint) (m : Memory) {d : Descriptor} → found e m ≡ Active d → found e m ≡ active e d.queue_head d.pointer d.token
+says_found e m {d} f =
+    f ∙ ap (λ (x : ℕ). Active (record { queue_head = d.queue_head; pointer = d.pointer; token = d.token; bit = x })) (says_bit e m f)
 
 -- ---- runs
 
@@ -198,7 +211,7 @@ module _ (e : Endpoint) (bs : List ℕ) (m : Memory) (l : Bool) (z : Sized m) wh
           retired = sym (ap (λ (r : Run). r.retired) whole);
         }
 
-    pub runs_active : (qh n tok : ℕ) → found e m ≡ active qh n tok → (bit : ℕ) → bit ≡ bit_of e → {b' : Bus} {r : Ran} → Turns e qh n tok bit bs (bus m l) b' r → Runs e bs (bus m l) b' r
+    pub runs_active : (qh n tok : ℕ) → found e m ≡ active e qh n tok → (bit : ℕ) → bit ≡ bit_of e → {b' : Bus} {r : Ran} → Turns e qh n tok bit bs (bus m l) b' r → Runs e bs (bus m l) b' r
     unfolding running
     runs_active qh n tok f bit eb {b'} {r} t =
         let is = says_active e m qh n tok f in
@@ -220,11 +233,11 @@ moves_few e tok bs =
     pick_both (λ (n : ℕ). n ≤ 32767) e.input (omega (arith, total_lt tok)) (omega (arith, min-le_left (total_of tok) (length bs), total_lt tok))
 
 -- a run that begins at an active descriptor is that descriptor's
-pub runs_begun : (ep : ℕ) (input : Bool) (bs : List ℕ) {l : Bool} {m m₁ : Memory} {d : Descriptor} {bit : ℕ} {b' : Bus} {r : Ran} → 0 < ep → bit ≡ bit_of (endpoint ep input) → Begins (endpoint ep input) l m m₁ (Ok d)
-    → Sized m → Turns (endpoint ep input) d.queue_head d.pointer d.token bit bs (bus m₁ l) b' r → Runs (endpoint ep input) bs (bus m l) b' r
-runs_begun ep input bs {l} {m} {m₁} {d} {bit} {b'} {r} h eb begun z t =
-    runs_active (endpoint ep input) bs m l z (single ep input h) d.queue_head d.pointer d.token begun.0 bit eb
-    (subst (λ (x : Memory). Turns (endpoint ep input) d.queue_head d.pointer d.token bit bs (bus x l) b' r) begun.1 t)
+pub runs_begun : (ep : ℕ) (input : Bool) (bs : List ℕ) {l : Bool} {m m₁ : Memory} {d : Descriptor} {b' : Bus} {r : Ran} → 0 < ep → Begins (endpoint ep input) l m m₁ (Ok d)
+    → Sized m → Turns (endpoint ep input) d.queue_head d.pointer d.token d.bit bs (bus m₁ l) b' r → Runs (endpoint ep input) bs (bus m l) b' r
+runs_begun ep input bs {l} {m} {m₁} {d} {b'} {r} h begun z t =
+    runs_active (endpoint ep input) bs m l z (single ep input h) d.queue_head d.pointer d.token (says_found _ m begun.0) d.bit (says_bit _ m begun.0)
+    (subst (λ (x : Memory). Turns (endpoint ep input) d.queue_head d.pointer d.token d.bit bs (bus x l) b' r) begun.1 t)
 
 -- what an output descriptor takes, by the pointers that its bytes use
 pub data_sent : (ep n tok : ℕ) (bs : List ℕ) {m : Memory} {b' : Bus} {l : Bool} {count td lost : ℕ} {ps : List ℕ} → count ≡ moves (endpoint ep false) tok bs → td ≡ descriptor n

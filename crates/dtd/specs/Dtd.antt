@@ -214,13 +214,13 @@ unfoldable pub finishing : ℕ → ℕ → ℕ → ℕ → ℕ → BusStep
 finishing qh n tok moved bit b =
     (retiring qh n tok moved bit then settling bit (followed qh n tok moved b) (interrupts tok)) b
 
--- an active descriptor, by its queue head, the pointer that names it, and its token
-abbrev pub active : ℕ → ℕ → ℕ → Found
-active qh n tok = Active (record { queue_head = qh; pointer = n; token = tok })
+-- an active descriptor of an endpoint, by its queue head, the pointer that names it, and its token
+abbrev pub active : Endpoint → ℕ → ℕ → ℕ → Found
+active e qh n tok = Active (record { queue_head = qh; pointer = n; token = tok; bit = bit_of e })
 
 -- the endpoint is not primed; or its list ends; or its next descriptor is active
 unfoldable pub found : Endpoint → Memory → Found
 found e m =
     pick (primed e m.page)
-    (pick (next_active e m) (active (queue_head e m.page) (next_dtd e m) (token_of (next_dtd e m) m)) Ended)
+    (pick (next_active e m) (active e (queue_head e m.page) (next_dtd e m) (token_of (next_dtd e m) m)) Ended)
     Unprimed

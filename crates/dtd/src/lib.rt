@@ -14,12 +14,13 @@ use bus::{PAGE, View, Windows, put_at, word_at};
 use std::num::wrapping_add_u32;
 use usbdev::{EPCOMPLETE, EPLISTADDR, EPSR, FRINDEX};
 
-// An active descriptor: the queue head of its endpoint, the pointer that names it, and its token.
+// An active descriptor: the queue head of its endpoint, the pointer that names it, its token, and the endpoint's bit of EPSR.
 #[derive(Clone, Copy)]
 pub struct Descriptor {
     pub queue_head: u32,
     pub pointer: u32,
     pub token: u32,
+    pub bit: u32,
 }
 
 // What stands before a descriptor is moved: the endpoint is not primed, its list ends, or the next descriptor is active.
@@ -67,13 +68,22 @@ pub fn token_of(view: View<'_>, n: u32) -> u32
     view.peek32(wrapping_add_u32(bits::clear(n, 0x1F), 4))
 }
 
-// What stands before a descriptor of the endpoint, whose bit of EPSR is `bit`.
+// The endpoint's bit of EPSR and EPCOMPLETE.
+pub fn bit_of(ep: u32, dir_in: bool) -> u32
+    requires { ep < 16 }
+    ensures { result ≡ D.bit_of (D.endpoint ep dir_in) }
+{
+    if dir_in { 1 << (16 + ep) } else { 1 << ep }
+}
+
+// What stands before a descriptor of the endpoint.
 #[tactic(auto, using(crate::proofs::Laws::found_unprimed, crate::proofs::Laws::found_none, crate::proofs::Laws::found_active, crate::proofs::Laws::found_inactive))]
-pub fn find(view: View<'_>, ep: u32, dir_in: bool, bit: u32) -> Found
-    requires { (ep < 16) × (bit ≡ D.bit_of (D.endpoint ep dir_in)) }
+pub fn find(view: View<'_>, ep: u32, dir_in: bool) -> Found
+    requires { ep < 16 }
     ensures { result ≡ D.found (D.endpoint ep dir_in) (viewed view.entry) }
 {
     let page = view.page;
+    let bit = bit_of(ep, dir_in);
     if bits::any(word_at(page, EPSR), bit) {
         let head = qh(page, ep, dir_in);
         let next = next_dtd(view, head);
@@ -86,6 +96,7 @@ pub fn find(view: View<'_>, ep: u32, dir_in: bool, bit: u32) -> Found
                 queue_head: head,
                 pointer: next,
                 token: tok,
+                bit,
             });
         }
         return Found::Ended;
@@ -130,8 +141,8 @@ pub struct Retired {
 
 // Next pointer, token copy and completion bit of a descriptor.
 #[tactic(auto, using(crate::proofs::Laws::dropped32_le))]
-fn advance(windows: &mut Windows<'_>, descriptor: Descriptor, bit: u32) -> Retired
-    ensures left { P.Advances descriptor.queue_head descriptor.pointer descriptor.token bit (contents windows.old) (contents windows.new) result }
+fn advance(windows: &mut Windows<'_>, descriptor: Descriptor) -> Retired
+    ensures left { P.Advances descriptor.queue_head descriptor.pointer descriptor.token descriptor.bit (contents windows.old) (contents windows.new) result }
     ensures same { SameWindows windows.old windows.new }
 {
     let td = bits::clear(descriptor.pointer, 0x1F);
@@ -139,7 +150,7 @@ fn advance(windows: &mut Windows<'_>, descriptor: Descriptor, bit: u32) -> Retir
     let n0 = windows.poke32(wrapping_add_u32(descriptor.queue_head, 8), next);
     let copy = windows.peek32(wrapping_add_u32(td, 4));
     let n1 = windows.poke32(wrapping_add_u32(descriptor.queue_head, 12), copy);
-    complete(windows.page, descriptor.token, bit);
+    complete(windows.page, descriptor.token, descriptor.bit);
     Retired {
         next,
         dropped: n0 + n1,
@@ -147,12 +158,12 @@ fn advance(windows: &mut Windows<'_>, descriptor: Descriptor, bit: u32) -> Retir
 }
 
 // Retires a descriptor, of which `moved` bytes have moved.
-pub fn retire(windows: &mut Windows<'_>, descriptor: Descriptor, moved: u32, bit: u32) -> Retired
-    ensures left { P.Retires descriptor.queue_head descriptor.pointer descriptor.token moved bit (contents windows.old) (contents windows.new) result }
+pub fn retire(windows: &mut Windows<'_>, descriptor: Descriptor, moved: u32) -> Retired
+    ensures left { P.Retires descriptor.queue_head descriptor.pointer descriptor.token moved descriptor.bit (contents windows.old) (contents windows.new) result }
     ensures same { SameWindows windows.old windows.new }
 {
     let n0 = close(windows, descriptor, moved);
-    let advanced = advance(windows, descriptor, bit);
+    let advanced = advance(windows, descriptor);
     Retired {
         next: advanced.next,
         dropped: n0 + advanced.dropped,
@@ -211,19 +222,13 @@ pub struct Finished {
 }
 
 // Retires the one descriptor of a run, of which `moved` bytes have moved, and settles the endpoint.
-pub fn finish(
-    windows: &mut Windows<'_>,
-    descriptor: Descriptor,
-    moved: u32,
-    bit: u32,
-    flag: bool,
-) -> Finished
-    ensures left { P.Finishes descriptor.queue_head descriptor.pointer descriptor.token moved bit (Stores·bus (contents windows.old) flag) (Stores·bus (contents windows.new) result.line) result }
+pub fn finish(windows: &mut Windows<'_>, descriptor: Descriptor, moved: u32, flag: bool) -> Finished
+    ensures left { P.Finishes descriptor.queue_head descriptor.pointer descriptor.token moved descriptor.bit (Stores·bus (contents windows.old) flag) (Stores·bus (contents windows.new) result.line) result }
     ensures same { SameWindows windows.old windows.new }
 {
-    let retired = retire(windows, descriptor, moved, bit);
+    let retired = retire(windows, descriptor, moved);
     let completed = bits::any(descriptor.token, 0x8000);
-    let line = settle(windows, bit, retired.next, completed, flag);
+    let line = settle(windows, descriptor.bit, retired.next, completed, flag);
     Finished {
         done: completed,
         dropped: retired.dropped,
@@ -272,14 +277,8 @@ impl Finished {
 
 // An active output descriptor takes what it can of `bytes`, and is retired.
 #[tactic(auto, using(usbdev::proofs::Tokens::total_lt))]
-pub fn send_one(
-    windows: &mut Windows<'_>,
-    descriptor: Descriptor,
-    bit: u32,
-    bytes: &[u8],
-    flag: bool,
-) -> Ran
-    ensures left { P.SendsOne descriptor.queue_head descriptor.pointer descriptor.token bit bytes.now (Stores·bus (contents windows.old) flag) (Stores·bus (contents windows.new) result.line) result }
+pub fn send_one(windows: &mut Windows<'_>, descriptor: Descriptor, bytes: &[u8], flag: bool) -> Ran
+    ensures left { P.SendsOne descriptor.queue_head descriptor.pointer descriptor.token descriptor.bit bytes.now (Stores·bus (contents windows.old) flag) (Stores·bus (contents windows.new) result.line) result }
     ensures same { SameWindows windows.old windows.new }
 {
     let count = (usbdev::total(descriptor.token) as usize).min(bytes.len());
@@ -287,16 +286,16 @@ pub fn send_one(
     let ps = transfer::pointers_for(windows.view(), td, count);
     let lost = transfer::copy_out(windows, &ps, bytes, count);
     let moved = count as u32;
-    finish(windows, descriptor, moved, bit, flag).ran(moved, lost)
+    finish(windows, descriptor, moved, flag).ran(moved, lost)
 }
 
 // An active input descriptor, whose bytes the caller has read or need not read, is retired.
-pub fn take_one(windows: &mut Windows<'_>, descriptor: Descriptor, bit: u32, flag: bool) -> Ran
-    ensures left { P.TakesOne descriptor.queue_head descriptor.pointer descriptor.token bit (Stores·bus (contents windows.old) flag) (Stores·bus (contents windows.new) result.line) result }
+pub fn take_one(windows: &mut Windows<'_>, descriptor: Descriptor, flag: bool) -> Ran
+    ensures left { P.TakesOne descriptor.queue_head descriptor.pointer descriptor.token descriptor.bit (Stores·bus (contents windows.old) flag) (Stores·bus (contents windows.new) result.line) result }
     ensures same { SameWindows windows.old windows.new }
 {
     let moved = usbdev::total(descriptor.token);
-    finish(windows, descriptor, moved, bit, flag).ran(moved, 0)
+    finish(windows, descriptor, moved, flag).ran(moved, 0)
 }
 
 // How a run on an endpoint other than 0 begins: its next descriptor is active, or it is over.
@@ -304,40 +303,39 @@ pub fn begin(
     windows: &mut Windows<'_>,
     ep: u32,
     dir_in: bool,
-    bit: u32,
     flag: bool,
 ) -> Result<Descriptor, Ran>
-    requires { (0 < ep) × ((ep < 16) × (bit ≡ D.bit_of (D.endpoint ep dir_in))) }
+    requires { (0 < ep) × (ep < 16) }
     ensures left { P.Begins (D.endpoint ep dir_in) flag (contents windows.old) (contents windows.new) result }
     ensures same { SameWindows windows.old windows.new }
 {
-    match find(windows.view(), ep, dir_in, bit) {
+    match find(windows.view(), ep, dir_in) {
         Found::Unprimed => Err(none_ran(flag)),
-        Found::Ended => Err(none_ran(settle(windows, bit, 1, false, flag))),
+        Found::Ended => Err(none_ran(settle(windows, bit_of(ep, dir_in), 1, false, flag))),
         Found::Active(descriptor) => Ok(descriptor),
     }
 }
 
 // A run on an endpoint other than 0, towards the device.
-pub fn run_out(windows: &mut Windows<'_>, ep: u32, bit: u32, bytes: &[u8], flag: bool) -> Ran
-    requires { (0 < ep) × ((ep < 16) × (bit ≡ D.bit_of (D.endpoint ep false))) }
+pub fn run_out(windows: &mut Windows<'_>, ep: u32, bytes: &[u8], flag: bool) -> Ran
+    requires { (0 < ep) × (ep < 16) }
     ensures left { P.Runs (D.endpoint ep false) bytes.now (Stores·bus (contents windows.old) flag) (Stores·bus (contents windows.new) result.line) result }
     ensures same { SameWindows windows.old windows.new }
 {
-    match begin(windows, ep, false, bit, flag) {
-        Ok(descriptor) => send_one(windows, descriptor, bit, bytes, flag),
+    match begin(windows, ep, false, flag) {
+        Ok(descriptor) => send_one(windows, descriptor, bytes, flag),
         Err(ran) => ran,
     }
 }
 
 // A run on an endpoint other than 0, from the device, whose bytes are only counted.
-pub fn run_count(windows: &mut Windows<'_>, ep: u32, bit: u32, flag: bool) -> Ran
-    requires { (0 < ep) × ((ep < 16) × (bit ≡ D.bit_of (D.endpoint ep true))) }
+pub fn run_count(windows: &mut Windows<'_>, ep: u32, flag: bool) -> Ran
+    requires { (0 < ep) × (ep < 16) }
     ensures left { P.Runs (D.endpoint ep true) [] (Stores·bus (contents windows.old) flag) (Stores·bus (contents windows.new) result.line) result }
     ensures same { SameWindows windows.old windows.new }
 {
-    match begin(windows, ep, true, bit, flag) {
-        Ok(descriptor) => take_one(windows, descriptor, bit, flag),
+    match begin(windows, ep, true, flag) {
+        Ok(descriptor) => take_one(windows, descriptor, flag),
         Err(ran) => ran,
     }
 }

@@ -18,7 +18,7 @@ pub returns-in-Ended-clause-left : goal.returns-in-Ended-clause-left
 returns-in-Ended-clause-left c =
     let e = endpoint c.args.ep c.args.dir_in in
     let f = sym (c.in-Ended.ensures ∙ ap (found e) c.view.ensures) in
-    let settled = does_as (ap (λ (x : ℕ). settling x 1 false (bus (contents c.args.windows.now) c.args.flag)) c.requires.1.1) c.settle.ensures.left in
+    let settled = does_as (ap (λ (x : ℕ). settling x 1 false (bus (contents c.args.windows.now) c.args.flag)) c.bit_of.ensures) c.settle.ensures.left in
     λ bs. runs_as c.none_ran-in-Ended.ensures (runs_ended e bs (contents c.args.windows.now) c.args.flag (sized_of c.args.windows.now) (single c.args.ep c.args.dir_in c.requires.0) f settled)
 
 pub returns-in-Active-clause-left : goal.returns-in-Active-clause-left

@@ -6,7 +6,7 @@ use Rattle.dtd.proofs.run_count.Goals as goal
 
 pub returns-in-Ok-clause-left : goal.returns-in-Ok-clause-left
 returns-in-Ok-clause-left c =
-    runs_begun c.args.ep true [] c.requires.0 c.requires.1.1 c.in-Ok.ensures.left (sized_of c.args.windows.now) (c.take_one.ensures.left c.args.ep)
+    runs_begun c.args.ep true [] c.requires.0 c.in-Ok.ensures.left (sized_of c.args.windows.now) (c.take_one.ensures.left c.args.ep)
 
 pub returns-in-Err-clause-left : goal.returns-in-Err-clause-left
 returns-in-Err-clause-left c = c.in-Err.ensures.left []

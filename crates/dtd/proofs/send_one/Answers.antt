@@ -16,6 +16,6 @@ returns-clause-left c =
     λ ep.
     let is_moved = c.min-count.ensures ∙ ap (λ (x : ℕ). min x (length c.args.bytes.now)) c.total.ensures in
     let is-pointers = c.pointers_for-ps.ensures ∙ ap (λ (x : Memory). pointers_for x c.clear-td.result c.min-count.result) c.view.ensures in
-    turn_steps (endpoint ep false) c.args.descriptor.queue_head c.args.descriptor.pointer c.args.descriptor.token c.args.bit c.args.bytes.now is_moved
+    turn_steps (endpoint ep false) c.args.descriptor.queue_head c.args.descriptor.pointer c.args.descriptor.token c.args.descriptor.bit c.args.bytes.now is_moved
     (data_sent ep c.args.descriptor.pointer c.args.descriptor.token c.args.bytes.now is_moved c.clear-td.ensures is-pointers (c.copy_out-lost.ensures.left c.args.flag))
     c.finish.ensures.left c.ran.ensures
