@@ -120,6 +120,7 @@ fn next_of(page: &[u8; PAGE], k: usize, c: u32, left: u64) -> Option<u64>
 }
 
 // Timer k, whose bit of USBSTS is `bit`, expires with `left` below zero.
+#[tactic(auto, using(usbdev::proofs::Laws::done_then), unfolding(crate::specs::Timer::expiring, crate::specs::Timer::expired))]
 fn expire(page: &mut [u8; PAGE], k: usize, bit: u32, c: u32, left: u64, flag: bool) -> Timed
     requires k_bound { (k < 2) × (left < T.ZERO) }
     requires bit_value { bit ≡ 2 ^ (24 + k) }
@@ -132,6 +133,7 @@ fn expire(page: &mut [u8; PAGE], k: usize, bit: u32, c: u32, left: u64, flag: bo
 }
 
 // Timer k after the reset, in one microframe of `step` microseconds.
+#[tactic(auto, unfolding(crate::specs::Timer::counted, crate::specs::Timer::counted_timer))]
 fn count(
     page: &mut [u8; PAGE],
     k: usize,
@@ -162,6 +164,7 @@ fn count(
 }
 
 // One microframe of timer k, whose bit of USBSTS is `bit`.
+#[tactic(auto, using(crate::proofs::Laws::range_reset, usbdev::proofs::Laws::done_then), unfolding(crate::specs::Timer::ticking, crate::specs::Timer::ticked))]
 fn gptimer(
     page: &mut [u8; PAGE],
     k: usize,
@@ -181,6 +184,7 @@ fn gptimer(
 }
 
 // Both timers in one microframe of `step` microseconds; the line's flag goes in and comes out.
+#[tactic(auto, using(usbdev::proofs::Laws::done_then), unfolding(crate::specs::Timer::ticking_both, crate::specs::Timer::ticked_both))]
 pub fn gptimers(page: &mut [u8; PAGE], ts: Timers, step: u64, flag: bool) -> TimedBoth
     requires step_bound { step ≤ 1000 }
     requires zero_value { (T.in_range ts.zero ≡ true) × (T.in_range ts.one ≡ true) }

@@ -10,7 +10,7 @@ use Rattle.bus.proofs.Places.{sized_kept}
 use Rattle.bus.proofs.Registers.{poke32_register, dropped_register}
 use Rattle.bus.proofs.Storing.{kept_stored}
 use Rattle.usbdev.specs.Access.{clears_by_one}
-use Rattle.usbdev.specs.Registers.{Registers, registers, PageStore, put, irq, store, on_bus, PageStep, lifted, done, ◌then◌, following, line_of}
+use Rattle.usbdev.specs.Registers.{Registers, registers, PageStore, put, irq, store, on_bus, PageStep, lifted, done, ◌then◌}
 
 -- a bound on where an access ends as one on where it starts
 pub within : (off size last : ℕ) → last + size ≡ 4096 → leb (off + size) 4096 ≡ leb off last
@@ -33,11 +33,6 @@ clears_not off none =
 -- one step after the other
 pub done_then : (f g : PageStep) (r : Registers) → done (f then g) r ≡ done g (done f r)
 done_then f g r = exec_then store f g r
-
--- a step, and then the flag follows the line
-pub done_following : (f : PageStep) (r : Registers) {p : List ℕ} {l : Bool} → registers p l ≡ done f r → done (f then following) r ≡ registers p (line_of p)
-unfolding following store
-done_following f r {p} {l} e = done_then f following r ∙ ap (λ (x : Registers). registers x.page (line_of x.page)) (sym e)
 
 -- ---- the same stores on the bus
 

@@ -127,7 +127,8 @@ pub fn read(page: &[u8], off: u32, size: u32) -> Result<u32, Refusal>
 #[tactic(auto, using(crate::proofs::Laws::clears, crate::proofs::Laws::clears_not), unfolding(crate::specs::Access::listed, crate::specs::Access::listing, crate::specs::Registers::store))]
 fn put_listed(page: &mut [u8; PAGE], off: usize, v: u32) -> bool
     requires { off + 4 ≤ Sizes.PAGE }
-    ensures { (result ≡ Access.listed off) × ((l : Bool) → registers page.new l ≡ R.done (Access.listing off v) (registers page.old l)) }
+    ensures value { result ≡ Access.listed off }
+    ensures left { (l : Bool) → registers page.new l ≡ R.done (Access.listing off v) (registers page.old l) }
 {
     match off {
         USBSTS | EPNAK | EPSETUPSR | EPCOMPLETE => {
@@ -171,6 +172,7 @@ fn written_otgsc(keep: u32, v: u32) -> u32
 }
 
 // A four-byte write.
+#[tactic(auto, using(crate::proofs::Laws::done_then), unfolding(crate::specs::Access::writing_word, crate::specs::Registers::following, crate::specs::Registers::store))]
 fn write_word(page: &mut [u8; PAGE], off: usize, v: u32, flag: bool) -> bool
     requires { off + 4 ≤ Sizes.PAGE }
     ensures { registers page.new result ≡ R.done (Access.writing_word off v) (registers page.old flag) }
