@@ -22,7 +22,7 @@ module _ (e : Endpoint) (m : Memory) where
   found_idle =
       ⊎_elim (λ f. ap (λ (x : Bool). x && next_active e m) (says_unprimed e m f)) (λ f. ap₂ ◌&&◌ (says_ended e m f).0 (says_ended e m f).1)
 
-  module _ (qh n tok : ℕ) (f : found e m ≡ active qh n tok) where
+  module _ (qh n tok : ℕ) (f : found e m ≡ active e qh n tok) where
     pub active_ready : primed e m.page && next_active e m ≡ true
     active_ready = ap₂ ◌&&◌ (says_active e m qh n tok f).prime (says_active e m qh n tok f).active
 
@@ -72,5 +72,5 @@ module _ (ep : ℕ) (other : 0 < ep) (m : Memory) (l : Bool) where
             few = omega (arith, size, total_lt (token_of (next_dtd here m) m));
           }
 
-  pub active_input : (qh n tok : ℕ) → found here m ≡ active qh n tok → (run_dtds here [] (bus m l)).bytes ≡ bytes_in m (pointers m (descriptor n)) (total_of tok)
+  pub active_input : (qh n tok : ℕ) → found here m ≡ active here qh n tok → (run_dtds here [] (bus m l)).bytes ≡ bytes_in m (pointers m (descriptor n)) (total_of tok)
   active_input qh n tok f = input_bytes ep other m l qh n tok (says_active here m qh n tok f)

@@ -90,11 +90,11 @@ module _ (e : Endpoint) (held : ℕ) (m : Memory) where
   pub served_not : primed e m.page && next_active e m ≡ false → served e held m ≡ false
   served_not h = ap (λ (t : Bool). not (eqb held 0) && t) h ∙ and_false (not (eqb held 0))
 
-  pub served_active : (held ≡ 0 → ⊥) → (qh n tok : ℕ) → found e m ≡ active qh n tok → served e held m ≡ true
+  pub served_active : (held ≡ 0 → ⊥) → (qh n tok : ℕ) → found e m ≡ active e qh n tok → served e held m ≡ true
   served_active some qh n tok f = ap₂ (λ (t u : Bool). not t && u) (ne_eqb held 0 some) (active_ready e m qh n tok f)
 
 -- what fits, by the token that `find` says
-pub fits_active : (e : Endpoint) (m : Memory) (qh n tok : ℕ) → found e m ≡ active qh n tok → (held unit k : ℕ) → k ≡ packet_of tok held
+pub fits_active : (e : Endpoint) (m : Memory) (qh n tok : ℕ) → found e m ≡ active e qh n tok → (held unit k : ℕ) → k ≡ packet_of tok held
     → k / unit * unit ≡ packet_of (token_of (next_dtd e m) m) held / unit * unit
 fits_active e m qh n tok f held unit k is = ap (λ (x : ℕ). x / unit * unit) (is ∙ ap (λ (x : ℕ). packet_of x held) (active_token e m qh n tok f))
 

@@ -13,13 +13,6 @@ use bus::Windows;
 use dtd::{Found, Ran};
 use record::{Counter, State};
 
-// The bits of the endpoints in EPSR: MIDI out (1), serial or vendor in and serial out (2).
-const MIDI_OUT: u32 = 0x2;
-
-const SECOND_IN: u32 = 0x4_0000;
-
-const SECOND_OUT: u32 = 0x4;
-
 // The bytes of one bulk packet at high speed.
 const PACKET: usize = 512;
 
@@ -46,7 +39,7 @@ fn serial_in(s: State, windows: &mut Windows<'_>, receive: &mut [u8]) -> State
     let at = s.answer.received;
     let limit = receive.len();
     let line = s.port.line;
-    let filled = runs::run_in(windows, receive, 2, SECOND_IN, at, limit, line);
+    let filled = runs::run_in(windows, receive, 2, at, limit, line);
     let mut next = s.after_run(filled.ran);
     next.answer.received = filled.at;
     next
@@ -60,22 +53,21 @@ fn give(
     held: usize,
     unit: usize,
     ep: u32,
-    bit: u32,
     line: bool,
 ) -> Option<Taken>
     requires held_in_bounds { (held ≤ length queue.old) × (1 ≤ unit) }
-    requires le_ep { (1 ≤ ep) × ((ep < 16) × (bit ≡ D.bit_of (D.endpoint ep false))) }
+    requires le_ep { (1 ≤ ep) × (ep < 16) }
     ensures left { P.Gives (D.endpoint ep false) unit line (contents windows.old) queue.old held result (contents windows.new) queue.new }
     ensures same { SameWindows windows.old windows.new }
 {
     if held == 0 {
         return None;
     }
-    match dtd::find(windows.view(), ep, false, bit) {
+    match dtd::find(windows.view(), ep, false) {
         Found::Unprimed | Found::Ended => None,
         Found::Active(descriptor) => {
             let bytes = packet_of(descriptor.token, held) / unit * unit;
-            let ran = dtd::send_one(windows, descriptor, bit, &queue[..bytes], line);
+            let ran = dtd::send_one(windows, descriptor, &queue[..bytes], line);
             record::drain(queue, held, bytes);
             Some(Taken { ran, bytes })
         }
@@ -90,7 +82,7 @@ fn serial_out(s: State, windows: &mut Windows<'_>, serial: &mut [u8]) -> State
 {
     let held = s.lengths.serial;
     let line = s.port.line;
-    let Some(taken) = give(windows, serial, held, 1, 2, SECOND_OUT, line) else {
+    let Some(taken) = give(windows, serial, held, 1, 2, line) else {
         return s;
     };
     let mut next = s.after_run(taken.ran);
@@ -121,7 +113,7 @@ pub fn midi_out(s: State, windows: &mut Windows<'_>, midi: &mut [u8]) -> State
 {
     let held = s.lengths.midi;
     let line = s.port.line;
-    let Some(taken) = give(windows, midi, held, 4, 1, MIDI_OUT, line) else {
+    let Some(taken) = give(windows, midi, held, 4, 1, line) else {
         return s;
     };
     let packets = (taken.bytes / 4) as u64;
@@ -138,7 +130,7 @@ pub fn vendor(s: State, windows: &mut Windows<'_>) -> State
     ensures fewer { P.Fewer s.lengths result.lengths }
     ensures same { SameWindows windows.old windows.new }
 {
-    let ran = dtd::run_count(windows, 2, SECOND_IN, s.port.line);
+    let ran = dtd::run_count(windows, 2, s.port.line);
     s.after_run(ran)
         .count(Counter::VendorInBytes, u64::from(ran.moved))
 }

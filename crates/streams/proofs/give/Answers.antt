@@ -3,7 +3,7 @@ use mathlib.Core.Bool.{false}
 use Rattle.bus.specs.Windows.{contents}
 use Rattle.bus.proofs.Lengths.{sized_of}
 use Rattle.dtd.specs.Dtd.{endpoint}
-use Rattle.dtd.proofs.Runs.{single, runs_active}
+use Rattle.dtd.proofs.Runs.{single, says_bit, says_found, runs_active}
 use Rattle.streams.specs.Promises.{Gives}
 use Rattle.streams.proofs.Laws.{served_active, fits_active, units_held}
 use Rattle.streams.proofs.give.Goals as goal
@@ -13,11 +13,12 @@ unfolding Gives
 returns-in-Active-clause-left c =
     let w = c.args.windows.now in
     let e = endpoint c.args.ep false in
-    let is = rw (c.find.ensures, c.view.ensures) at c.in-Active.is in
+    let at-descriptor = rw (c.find.ensures, c.view.ensures) at c.in-Active.is in
+    let is = says_found e (contents w) at-descriptor in
     record {
       some = served_active e _ _ c.if-held-eq0.false _ _ _ is;
       fits = fits_active e _ _ _ _ is _ c.args.unit _ c.packet_of.ensures;
       few = units_held _ _ _ c.args.unit c.packet_of.ensures;
-      run = runs_active e _ (contents w) c.args.line (sized_of w) (single c.args.ep false c.requires.le_ep.0) _ _ _ is _ c.requires.le_ep.1.1 (c.send_one-ran.ensures.left c.args.ep);
+      run = runs_active e _ (contents w) c.args.line (sized_of w) (single c.args.ep false c.requires.le_ep.0) _ _ _ is _ (says_bit e (contents w) at-descriptor) (c.send_one-ran.ensures.left c.args.ep);
       queue = c.drain.ensures;
     }
