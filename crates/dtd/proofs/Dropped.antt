@@ -5,12 +5,11 @@ use Rattle.bits.specs.Pick.{pick_both}
 use Rattle.bus.specs.Memory.{after, peek32}
 use Rattle.bus.specs.Steps.{exec, and_then}
 use Rattle.bus.specs.Stores.{Bus, Store, store, stored, dropped, dropped_by, dropped_append, putting, when}
-use Rattle.usbdev.specs.Registers as usb
-use Rattle.usbdev.specs.Registers.{registers, PageStore, lifted, setting}
-use Rattle.usbdev.proofs.Laws.{Inside, none_dropped}
+use Rattle.usbdev.specs.Registers.{registers, lifted}
+use Rattle.usbdev.proofs.Laws.{none_dropped}
 use Rattle.transfer.specs.Transfer.{pointers}
-use Rattle.dtd.specs.Dtd.{Endpoint, bit_of, primed, queue_head, next_dtd, terminates, descriptor, token_of, is_active, interrupts, moves, data_out, closing, completing, advancing, retiring, turning, following, Run, ended, joined, turns, most, list_ends, unpriming, reporting, settling, settled, run_dtds}
-use Rattle.dtd.proofs.Laws.{dropped32_le}
+use Rattle.dtd.specs.Dtd.{Endpoint, bit_of, primed, queue_head, next_dtd, terminates, descriptor, token_of, is_active, moves, data_out, closing, completing, advancing, retiring, turning, following, Run, ended, joined, turns, most, list_ends, unpriming, reporting, settling, settled, run_dtds}
+use Rattle.dtd.proofs.Laws.{dropped32_le, inside_completing, inside_unpriming, inside_reporting}
 use Rattle.dtd.proofs.Runs.{moves_few, lost_few}
 
 -- ---- one descriptor
@@ -25,9 +24,7 @@ unfolding closing and_then putting dropped_by dropped
 close_dropped qh n tok moved b = omega (arith, dropped32_le (after (descriptor n) 4), dropped32_le (after (descriptor n) 12), dropped32_le (after qh 4))
 
 none_completing : (tok bit : ℕ) (b : Bus) → 0 ≡ dropped_by (lifted (completing tok bit) b)
-unfolding completing
-none_completing tok bit b =
-    none_dropped (completing tok bit (registers b.memory.page b.line)) (pick_both (λ (ss : List PageStore). Inside ss) (interrupts tok) (omega arith, tt) tt)
+none_completing tok bit b = none_dropped (completing tok bit (registers b.memory.page b.line)) (inside_completing tok bit (registers b.memory.page b.line))
 
 advance_dropped : (qh n tok bit : ℕ) (b : Bus) → dropped_by (advancing qh n tok bit b) ≤ 8
 unfolding advancing and_then putting dropped_by dropped
@@ -85,15 +82,15 @@ turns_bounded (suc k) e qh n bs b =
     (none_bounded 1))
 
 none_settling : (bit n : ℕ) (done : Bool) (b : Bus) → dropped_by (settling bit n done b) ≡ 0
-unfolding settling and_then unpriming reporting setting usb.following
+unfolding settling and_then
 none_settling bit n done b =
     let first = lifted (unpriming (list_ends n b.memory) bit) in
     let x = exec store first b in
     omega (
       arith,
       dropped_append (first b) (lifted (reporting done) x),
-      none_dropped (unpriming (list_ends n b.memory) bit (registers b.memory.page b.line)) (pick_both (λ (ss : List PageStore). Inside ss) (list_ends n b.memory) (omega arith, tt) tt),
-      none_dropped (reporting done (registers x.memory.page x.line)) (pick_both (λ (ss : List PageStore). Inside ss) done (omega arith, tt) tt),
+      none_dropped (unpriming (list_ends n b.memory) bit (registers b.memory.page b.line)) (inside_unpriming (list_ends n b.memory) bit (registers b.memory.page b.line)),
+      none_dropped (reporting done (registers x.memory.page x.line)) (inside_reporting done (registers x.memory.page x.line)),
     )
 
 settled_bounded : (e : Endpoint) (b : Bus) (r : Run) → Bounded r → Bounded (settled e b r)

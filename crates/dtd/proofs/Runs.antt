@@ -1,48 +1,27 @@
 -- What a run of at most one descriptor is, by what stands before it.
-use Rattle.std.proofs.Common.{◌≡◌, ℕ, ◌+◌, ◌<◌, ◌≤◌, min, Bool, true, false, not, ◌&&◌, List, [], ◌++◌, length, sym, refl, ap, ◌∙◌, subst, ap₂, append_assoc, append-nil, Ok, arith, ne_eqb}
+use Rattle.std.proofs.Common.{◌≡◌, ℕ, ◌<◌, ◌≤◌, min, Bool, true, false, not, ◌&&◌, List, [], length, sym, refl, ap, ◌∙◌, subst, ap₂, append_assoc, append-nil, Ok, arith, ne_eqb}
 use Rattle.bits.specs.Pick.{pick, pick_both}
-use Rattle.bits.proofs.Tests.{false_true, or_false}
+use Rattle.bits.proofs.Tests.{or_false}
 use Rattle.bus.specs.Memory.{Memory}
 use Rattle.bus.specs.Steps.{and_then, replay_append}
 use Rattle.bus.specs.Sized.{Sized}
-use Rattle.bus.specs.Stores.{Bus, bus, Store, store, stored, dropped_by, ◌then◌, when, Does}
-use Rattle.bus.proofs.Storing.{does_then, does_as}
+use Rattle.bus.specs.Stores.{Bus, bus, dropped_by, ◌then◌, nothing, when, Does}
+use Rattle.bus.proofs.Storing.{does_nothing, does_then, does_as}
 use Rattle.usbdev.specs.Transfer.{total_of}
 use Rattle.transfer.specs.Transfer.{pointers, pointers_for, bytes_in, sending}
 use Rattle.transfer.proofs.Addresses.{sending_for}
 use Rattle.transfer.proofs.Laws.{dropped_le, length_bytes_in}
 use Rattle.transfer.proofs.Sending.{sending_dropped}
 use Rattle.usbdev.proofs.Tokens.{total_lt}
-use native.Mathlib.Nat.{min-le_left, min-le_right}
-use Rattle.usbdev.specs.Registers.{lifted}
+use Rattle.dtd.specs.declared.Found.{Found}
 use Rattle.dtd.specs.declared.Found.TheVariants.{Unprimed, Ended, Active}
 use Rattle.dtd.specs.declared.Descriptor.{Descriptor}
 use Rattle.dtd.specs.declared.Finished.{Finished}
 use Rattle.dtd.specs.declared.Ran.{Ran}
 use Rattle.dtd.specs.Promises.{Finishes, none_ran, ran_of, Turns, running, Runs, Begins}
-use Rattle.dtd.specs.Dtd.{Endpoint, endpoint, descriptor, bit_of, primed, queue_head, next_dtd, terminates, token_of, is_active, interrupts, next_active, moves, bytes_of, data_out, turning, following, Run, ended, joined, turns, most, list_ends, unpriming, reporting, settling, settled, run_dtds, finishing, found, active}
+use Rattle.dtd.specs.Dtd.{Endpoint, endpoint, descriptor, bit_of, primed, queue_head, next_dtd, terminates, token_of, is_active, interrupts, next_active, moves, bytes_of, data_out, turning, following, Run, ended, joined, turns, most, list_ends, settling, settled, run_dtds, finishing, found, active}
 
 -- ---- what each answer of `find` says
-
-by_tests : (e : Endpoint) (m : Memory) (p a : Bool) → primed e m.page ≡ p → next_active e m ≡ a → found e m ≡ pick p (pick a (active e (queue_head e m.page) (next_dtd e m) (token_of (next_dtd e m) m)) Ended) Unprimed
-unfolding found
-by_tests e m p a ep ea = simp (ep, ea)
-
-pub says_unprimed : (e : Endpoint) (m : Memory) → found e m ≡ Unprimed → primed e m.page ≡ false
-says_unprimed e m f = by_cases (primed e m.page) (next_active e m) refl refl
-  where
-    by_cases : (p a : Bool) → primed e m.page ≡ p → next_active e m ≡ a → primed e m.page ≡ false
-    by_cases true true ep ea = let w = sym (by_tests e m true true ep ea) ∙ f in let z : ◌≡◌ {A = ℕ} 0 1 = cc in absurd (omega arith)
-    by_cases true false ep ea = let w = sym (by_tests e m true false ep ea) ∙ f in let z : ◌≡◌ {A = ℕ} 0 1 = cc in absurd (omega arith)
-    by_cases false a ep ea = ep
-
-pub says_ended : (e : Endpoint) (m : Memory) → found e m ≡ Ended → (primed e m.page ≡ true) × (next_active e m ≡ false)
-says_ended e m f = by_cases (primed e m.page) (next_active e m) refl refl
-  where
-    by_cases : (p a : Bool) → primed e m.page ≡ p → next_active e m ≡ a → (primed e m.page ≡ true) × (next_active e m ≡ false)
-    by_cases true true ep ea = let w = sym (by_tests e m true true ep ea) ∙ f in let z : ◌≡◌ {A = ℕ} 0 1 = cc in absurd (omega arith)
-    by_cases true false ep ea = (ep, ea)
-    by_cases false a ep ea = let w = sym (by_tests e m false a ep ea) ∙ f in let z : ◌≡◌ {A = ℕ} 0 1 = cc in absurd (omega arith)
 
 pub record IsActive (e : Endpoint) (m : Memory) (qh n tok : ℕ) : Type 0 where
   pub prime : primed e m.page ≡ true
@@ -51,33 +30,28 @@ pub record IsActive (e : Endpoint) (m : Memory) (qh n tok : ℕ) : Type 0 where
   pub next : n ≡ next_dtd e m
   pub token : tok ≡ token_of n m
 
-named : {d d' : Descriptor} → Active d ≡ Active d' → d ≡ d'
-named f = cc
+abbrev pub Says : Endpoint → Memory → Found → Type 0
+Says e m Unprimed = primed e m.page ≡ false
+Says e m Ended = (primed e m.page ≡ true) × (next_active e m ≡ false)
+Says e m (Active d) = IsActive e m d.queue_head d.pointer d.token × (d.bit ≡ bit_of e)
+
+pub says : (e : Endpoint) (m : Memory) {r : Found} → found e m ≡ r → Says e m r
+unfolding found
+says e m f = subst (Says e m) f (by_tests (primed e m.page) (next_active e m) refl refl)
+  where
+    by_tests : (p a : Bool) → primed e m.page ≡ p → next_active e m ≡ a → Says e m (pick p (pick a (active e (queue_head e m.page) (next_dtd e m) (token_of (next_dtd e m) m)) Ended) Unprimed)
+    by_tests true true ep ea = (record { prime = ep; active = ea; head = refl; next = refl; token = refl }, refl)
+    by_tests true false ep ea = (ep, ea)
+    by_tests false a ep ea = ep
+
+pub says_unprimed : (e : Endpoint) (m : Memory) → found e m ≡ Unprimed → primed e m.page ≡ false
+says_unprimed e m f = says e m f
+
+pub says_ended : (e : Endpoint) (m : Memory) → found e m ≡ Ended → (primed e m.page ≡ true) × (next_active e m ≡ false)
+says_ended e m f = says e m f
 
 pub says_active : (e : Endpoint) (m : Memory) (qh n tok : ℕ) → found e m ≡ active e qh n tok → IsActive e m qh n tok
-says_active e m qh n tok f = by_cases (primed e m.page) (next_active e m) refl refl
-  where
-    by_cases : (p a : Bool) → primed e m.page ≡ p → next_active e m ≡ a → IsActive e m qh n tok
-    by_cases true true ep ea =
-        let d = named (sym (by_tests e m true true ep ea) ∙ f) in
-        let same : n ≡ next_dtd e m = sym (ap (λ (x : Descriptor). x.pointer) d) in
-        let there : tok ≡ token_of (next_dtd e m) m = sym (ap (λ (x : Descriptor). x.token) d) in
-        record { prime = ep; active = ea; head = sym (ap (λ (x : Descriptor). x.queue_head) d); next = same; token = there ∙ ap (λ (x : ℕ). token_of x m) (sym same) }
-    by_cases true false ep ea = let w = sym (by_tests e m true false ep ea) ∙ f in let z : ◌≡◌ {A = ℕ} 0 1 = cc in absurd (omega arith)
-    by_cases false a ep ea = let w = sym (by_tests e m false a ep ea) ∙ f in let z : ◌≡◌ {A = ℕ} 0 1 = cc in absurd (omega arith)
-
--- a descriptor that is found has its endpoint's bit
-pub says_bit : (e : Endpoint) (m : Memory) {d : Descriptor} → found e m ≡ Active d → d.bit ≡ bit_of e
-says_bit e m {d} f = by_cases (primed e m.page) (next_active e m) refl refl
-  where
-    by_cases : (p a : Bool) → primed e m.page ≡ p → next_active e m ≡ a → d.bit ≡ bit_of e
-    by_cases true true ep ea = sym (ap (λ (x : Descriptor). x.bit) (named (sym (by_tests e m true true ep ea) ∙ f)))
-    by_cases true false ep ea = let w = sym (by_tests e m true false ep ea) ∙ f in let z : ◌≡◌ {A = ℕ} 0 1 = cc in absurd (omega arith)
-    by_cases false a ep ea = let w = sym (by_tests e m false a ep ea) ∙ f in let z : ◌≡◌ {A = ℕ} 0 1 = cc in absurd (omega arith)
-
-pub says_found : (e : Endpoint) (m : Memory) {d : Descriptor} → found e m ≡ Active d → found e m ≡ active e d.queue_head d.pointer d.token
-says_found e m {d} f =
-    f ∙ ap (λ (x : ℕ). Active (record { queue_head = d.queue_head; pointer = d.pointer; token = d.token; bit = x })) (says_bit e m f)
+says_active e m qh n tok f = (says e m f).0
 
 -- ---- runs
 
@@ -86,88 +60,58 @@ pub run_unprimed : (e : Endpoint) (bs : List ℕ) (b : Bus) → primed e b.memor
 unfolding run_dtds
 run_unprimed e bs b h = simp h
 
-both : (x y : Bool) → not x && y ≡ true → (x ≡ false) × (y ≡ true)
-both true true h = let z : ◌≡◌ {A = ℕ} 0 1 = cc in absurd (omega arith)
-both true false h = let z : ◌≡◌ {A = ℕ} 0 1 = cc in absurd (omega arith)
-both false true h = (refl, refl)
-both false false h = let z : ◌≡◌ {A = ℕ} 0 1 = cc in absurd (omega arith)
-
--- a pointer that terminates, or a descriptor that is not active
-neither : (x y : Bool) (n : ℕ) (r : Run) → not x && y ≡ false → pick x (ended n) (pick y r (ended 1)) ≡ ended (pick x n 1)
-neither true y n r h = refl
-neither false true n r h = let z : ◌≡◌ {A = ℕ} 0 1 = cc in absurd (omega arith)
-neither false false n r h = refl
-
-lists : (xs rs : List Store) (g : Bus → List Store) (b : Bus) → ((xs ++ rs) ++ []) ++ g (stored ((xs ++ rs) ++ []) b) ≡ xs ++ (rs ++ g (stored rs (stored xs b)))
-lists xs rs g b =
-    ap (λ (ss : List Store). ss ++ g (stored ss b)) (append-nil (xs ++ rs))
-    ∙ ap (λ (c : Bus). (xs ++ rs) ++ g c) (replay_append store xs rs b) ∙ append_assoc xs rs (g (stored rs (stored xs b)))
+-- a pointer that terminates, a descriptor that is active, or one that is not
+turned : (x y : Bool) (n : ℕ) (r : Run) → pick x (ended n) (pick y r (ended 1)) ≡ pick (not x && y) r (ended (pick x n 1))
+turned true y n r = refl
+turned false true n r = refl
+turned false false n r = refl
 
 -- the stores of a run of one descriptor, with its token as memory has it
 one_stores : (e : Endpoint) (bs : List ℕ) (b : Bus) (qh n : ℕ)
     → (settled e b (joined e qh n bs b (ended (following e qh n bs b)))).stores
     ≡ (data_out e n (token_of n b.memory) bs then finishing qh n (token_of n b.memory) (moves e (token_of n b.memory) bs) (bit_of e)) b
 unfolding settled joined turning finishing following and_then
-one_stores e bs b qh n =
-    ap (λ (t : Bool). (turning e qh n bs b ++ []) ++ settling (bit_of e) (following e qh n bs b) t (stored (turning e qh n bs b ++ []) b)) (or_false (interrupts (token_of n b.memory)))
-    ∙ lists (data_out e n (token_of n b.memory) bs b) _ (settling (bit_of e) (following e qh n bs b) (interrupts (token_of n b.memory))) b
+one_stores e bs b qh n = simp (or_false, append-nil, replay_append, append_assoc)
 
 module _ (e : Endpoint) (bs : List ℕ) (b : Bus) (single : most e ≡ 1) where
   -- the run in the words of its first descriptor
-  first : primed e b.memory.page ≡ true → run_dtds e bs b ≡ settled e b (turns 1 e (queue_head e b.memory.page) (next_dtd e b.memory) bs b)
-  unfolding run_dtds
-  first h = simp (h, single)
+  first : primed e b.memory.page ≡ true → run_dtds e bs b
+      ≡ settled e b
+      (pick (next_active e b.memory) (joined e (queue_head e b.memory.page) (next_dtd e b.memory) bs b (ended (following e (queue_head e b.memory.page) (next_dtd e b.memory) bs b)))
+      (ended (pick (terminates (next_dtd e b.memory)) (next_dtd e b.memory) 1)))
+  unfolding run_dtds turns next_active
+  first h = simp (h, single) (ap (settled e b) (turned (terminates (next_dtd e b.memory)) (is_active (token_of (next_dtd e b.memory) b.memory)) (next_dtd e b.memory) _))
 
   -- its one descriptor is active
   module _ (qh n tok : ℕ) (is : IsActive e b.memory qh n tok) where
-    tests : (terminates (next_dtd e b.memory) ≡ false) × (is_active (token_of (next_dtd e b.memory) b.memory) ≡ true)
-    unfolding next_active
-    tests = both (terminates (next_dtd e b.memory)) (is_active (token_of (next_dtd e b.memory) b.memory)) is.active
-
-    -- at the endpoint's own head and pointer
-    one : turns 1 e (queue_head e b.memory.page) (next_dtd e b.memory) bs b
-        ≡ joined e (queue_head e b.memory.page) (next_dtd e b.memory) bs b (ended (following e (queue_head e b.memory.page) (next_dtd e b.memory) bs b))
-    unfolding turns
-    one = simp (tests.0, tests.1)
-
     pub run_active : run_dtds e bs b ≡ settled e b (joined e qh n bs b (ended (following e qh n bs b)))
-    run_active =
-        first is.prime ∙ ap (settled e b) one
-        ∙ ap₂ (λ (h x : ℕ). settled e b (joined e h x bs b (ended (following e h x bs b)))) (sym is.head) (sym is.next)
+    run_active = first is.prime ∙ simp (is.active, is.head, is.next)
 
     -- its stores: the data, the retirement, and what follows
     pub active_stores : (run_dtds e bs b).stores ≡ (data_out e n tok bs then finishing qh n tok (moves e tok bs) (bit_of e)) b
-    active_stores =
-        ap (λ (r : Run). r.stores) run_active ∙ one_stores e bs b qh n
-        ∙ ap (λ (x : ℕ). (data_out e n x bs then finishing qh n x (moves e x bs) (bit_of e)) b) (sym is.token)
+    active_stores = simp (run_active, is.token) (one_stores e bs b qh n)
 
     -- and its answers
     pub active_done : (run_dtds e bs b).done ≡ interrupts tok
     unfolding settled joined
-    active_done =
-        ap (λ (r : Run). r.done) run_active ∙ or_false (interrupts (token_of n b.memory)) ∙ ap interrupts (sym is.token)
+    active_done = simp (run_active, or_false, is.token)
 
     pub active_moved : (run_dtds e bs b).moved ≡ moves e tok bs
     unfolding settled joined
-    active_moved =
-        let none : moves e (token_of n b.memory) bs + 0 ≡ moves e (token_of n b.memory) bs = omega arith in
-        ap (λ (r : Run). r.moved) run_active ∙ none ∙ ap (λ (x : ℕ). moves e x bs) (sym is.token)
+    active_moved = simp (run_active, is.token) (omega arith)
 
     pub active_retired : (run_dtds e bs b).retired ≡ 1
     unfolding settled joined
-    active_retired = ap (λ (r : Run). r.retired) run_active
+    active_retired = simp run_active
 
     pub active_bytes : (run_dtds e bs b).bytes ≡ bytes_of e n b.memory
     unfolding settled joined
-    active_bytes = ap (λ (r : Run). r.bytes) run_active ∙ append-nil (bytes_of e n b.memory)
+    active_bytes = simp (run_active, append-nil)
 
   -- its list ends: the endpoint is un-primed, and nothing else
   module _ (up : primed e b.memory.page ≡ true) (inactive : next_active e b.memory ≡ false) where
     pub run_ended : run_dtds e bs b ≡ settled e b (ended (pick (terminates (next_dtd e b.memory)) (next_dtd e b.memory) 1))
-    unfolding next_active turns
-    run_ended =
-        first up
-        ∙ ap (settled e b) (neither (terminates (next_dtd e b.memory)) (is_active (token_of (next_dtd e b.memory) b.memory)) (next_dtd e b.memory) _ inactive)
+    run_ended = first up ∙ simp inactive
 
     ends_there : (t : Bool) → terminates (next_dtd e b.memory) ≡ t → list_ends (pick t (next_dtd e b.memory) 1) b.memory ≡ true
     unfolding list_ends
@@ -176,45 +120,32 @@ module _ (e : Endpoint) (bs : List ℕ) (b : Bus) (single : most e ≡ 1) where
 
     pub ended_stores : (run_dtds e bs b).stores ≡ settling (bit_of e) 1 false b
     unfolding settled settling and_then list_ends
-    ended_stores =
-        ap (λ (r : Run). r.stores) run_ended
-        ∙ ap (λ (t : Bool). lifted (unpriming t (bit_of e)) b ++ lifted (reporting false) (stored (lifted (unpriming t (bit_of e)) b) b))
-        (ends_there (terminates (next_dtd e b.memory)) refl)
+    ended_stores = simp (run_ended, ends_there (terminates (next_dtd e b.memory)) refl)
 
 -- ---- from what the code does to what it promises
 
 module _ (e : Endpoint) (bs : List ℕ) (m : Memory) (l : Bool) (z : Sized m) where
   pub runs_none : primed e m.page ≡ false → Runs e bs (bus m l) (bus m l) (none_ran l)
-  unfolding running dropped_by
+  unfolding running nothing
   runs_none h =
       let none = run_unprimed e bs (bus m l) h in
-      record {
-        does = record { is = sym (ap (λ (r : Run). stored r.stores (bus m l)) none); sized = z; counted = sym (ap (λ (r : Run). dropped_by r.stores) none) };
-        done = sym (ap (λ (r : Run). r.done) none);
-        moved = sym (ap (λ (r : Run). r.moved) none);
-        retired = sym (ap (λ (r : Run). r.retired) none);
-      }
+      record { does = does_as (sym (ap (λ (r : Run). r.stores) none)) (does_nothing (bus m l) z); done = simp none; moved = simp none; retired = simp none }
 
   pub runs_unprimed : found e m ≡ Unprimed → Runs e bs (bus m l) (bus m l) (none_ran l)
-  runs_unprimed f = runs_none (says_unprimed e m f)
+  runs_unprimed f = runs_none (says e m f)
 
   module _ (single : most e ≡ 1) where
     pub runs_ended : found e m ≡ Ended → {m' : Memory} {line : Bool} → Does (settling (bit_of e) 1 false) (bus m l) (bus m' line) 0 → Runs e bs (bus m l) (bus m' line) (none_ran line)
     unfolding running settled
     runs_ended f d =
-        let says = says_ended e m f in
-        let whole = run_ended e bs (bus m l) single says.0 says.1 in
-        record {
-          does = does_as (sym (ended_stores e bs (bus m l) single says.0 says.1)) d;
-          done = sym (ap (λ (r : Run). r.done) whole);
-          moved = sym (ap (λ (r : Run). r.moved) whole);
-          retired = sym (ap (λ (r : Run). r.retired) whole);
-        }
+        let ends = says e m f in
+        let whole = run_ended e bs (bus m l) single ends.0 ends.1 in
+        record { does = does_as (sym (ended_stores e bs (bus m l) single ends.0 ends.1)) d; done = simp whole; moved = simp whole; retired = simp whole }
 
     pub runs_active : (qh n tok : ℕ) → found e m ≡ active e qh n tok → (bit : ℕ) → bit ≡ bit_of e → {b' : Bus} {r : Ran} → Turns e qh n tok bit bs (bus m l) b' r → Runs e bs (bus m l) b' r
     unfolding running
     runs_active qh n tok f bit eb {b'} {r} t =
-        let is = says_active e m qh n tok f in
+        let is = (says e m f).0 in
         let same = ap (λ (x : ℕ). (data_out e n tok bs then finishing qh n tok (moves e tok bs) x) (bus m l)) eb in
         record {
           does = does_as (same ∙ sym (active_stores e bs (bus m l) single qh n tok is)) t.does;
@@ -230,32 +161,39 @@ single ep input h = simp (ne_eqb ep 0 (λ e. omega arith))
 pub moves_few : (e : Endpoint) (tok : ℕ) (bs : List ℕ) → moves e tok bs ≤ 32767
 unfolding moves
 moves_few e tok bs =
-    pick_both (λ (n : ℕ). n ≤ 32767) e.input (omega (arith, total_lt tok)) (omega (arith, min-le_left (total_of tok) (length bs), total_lt tok))
+    pick_both (λ (n : ℕ). n ≤ 32767) e.input (omega (arith, total_lt tok)) (omega (arith, total_lt tok))
+
+-- a descriptor that is found, by its parts
+pub says_found : (e : Endpoint) (m : Memory) {d : Descriptor} → found e m ≡ Active d → found e m ≡ active e d.queue_head d.pointer d.token
+says_found e m {d} f =
+    f ∙ ap (λ (x : ℕ). Active (record { queue_head = d.queue_head; pointer = d.pointer; token = d.token; bit = x })) (says e m f).1
 
 -- a run that begins at an active descriptor is that descriptor's
 pub runs_begun : (ep : ℕ) (input : Bool) (bs : List ℕ) {l : Bool} {m m₁ : Memory} {d : Descriptor} {b' : Bus} {r : Ran} → 0 < ep → Begins (endpoint ep input) l m m₁ (Ok d)
     → Sized m → Turns (endpoint ep input) d.queue_head d.pointer d.token d.bit bs (bus m₁ l) b' r → Runs (endpoint ep input) bs (bus m l) b' r
 runs_begun ep input bs {l} {m} {m₁} {d} {b'} {r} h begun z t =
-    runs_active (endpoint ep input) bs m l z (single ep input h) d.queue_head d.pointer d.token (says_found _ m begun.0) d.bit (says_bit _ m begun.0)
-    (subst (λ (x : Memory). Turns (endpoint ep input) d.queue_head d.pointer d.token d.bit bs (bus x l) b' r) begun.1 t)
+    let e = endpoint ep input in
+    runs_active e bs m l z (single ep input h) d.queue_head d.pointer d.token (says_found e m begun.0) d.bit (says e m begun.0).1
+    (subst (λ (x : Memory). Turns e d.queue_head d.pointer d.token d.bit bs (bus x l) b' r) begun.1 t)
 
 -- what an output descriptor takes, by the pointers that its bytes use
-pub data_sent : (ep n tok : ℕ) (bs : List ℕ) {m : Memory} {b' : Bus} {l : Bool} {count td lost : ℕ} {ps : List ℕ} → count ≡ moves (endpoint ep false) tok bs → td ≡ descriptor n
-    → ps ≡ pointers_for m td count → Does (sending ps bs count) (bus m l) b' lost → Does (data_out (endpoint ep false) n tok bs) (bus m l) b' lost
+pub data_sent : (ep : ℕ) (d : Descriptor) (bs : List ℕ) {m m' : Memory} {b' : Bus} {l : Bool} {count td lost : ℕ} {ps : List ℕ} → count ≡ moves (endpoint ep false) d.token bs → td ≡ descriptor d.pointer
+    → m' ≡ m → ps ≡ pointers_for m' td count → Does (sending ps bs count) (bus m l) b' lost → Does (data_out (endpoint ep false) d.pointer d.token bs) (bus m l) b' lost
 unfolding data_out when
-data_sent ep n tok bs {m} {b'} {l} {count} {td} is_moved is-descriptor is-pointers d =
+data_sent ep d bs {m} {m'} {b'} {l} {count} {td} is_moved is-descriptor same is-pointers does =
     does_as
-    (ap (λ (x : List ℕ). sending x bs count (bus m l)) is-pointers ∙ sending_for m td count (omega (arith, is_moved, moves_few (endpoint ep false) tok bs)) bs count (bus m l) (omega arith)
+    (ap (λ (x : List ℕ). sending x bs count (bus m l)) (is-pointers ∙ ap (λ (x : Memory). pointers_for x td count) same)
+    ∙ sending_for m td count (omega (arith, is_moved, moves_few (endpoint ep false) d.token bs)) bs count (bus m l) (omega arith)
     ∙ ap₂ (λ (x y : ℕ). sending (pointers m x) bs y (bus m l)) is-descriptor is_moved)
-    d
+    does
 
 -- the data of one descriptor, and then its retirement
-pub turn_steps : (e : Endpoint) (qh n tok bit : ℕ) (bs : List ℕ) {b b₁ : Bus} {m : Memory} {moved lost : ℕ} {f : Finished} {r : Ran} → moved ≡ moves e tok bs → Does (data_out e n tok bs) b b₁ lost
-    → Finishes qh n tok moved bit b₁ (bus m f.line) f → r ≡ ran_of f moved lost → Turns e qh n tok bit bs b (bus m r.line) r
-turn_steps e qh n tok bit bs {b} {b₁} {m} is_moved sent finished h =
-    subst (λ (x : Ran). Turns e qh n tok bit bs b (bus m x.line) x) (sym h)
+pub turn_steps : (e : Endpoint) (d : Descriptor) (bit : ℕ) (bs : List ℕ) {b b₁ : Bus} {m : Memory} {moved lost : ℕ} {f : Finished} {r : Ran} → moved ≡ moves e d.token bs → Does (data_out e d.pointer d.token bs) b b₁ lost
+    → Finishes d.queue_head d.pointer d.token moved bit b₁ (bus m f.line) f → r ≡ ran_of f moved lost → Turns e d.queue_head d.pointer d.token bit bs b (bus m r.line) r
+turn_steps e d bit bs {b} {b₁} {m} is_moved sent finished h =
+    subst (λ (x : Ran). Turns e d.queue_head d.pointer d.token bit bs b (bus m x.line) x) (sym h)
     (record {
-      does = does_then sent (does_as (ap (λ (x : ℕ). finishing qh n tok x bit b₁) is_moved) finished.does);
+      does = does_then sent (does_as (ap (λ (x : ℕ). finishing d.queue_head d.pointer d.token x bit b₁) is_moved) finished.does);
       done = finished.done;
       moved = is_moved;
       retired = refl;
@@ -268,10 +206,10 @@ runs_as {e} {bs} {b} {m} h p = subst (λ (x : Ran). Runs e bs b (bus m x.line) x
 -- a count of bytes to send is a total at most, and no more than there are
 module _ (tok total count held : ℕ) (is-total : total ≡ total_of tok) (is-count : count ≡ min total held) where
   pub counted_few : count ≤ 32767
-  counted_few = omega (arith, is-count, min-le_left total held, total_lt tok, is-total)
+  counted_few = omega (arith, total_lt tok)
 
   pub counted_held : count ≤ held
-  counted_held = omega (arith, is-count, min-le_right total held)
+  counted_held = omega arith
 
 -- no more bytes are lost than are sent
 pub lost_few : (ps bs : List ℕ) (n : ℕ) (b : Bus) {lost : ℕ} → lost ≡ dropped_by (sending ps bs n b) → lost ≤ n
@@ -286,15 +224,9 @@ pub idle_run : (e : Endpoint) (bs : List ℕ) (b : Bus) → most e ≡ 1 → (pr
 unfolding settled
 idle_run e bs b one h = by_prime (primed e b.memory.page) refl
   where
-    by_active : primed e b.memory.page ≡ true → (a : Bool) → next_active e b.memory ≡ a → Idles (run_dtds e bs b)
-    by_active p true q = absurd (false_true (sym h ∙ ap₂ ◌&&◌ p q))
-    by_active p false q =
-        record { bytes = ap (λ (r : Run). r.bytes) (run_ended e bs b one p q); retired = ap (λ (r : Run). r.retired) (run_ended e bs b one p q) }
-
     by_prime : (a : Bool) → primed e b.memory.page ≡ a → Idles (run_dtds e bs b)
-    by_prime true p = by_active p (next_active e b.memory) refl
-    by_prime false p =
-        record { bytes = ap (λ (r : Run). r.bytes) (run_unprimed e bs b p); retired = ap (λ (r : Run). r.retired) (run_unprimed e bs b p) }
+    by_prime true p = let none = run_ended e bs b one p (simp p at h) in record { bytes = simp none; retired = simp none }
+    by_prime false p = let none = run_unprimed e bs b p in record { bytes = simp none; retired = simp none }
 
 -- ---- an active descriptor of an input endpoint other than 0
 
@@ -302,9 +234,7 @@ module _ (ep : ℕ) (other : 0 < ep) (m : Memory) (l : Bool) (qh n tok : ℕ) (i
   -- its bytes are those at its addresses, as many as its total
   pub input_bytes : (run_dtds (endpoint ep true) [] (bus m l)).bytes ≡ bytes_in m (pointers m (descriptor n)) (total_of tok)
   unfolding bytes_of
-  input_bytes =
-      active_bytes (endpoint ep true) [] (bus m l) (single ep true other) qh n tok is
-      ∙ ap (λ (x : ℕ). bytes_in m (pointers m (descriptor n)) (total_of x)) (sym is.token)
+  input_bytes = simp (active_bytes (endpoint ep true) [] (bus m l) (single ep true other) qh n tok is, is.token)
 
   pub input_length : length (run_dtds (endpoint ep true) [] (bus m l)).bytes ≡ total_of tok
   input_length = ap length input_bytes ∙ length_bytes_in m (pointers m (descriptor n)) (total_of tok)

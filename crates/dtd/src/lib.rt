@@ -61,7 +61,7 @@ pub fn next_dtd(view: View<'_>, qh: u32) -> u32
 }
 
 // The token of the descriptor that the pointer n names.
-#[tactic(auto, using(crate::proofs::Laws::after_is))]
+#[tactic(auto, unfolding(bus::specs::Memory::after))]
 pub fn token_of(view: View<'_>, n: u32) -> u32
     ensures { result ≡ D.token_of n (viewed view.entry) }
 {
@@ -77,7 +77,7 @@ pub fn bit_of(ep: u32, dir_in: bool) -> u32
 }
 
 // What stands before a descriptor of the endpoint.
-#[tactic(auto, using(crate::proofs::Laws::found_unprimed, crate::proofs::Laws::found_none, crate::proofs::Laws::found_active, crate::proofs::Laws::found_inactive))]
+#[tactic(auto, unfolding(crate::specs::Dtd::found, crate::specs::Dtd::next_active, crate::specs::Dtd::primed))]
 pub fn find(view: View<'_>, ep: u32, dir_in: bool) -> Found
     requires { ep < 16 }
     ensures { result ≡ D.found (D.endpoint ep dir_in) (viewed view.entry) }

@@ -46,6 +46,7 @@ const VBUS_WAIT: u64 = 400;
 const RESET_WAIT: u64 = 80;
 
 // The two counts of microframes.
+#[tactic(auto, unfolding(model::specs::Phases::counts, bus::specs::Steps::and_then, record::specs::Change::one, record::specs::Change::apply, record::specs::Record::raised))]
 pub fn counts(s: State) -> State
     ensures { Alone M.counts s result }
 {
@@ -113,6 +114,7 @@ fn cable_out(mut s: State, page: &mut [u8; PAGE]) -> State
 }
 
 // What a host that starts anew has forgotten: setups, the request, credit, budget, and both descriptors.
+#[tactic(auto, unfolding(model::specs::Phases::forgets, model::specs::Phases::drops_request, bus::specs::Steps::and_then, record::specs::Change::one, record::specs::Change::apply))]
 fn fresh(mut s: State) -> State
     ensures { Alone M.forgets s result }
 {
@@ -126,6 +128,7 @@ fn fresh(mut s: State) -> State
 }
 
 // The host is back: a fresh one, in the phase that raises VBUS.
+#[tactic(auto, using(bus::specs::Steps::exec_then), unfolding(model::specs::Phases::returns, record::specs::Change::one, record::specs::Change::apply, record::specs::Record::raised))]
 fn host_back(s: State) -> State
     ensures { Alone M.returns s result }
 {
@@ -133,6 +136,7 @@ fn host_back(s: State) -> State
 }
 
 // The host goes or comes back where `gone` differs from what the record says.
+#[tactic(auto, using(bus::specs::Steps::exec_then), unfolding(model::specs::Phases::cable, record::specs::Change::nothing, record::specs::Change::one, record::specs::Change::apply, bus::specs::Steps::choose, bus::specs::Steps::and_then))]
 pub fn gone_step(mut s: State, page: &mut [u8; PAGE], gone: bool) -> State
     ensures { Paged (M.cable gone) s page.old result page.new }
 {
@@ -148,6 +152,7 @@ pub fn gone_step(mut s: State, page: &mut [u8; PAGE], gone: bool) -> State
 }
 
 // One more microframe in which the host read no MIDI.
+#[tactic(auto, unfolding(model::specs::Phases::sleeps, record::specs::Change::one, record::specs::Change::apply, record::specs::Record::raised))]
 pub fn asleep(s: State) -> State
     ensures { Alone M.sleeps s result }
 {
@@ -183,6 +188,7 @@ pub fn suspend_step(mut s: State, page: &mut [u8; PAGE], asleep: bool) -> State
 }
 
 // The device has left the bus: the host waits for it as after VBUS.
+#[tactic(auto, using(bus::specs::Steps::exec_then), unfolding(model::specs::Phases::departs, model::specs::Phases::enters, record::specs::Change::one, record::specs::Change::apply, bus::specs::Steps::and_then))]
 fn device_left(mut s: State) -> State
     ensures { Alone M.departs s result }
 {
@@ -191,6 +197,7 @@ fn device_left(mut s: State) -> State
 }
 
 // The firmware's run bit is followed where the device stack is set.
+#[tactic(auto, unfolding(model::specs::Phases::leaves, record::specs::Change::nothing, record::specs::Change::one, record::specs::Change::apply, bus::specs::Steps::choose))]
 pub fn left_step(mut s: State, running: bool, device_stack: bool) -> State
     ensures { Alone (M.leaves device_stack running) s result }
 {

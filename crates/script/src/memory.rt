@@ -1,10 +1,9 @@
 // The lines of a run script that go through the three memory windows: stores, fills and looks. A bad line has no answer, and stores nothing.
-ghost use Rattle.std.specs.Prelude.{◌≡◌, ◌+◌, ◌*◌, ◌≤◌, ◌/◌, length, IfSome};
-ghost use Rattle.bus.specs.Memory.{shown};
-ghost use Rattle.bus.specs.Sized.{Sized};
+ghost use Rattle.std.specs.Prelude.{◌≡◌, ◌+◌, ◌≤◌, ◌/◌, length, IfSome};
 
 use crate::answers;
 use crate::words::{self, Words};
+use bus::{PAGE, SRAM, View, Windows};
 use stdio::Output;
 
 // The byte of two digits that were looked at.
@@ -22,14 +21,11 @@ fn put_digits(part: &mut [u8], digits: &[u8])
 }
 
 // The same at the address `a`, byte by byte; those outside the windows are dropped.
-fn poke_digits(dynamic: &mut [u8], sram: &mut [u8], page: &mut [u8], a: u32, digits: &[u8])
-    requires { Sized (shown dynamic.old sram.old page.old) }
-    ensures { Sized (shown dynamic.new sram.new page.new) }
-{
+fn poke_digits(windows: &mut Windows<'_>, a: u32, digits: &[u8]) {
     let mut address = a;
     for i in 0..digits.len() / 2 {
         let value = byte(digits[2 * i], digits[2 * i + 1]);
-        bus::poke8(dynamic, sram, page, address, value);
+        windows.poke8(address, value);
         address = address.wrapping_add(1);
     }
 }
@@ -47,38 +43,43 @@ fn place_in(length: usize, base: u32, a: u32, count: usize) -> Option<usize>
 }
 
 // The same; bytes that lie together in dynamic memory or on the page are put there at once.
-fn store(dynamic: &mut [u8], sram: &mut [u8], page: &mut [u8], a: u32, digits: &[u8])
-    requires { Sized (shown dynamic.old sram.old page.old) }
-{
+fn store(windows: &mut Windows<'_>, a: u32, digits: &[u8]) {
     let count = digits.len() / 2;
-    if let Some(place) = place_in(dynamic.len(), 0x4000_0000, a, count) {
+    if let Some(place) = place_in(windows.dynamic.len(), 0x4000_0000, a, count) {
+        let dynamic = &mut *windows.dynamic;
         put_digits(&mut dynamic[place..place + count], digits);
         return;
     }
-    if let Some(place) = place_in(page.len(), 0xFC0B_0000, a, count) {
+    if let Some(place) = place_in(PAGE, 0xFC0B_0000, a, count) {
+        let page = &mut *windows.page;
         put_digits(&mut page[place..place + count], digits);
         return;
     }
-    poke_digits(dynamic, sram, page, a, digits);
+    poke_digits(windows, a, digits);
 }
 
-// `w ADDR BYTES`; windows of wrong lengths keep theirs.
+// `w ADDR BYTES`; windows of wrong lengths stay as they are.
 pub fn store_line(line: &[u8], dynamic: &mut [u8], sram: &mut [u8], page: &mut [u8]) -> Option<()> {
     let mut words = Words::new(line);
     let a = words.word()?;
     let digits = words.digits()?;
-    if bus::sized(&*dynamic, &*sram, &*page) {
-        store(dynamic, sram, page, a, digits);
+    if let Ok(()) = bus::accept(&*dynamic, &*sram, &*page) {
+        let sram = sram.as_mut_array::<SRAM>().unwrap();
+        let page = page.as_mut_array::<PAGE>().unwrap();
+        let mut windows = Windows {
+            dynamic,
+            sram,
+            page,
+        };
+        store(&mut windows, a, digits);
     }
     Some(())
 }
 
 // `count` bytes of one value from the address `a` on.
-fn fill(dynamic: &mut [u8], sram: &mut [u8], page: &mut [u8], a: u32, count: u32, value: u8)
-    requires { Sized (shown dynamic.old sram.old page.old) }
-{
+fn fill(windows: &mut Windows<'_>, a: u32, count: u32, value: u8) {
     for i in 0..count {
-        bus::poke8(dynamic, sram, page, a.wrapping_add(i), value);
+        windows.poke8(a.wrapping_add(i), value);
     }
 }
 
@@ -89,20 +90,27 @@ pub fn fill_line(line: &[u8], dynamic: &mut [u8], sram: &mut [u8], page: &mut [u
     let count = words.word()?;
     let value = u8::try_from(words.word()?).ok()?;
     words.end()?;
-    if bus::sized(&*dynamic, &*sram, &*page) {
-        fill(dynamic, sram, page, a, count, value);
+    if let Ok(()) = bus::accept(&*dynamic, &*sram, &*page) {
+        let sram = sram.as_mut_array::<SRAM>().unwrap();
+        let page = page.as_mut_array::<PAGE>().unwrap();
+        let mut windows = Windows {
+            dynamic,
+            sram,
+            page,
+        };
+        fill(&mut windows, a, count, value);
     }
     Some(())
 }
 
 // `count` bytes as they are seen from the address `a` on: 0 in windows of wrong lengths.
 fn show(dynamic: &[u8], sram: &[u8], page: &[u8], a: u32, count: u32, out: &mut Output) {
-    let sized = bus::sized(dynamic, sram, page);
+    let view = View::of(dynamic, sram, page).ok();
     for i in 0..count {
-        let mut seen = 0;
-        if sized {
-            seen = bus::peek8(dynamic, sram, page, a.wrapping_add(i));
-        }
+        let seen = match view {
+            Some(view) => view.peek8(a.wrapping_add(i)),
+            None => 0,
+        };
         answers::pair(out, seen);
     }
 }

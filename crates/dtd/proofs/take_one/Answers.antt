@@ -9,5 +9,5 @@ use Rattle.dtd.proofs.take_one.Goals as goal
 pub returns-clause-left : goal.returns-clause-left
 unfolding moves data_out when dropped_by
 returns-clause-left c =
-    λ ep. turn_steps (endpoint ep true) c.args.descriptor.queue_head c.args.descriptor.pointer c.args.descriptor.token c.args.descriptor.bit [] c.total-moved.ensures
+    λ ep. turn_steps (endpoint ep true) c.args.descriptor c.args.descriptor.bit [] c.total-moved.ensures
     (record { is = refl; sized = sized_of c.args.windows.now; counted = refl }) c.finish.ensures.left c.ran.ensures

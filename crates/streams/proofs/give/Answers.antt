@@ -3,7 +3,7 @@ use mathlib.Core.Bool.{false}
 use Rattle.bus.specs.Windows.{contents}
 use Rattle.bus.proofs.Lengths.{sized_of}
 use Rattle.dtd.specs.Dtd.{endpoint}
-use Rattle.dtd.proofs.Runs.{single, says_bit, says_found, runs_active}
+use Rattle.dtd.proofs.Runs.{single, says, says_found, runs_active}
 use Rattle.streams.specs.Promises.{Gives}
 use Rattle.streams.proofs.Laws.{served_active, fits_active, units_held}
 use Rattle.streams.proofs.give.Goals as goal
@@ -19,6 +19,6 @@ returns-in-Active-clause-left c =
       some = served_active e _ _ c.if-held-eq0.false _ _ _ is;
       fits = fits_active e _ _ _ _ is _ c.args.unit _ c.packet_of.ensures;
       few = units_held _ _ _ c.args.unit c.packet_of.ensures;
-      run = runs_active e _ (contents w) c.args.line (sized_of w) (single c.args.ep false c.requires.le_ep.0) _ _ _ is _ (says_bit e (contents w) at-descriptor) (c.send_one-ran.ensures.left c.args.ep);
+      run = runs_active e _ (contents w) c.args.line (sized_of w) (single c.args.ep false c.requires.le_ep.0) _ _ _ is _ (says e (contents w) at-descriptor).1 (c.send_one-ran.ensures.left c.args.ep);
       queue = c.drain.ensures;
     }

@@ -1,7 +1,5 @@
--- The test of the lengths is what a fill requires.
-use Rattle.std.proofs.Common.{sym, ◌∙◌}
-use Rattle.bus.proofs.Sizes.{is_sized_lem}
+-- The test of the lengths says what dynamic memory's is.
 use Rattle.script.proofs.memory.fill_line.Goals as goal
 
-pub fill-requires : goal.fill-requires
-fill-requires c = is_sized_lem _ (sym c.sized.ensures ∙ c.if-sized.true)
+pub invariant_of-windows-clause-power : goal.invariant_of-windows-clause-power
+invariant_of-windows-clause-power c = c.in-Ok.ensures.fits.0
