@@ -18,7 +18,7 @@ use Rattle.dtd.specs.declared.Found.TheVariants.{Unprimed, Ended, Active}
 use Rattle.dtd.specs.declared.Descriptor.{Descriptor}
 use Rattle.dtd.specs.declared.Finished.{Finished}
 use Rattle.dtd.specs.declared.Ran.{Ran}
-use Rattle.dtd.specs.Promises.{Finishes, none_ran, ran_of, Turns, running, Runs, Begins}
+use Rattle.dtd.specs.Promises.{Finishes, none_ran, ran_of, Turns, running, Runs, Idle, Begins}
 use Rattle.dtd.specs.Dtd.{Endpoint, endpoint, descriptor, bit_of, primed, queue_head, next_dtd, terminates, token_of, is_active, interrupts, next_active, moves, bytes_of, data_out, turning, following, Run, ended, joined, turns, most, list_ends, settling, settled, run_dtds, finishing, found, active}
 
 -- ---- what each answer of `find` says
@@ -131,16 +131,20 @@ module _ (e : Endpoint) (bs : List ℕ) (m : Memory) (l : Bool) (z : Sized m) wh
       let none = run_unprimed e bs (bus m l) h in
       record { does = does_as (sym (ap (λ (r : Run). r.stores) none)) (does_nothing (bus m l) z); done = simp none; moved = simp none; retired = simp none }
 
-  pub runs_unprimed : found e m ≡ Unprimed → Runs e bs (bus m l) (bus m l) (none_ran l)
-  runs_unprimed f = runs_none (says e m f)
+  pub idle_unprimed : found e m ≡ Unprimed → Idle e bs (bus m l) (bus m l) (none_ran l)
+  idle_unprimed f = record { runs = runs_none (says e m f); nothing = refl; bytes = ap (λ (r : Run). r.bytes) (run_unprimed e bs (bus m l) (says e m f)) }
 
   module _ (single : most e ≡ 1) where
-    pub runs_ended : found e m ≡ Ended → {m' : Memory} {line : Bool} → Does (settling (bit_of e) 1 false) (bus m l) (bus m' line) 0 → Runs e bs (bus m l) (bus m' line) (none_ran line)
+    pub idle_ended : found e m ≡ Ended → {m' : Memory} {line : Bool} → Does (settling (bit_of e) 1 false) (bus m l) (bus m' line) 0 → Idle e bs (bus m l) (bus m' line) (none_ran line)
     unfolding running settled
-    runs_ended f d =
+    idle_ended f d =
         let ends = says e m f in
         let whole = run_ended e bs (bus m l) single ends.0 ends.1 in
-        record { does = does_as (sym (ended_stores e bs (bus m l) single ends.0 ends.1)) d; done = simp whole; moved = simp whole; retired = simp whole }
+        record {
+          runs = record { does = does_as (sym (ended_stores e bs (bus m l) single ends.0 ends.1)) d; done = simp whole; moved = simp whole; retired = simp whole };
+          nothing = refl;
+          bytes = ap (λ (r : Run). r.bytes) whole;
+        }
 
     pub runs_active : (qh n tok : ℕ) → found e m ≡ active e qh n tok → (bit : ℕ) → bit ≡ bit_of e → {b' : Bus} {r : Ran} → Turns e qh n tok bit bs (bus m l) b' r → Runs e bs (bus m l) b' r
     unfolding running
@@ -200,8 +204,8 @@ turn_steps e d bit bs {b} {b₁} {m} is_moved sent finished h =
     })
 
 -- an answer by another name
-pub runs_as : {e : Endpoint} {bs : List ℕ} {b : Bus} {m : Memory} {r r' : Ran} → r ≡ r' → Runs e bs b (bus m r'.line) r' → Runs e bs b (bus m r.line) r
-runs_as {e} {bs} {b} {m} h p = subst (λ (x : Ran). Runs e bs b (bus m x.line) x) (sym h) p
+pub idle_as : {e : Endpoint} {bs : List ℕ} {b : Bus} {m : Memory} {r r' : Ran} → r ≡ r' → Idle e bs b (bus m r'.line) r' → Idle e bs b (bus m r.line) r
+idle_as {e} {bs} {b} {m} h p = subst (λ (x : Ran). Idle e bs b (bus m x.line) x) (sym h) p
 
 -- a count of bytes to send is a total at most, and no more than there are
 module _ (tok total count held : ℕ) (is-total : total ≡ total_of tok) (is-count : count ≡ min total held) where

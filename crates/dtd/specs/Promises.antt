@@ -57,7 +57,13 @@ pub record Runs (e : Endpoint) (bs : List ℕ) (b b' : Bus) (r : Ran) : Type 0 w
   pub moved : r.moved ≡ (run_dtds e bs b).moved
   pub retired : r.retired ≡ (run_dtds e bs b).retired
 
+-- a run that is over before a descriptor is moved: it gives no byte and retires nothing
+pub record Idle (e : Endpoint) (bs : List ℕ) (b b' : Bus) (r : Ran) : Type 0 where
+  pub runs : Runs e bs b b' r
+  pub nothing : r ≡ none_ran r.line
+  pub bytes : (run_dtds e bs b).bytes ≡ []
+
 -- how a run begins: at an active descriptor, with memory as it was; or it is over, whatever the host has to send
 abbrev pub Begins : Endpoint → Bool → Memory → Memory → Result Descriptor Ran → Type 0
 Begins e l m m' (Ok d) = (found e m ≡ Active d) × (m' ≡ m)
-Begins e l m m' (Err r) = (bs : List ℕ) → Runs e bs (bus m l) (bus m' r.line) r
+Begins e l m m' (Err r) = (bs : List ℕ) → Idle e bs (bus m l) (bus m' r.line) r

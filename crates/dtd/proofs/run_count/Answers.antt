@@ -9,4 +9,4 @@ returns-in-Ok-clause-left c =
     runs_begun c.args.ep true [] c.requires.0 c.in-Ok.ensures.left (sized_of c.args.windows.now) (c.take_one.ensures.left c.args.ep)
 
 pub returns-in-Err-clause-left : goal.returns-in-Err-clause-left
-returns-in-Err-clause-left c = c.in-Err.ensures.left []
+returns-in-Err-clause-left c = (c.in-Err.ensures.left []).runs

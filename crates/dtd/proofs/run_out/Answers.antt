@@ -9,4 +9,4 @@ returns-in-Ok-clause-left c =
     runs_begun c.args.ep false c.args.bytes.now c.requires.0 c.in-Ok.ensures.left (sized_of c.args.windows.now) (c.send_one.ensures.left c.args.ep)
 
 pub returns-in-Err-clause-left : goal.returns-in-Err-clause-left
-returns-in-Err-clause-left c = c.in-Err.ensures.left c.args.bytes.now
+returns-in-Err-clause-left c = (c.in-Err.ensures.left c.args.bytes.now).runs
