@@ -1,19 +1,18 @@
 // The audio stream of a host: one descriptor of input a microframe, paced by a budget, and one block of output, where credit is left.
 #![tactic(auto)]
 
-ghost use Rattle.std.specs.Prelude.{◌≡◌, ◌≤◌, length};
+ghost use Rattle.std.specs.Prelude.{◌≡◌, ◌≤◌};
 ghost use Rattle.bus.specs.Windows.{viewed, contents, SameWindows};
 ghost use Rattle.dtd.specs.Dtd as D;
 ghost use Rattle.dtd.specs.declared.Found.TheVariants.{Active};
 ghost use Rattle.model.specs.Audio as Steps;
 ghost use Rattle.blocks.specs.Promises.{InRing, with_decoded};
-ghost use Rattle.record.specs.Sizes as Sizes;
 ghost use Rattle.audio.specs.Promises as P;
 
-use bus::{View, Windows};
 use blocks::Decoded;
+use bus::{View, Windows};
 use dtd::{Descriptor, Found};
-use record::{Audio, Counter, Ring, State, RING};
+use record::{Audio, Counter, RING, Ring, State};
 use sending::encode;
 use usbdev::EPSR;
 
@@ -30,16 +29,18 @@ pub struct Paced {
 }
 
 // One packet a microframe: a descriptor of n packets completes in its n-th.
+#[tactic(auto, unfolding(dtd::specs::Dtd::primed))]
 fn pace(view: View<'_>, budget: u64) -> Paced
     ensures { result ≡ P.paced_of (viewed view.entry) budget }
 {
-    if !bits::any(bus::word_at(view.page, EPSR), AUDIO_IN) {
+    let page = view.page;
+    if !bits::any(bus::word_at(page, EPSR), AUDIO_IN) {
         return Paced {
             budget,
             waits: false,
         };
     }
-    let qh = dtd::qh(view.page, 3, true);
+    let qh = dtd::qh(page, 3, true);
     let td = dtd::next_dtd(view, qh);
     if bits::any(td, 1) {
         return Paced {
@@ -62,6 +63,7 @@ fn pace(view: View<'_>, budget: u64) -> Paced
 }
 
 // What blocks change of a state: put back, it leaves the state as it is.
+#[tactic(auto, using(record::proofs::Counters::counter_kept))]
 fn decoded_of(s: State) -> Decoded
     ensures value { result ≡ P.decoded_of s }
     ensures result_value { with_decoded s result ≡ s }
@@ -96,6 +98,7 @@ fn count_in(s: State, brought: bool) -> State
 }
 
 // Input of an active descriptor: its blocks are decoded before it is retired.
+#[tactic(auto, using(usbdev::proofs::Tokens::total_lt))]
 fn take_blocks(
     s: State,
     windows: &mut Windows<'_>,
@@ -111,33 +114,25 @@ fn take_blocks(
     let ps = transfer::pointers_for(windows.view(), bits::clear(descriptor.pointer, 0x1F), total);
     let before = decoded_of(s);
     let d = blocks::decode_run(windows.view(), &ps, total, received, before);
-    let ran = dtd::take_one(windows, descriptor, AUDIO_IN, s.port.line);
+    let ran = dtd::take_one(windows, descriptor, s.port.line);
     let next = count_in(s.after_run(ran), ran.done | (total != 0));
     with_decoded(next, d)
 }
 
 // Input that the budget allows.
-fn take_input(
-    s: State,
-    windows: &mut Windows<'_>,
-    received: &mut [u32; RING],
-) -> State
+fn take_input(s: State, windows: &mut Windows<'_>, received: &mut [u32; RING]) -> State
     requires { InRing s.audio.received }
     ensures left { P.Hears Steps.inputs s (contents windows.old) received.old result (contents windows.new) received.new }
     ensures same { SameWindows windows.old windows.new }
 {
-    match dtd::begin(windows, 3, true, AUDIO_IN, s.port.line) {
+    match dtd::begin(windows, 3, true, s.port.line) {
         Ok(descriptor) => take_blocks(s, windows, received, descriptor),
         Err(ran) => s.after_run(ran),
     }
 }
 
 // The input step.
-pub fn stream_in(
-    s: State,
-    windows: &mut Windows<'_>,
-    received: &mut [u32; RING],
-) -> State
+pub fn stream_in(s: State, windows: &mut Windows<'_>, received: &mut [u32; RING]) -> State
     requires { InRing s.audio.received }
     ensures left { P.Hears Steps.stream_in s (contents windows.old) received.old result (contents windows.new) received.new }
     ensures same { SameWindows windows.old windows.new }
@@ -152,6 +147,7 @@ pub fn stream_in(
 }
 
 // The state after a block was built of the sending ring's frames, and silence for those that it lacks.
+#[tactic(auto, unfolding(record::specs::Change::taken_from))]
 fn after_block(s: State, capacity: usize) -> State
     requires le_credit { 7 ≤ s.audio.credit }
     requires in_sending { P.InSending s.audio.sending capacity }
@@ -176,12 +172,7 @@ fn after_block(s: State, capacity: usize) -> State
 }
 
 // One block into an active descriptor.
-fn send_block(
-    s: State,
-    windows: &mut Windows<'_>,
-    sending: &[u32],
-    descriptor: Descriptor,
-) -> State
+fn send_block(s: State, windows: &mut Windows<'_>, sending: &[u32], descriptor: Descriptor) -> State
     requires can_send { P.CanSend s sending.now × (7 ≤ s.audio.credit) }
     requires page_value { D.found Steps.audio_out (contents windows.old) ≡ Active descriptor }
     ensures left { P.Outputs Steps.stream_out s (contents windows.old) sending.now result (contents windows.new) }
@@ -200,13 +191,7 @@ fn send_block(
         capacity,
     );
     let n = s.audio.block as usize;
-    let ran = dtd::send_one(
-        windows,
-        descriptor,
-        AUDIO_OUT,
-        &block[..n],
-        s.port.line,
-    );
+    let ran = dtd::send_one(windows, descriptor, &block[..n], s.port.line);
     after_block(s.after_run(ran), capacity)
 }
 
@@ -222,11 +207,7 @@ fn unprime(s: State, windows: &mut Windows<'_>) -> State
 }
 
 // The output step: one block, where a descriptor is primed and seven frames of credit are left; a list that has ended is un-primed.
-pub fn stream_out(
-    s: State,
-    windows: &mut Windows<'_>,
-    sending: &[u32],
-) -> State
+pub fn stream_out(s: State, windows: &mut Windows<'_>, sending: &[u32]) -> State
     requires { P.CanSend s sending.now }
     ensures left { P.Outputs Steps.stream_out s (contents windows.old) sending.now result (contents windows.new) }
     ensures same { SameWindows windows.old windows.new }
@@ -234,7 +215,7 @@ pub fn stream_out(
     if s.audio.credit < Audio::FRAMES_PER_BLOCK as u64 {
         return s;
     }
-    match dtd::find(windows.view(), 3, false, AUDIO_OUT) {
+    match dtd::find(windows.view(), 3, false) {
         Found::Unprimed => s,
         Found::Ended => unprime(s, windows),
         Found::Active(descriptor) => send_block(s, windows, sending, descriptor),

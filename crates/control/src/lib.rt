@@ -49,6 +49,7 @@ fn next_setup(setups: &[u8; SETUP_BYTES], count: usize) -> Option<Setup>
 }
 
 // Enumeration ends where no setup waits: streaming starts in this microframe.
+#[tactic(auto, unfolding(bus::specs::Steps::choose, record::specs::Change::nothing, record::specs::Change::one, record::specs::Change::apply, bus::specs::Steps::and_then, model::specs::Control::configured))]
 fn configured(s: State) -> State
     ensures { Alone C.configured s result }
 {
@@ -59,7 +60,7 @@ fn configured(s: State) -> State
 }
 
 // The setup packet goes to the queue head as its two words; the bytes dropped.
-#[tactic(auto, using(dtd::proofs::Laws::dropped32_le))]
+#[tactic(auto, using(dtd::proofs::Laws::dropped32_le, bus::proofs::Lengths::sized_of), unfolding(bus::specs::Steps::and_then, bus::specs::Stores::putting, bus::specs::Stores::store, bus::specs::Stores::dropped_by, bus::specs::Stores::dropped, bus::specs::Memory::after))]
 fn put_words(windows: &mut Windows<'_>, setup: Setup) -> u32
     ensures left { ((l : Bool) → Does (P.puts_setup (D.queue_head (D.endpoint 0 false) windows.old.page.now) setup.first setup.second) (Stores·bus (contents windows.old) l) (Stores·bus (contents windows.new) l) result) × (result ≤ 8) }
     ensures same { SameWindows windows.old windows.new }
@@ -71,6 +72,7 @@ fn put_words(windows: &mut Windows<'_>, setup: Setup) -> u32
 }
 
 // The firmware is told that a setup packet stands.
+#[tactic(auto, using(usbdev::proofs::Laws::done_then), unfolding(model::specs::Phases::changing, usbdev::specs::Registers::store))]
 fn flag_setup(page: &mut [u8; PAGE], flag: bool) -> bool
     ensures { registers page.new result ≡ Registers·done (changing 0x1AC (λ v. W.set v 1) then raising 1) (registers page.old flag) }
 {
@@ -123,6 +125,7 @@ fn at_status(s: State) -> State
 }
 
 // A request that is still not answered is dropped once it has run too long.
+#[tactic(auto, unfolding(bus::specs::Steps::choose, record::specs::Change::nothing, record::specs::Change::one, record::specs::Change::apply, model::specs::Phases::drops_request))]
 fn unless_late(s: State) -> State
     ensures { Alone (when C.timed_out drops_request) s result }
 {
@@ -178,6 +181,7 @@ fn data_out(s: State, windows: &mut Windows<'_>) -> State
 }
 
 // The data stage, unless it is over, where the request has one.
+#[tactic(auto, using(bus::proofs::Lengths::sized_of), unfolding(bus::specs::Steps::choose, record::specs::Change::nothing, record::specs::Change::one, record::specs::Change::apply, model::specs::Control::data_stage, model::specs::Control::to_status))]
 fn data_stage(s: State, windows: &mut Windows<'_>, reply: &mut [u8]) -> State
     requires { Ready s × (Sizes.REPLY ≤ length reply.old) }
     ensures left { P.Stages P.data_first s (contents windows.old) reply.old result (contents windows.new) reply.new }
@@ -258,6 +262,7 @@ fn request(
 }
 
 // Control in one microframe: the running request goes on, or the next setup is posted, or enumeration ends.
+#[tactic(auto, unfolding(bus::specs::Steps::choose, model::specs::Control::controls))]
 pub fn control(
     s: State,
     device_stack: bool,

@@ -105,7 +105,7 @@ pub fn find(view: View<'_>, ep: u32, dir_in: bool) -> Found
 }
 
 // Token, frame number and current pointer of a descriptor, of which `moved` bytes have moved; the bytes dropped.
-#[tactic(auto, using(crate::proofs::Laws::dropped32_le))]
+#[tactic(auto, using(crate::proofs::Laws::dropped32_le, bus::proofs::Lengths::sized_of), unfolding(crate::specs::Dtd::closing, crate::specs::Dtd::framed, bus::specs::Steps::and_then, bus::specs::Stores::putting, bus::specs::Stores::store, bus::specs::Stores::dropped_by, bus::specs::Stores::dropped, bus::specs::Memory::after))]
 fn close(windows: &mut Windows<'_>, descriptor: Descriptor, moved: u32) -> u32
     ensures left { ((l : Bool) → Does (D.closing descriptor.queue_head descriptor.pointer descriptor.token moved) (Stores·bus (contents windows.old) l) (Stores·bus (contents windows.new) l) result) × (result ≤ 12) }
     ensures same { SameWindows windows.old windows.new }
@@ -140,7 +140,7 @@ pub struct Retired {
 }
 
 // Next pointer, token copy and completion bit of a descriptor.
-#[tactic(auto, using(crate::proofs::Laws::dropped32_le))]
+#[tactic(auto, using(crate::proofs::Laws::dropped32_le, bus::proofs::Lengths::sized_of, crate::proofs::Laws::complete_steps), unfolding(crate::specs::Dtd::advancing, bus::specs::Steps::and_then, bus::specs::Stores::putting, bus::specs::Stores::store, bus::specs::Stores::dropped_by, bus::specs::Stores::dropped, bus::specs::Memory::after))]
 fn advance(windows: &mut Windows<'_>, descriptor: Descriptor) -> Retired
     ensures left { P.Advances descriptor.queue_head descriptor.pointer descriptor.token descriptor.bit (contents windows.old) (contents windows.new) result }
     ensures same { SameWindows windows.old windows.new }

@@ -1,8 +1,6 @@
 // A request on endpoint 0 that asks the device for 64 bytes, a microframe at a time: data, then status.
-ghost use Rattle.bus.specs.Memory.{shown};
-ghost use Rattle.bus.specs.Sized.{Sized};
-
 use crate::frames;
+use bus::Windows;
 
 // A request: whether its data stage is over, and its reply so far.
 #[derive(Clone, Copy)]
@@ -30,13 +28,10 @@ pub fn posted() -> Request {
 }
 
 // The data stage: input on endpoint 0, of which the reply keeps 64 bytes.
-fn data(dynamic: &mut [u8], sram: &mut [u8], page: &mut [u8], request: Request, flag: bool) -> Step
-    requires { Sized (shown dynamic.old sram.old page.old) }
-    ensures { Sized (shown dynamic.new sram.new page.new) }
-{
+fn data(windows: &mut Windows<'_>, request: Request, flag: bool) -> Step {
     let mut reply = request.reply;
     let at = request.filled.min(64);
-    let filled = runs::run0_in(dynamic, sram, page, &mut reply, at, 64, flag);
+    let filled = runs::run0_in(windows, &mut reply, at, 64, flag);
     let ran = filled.ran;
     let end = filled.at;
     Step {
@@ -52,10 +47,8 @@ fn data(dynamic: &mut [u8], sram: &mut [u8], page: &mut [u8], request: Request, 
 }
 
 // The status stage: output of nothing on endpoint 0, whose completion ends the request.
-fn status(dynamic: &mut [u8], sram: &mut [u8], page: &mut [u8], before: Step) -> Step
-    requires { Sized (shown dynamic.old sram.old page.old) }
-{
-    let ran = runs::run0_out(dynamic, sram, page, b"", before.line);
+fn status(windows: &mut Windows<'_>, before: Step) -> Step {
+    let ran = runs::run0_out(windows, b"", before.line);
     Step {
         running: !ran.done,
         line: ran.line,
@@ -65,16 +58,7 @@ fn status(dynamic: &mut [u8], sram: &mut [u8], page: &mut [u8], before: Step) ->
 }
 
 // The request before its status stage: as it stands, or after a microframe's data stage.
-fn staged(
-    dynamic: &mut [u8],
-    sram: &mut [u8],
-    page: &mut [u8],
-    request: Request,
-    flag: bool,
-) -> Step
-    requires { Sized (shown dynamic.old sram.old page.old) }
-    ensures { Sized (shown dynamic.new sram.new page.new) }
-{
+fn staged(windows: &mut Windows<'_>, request: Request, flag: bool) -> Step {
     if request.status {
         return Step {
             request,
@@ -83,23 +67,15 @@ fn staged(
             dropped: false,
         };
     }
-    data(dynamic, sram, page, request, flag)
+    data(windows, request, flag)
 }
 
 // A microframe of a request; the status stage may follow the data stage at once.
-pub fn microframe(
-    dynamic: &mut [u8],
-    sram: &mut [u8],
-    page: &mut [u8],
-    request: Request,
-    flag: bool,
-) -> Step
-    requires { Sized (shown dynamic.old sram.old page.old) }
-{
-    let on = frames::begin(page, flag);
-    let before = staged(dynamic, sram, page, request, on);
+pub fn microframe(windows: &mut Windows<'_>, request: Request, flag: bool) -> Step {
+    let on = frames::begin(windows, flag);
+    let before = staged(windows, request, on);
     if before.request.status {
-        return status(dynamic, sram, page, before);
+        return status(windows, before);
     }
     before
 }

@@ -1,11 +1,10 @@
 // What a run on endpoints 0 and 2 has, and its answer to each line.
 ghost use Rattle.std.specs.Prelude.{◌≤◌};
-ghost use Rattle.bus.specs.Memory.{shown};
-ghost use Rattle.bus.specs.Sized.{Sized};
 
 use crate::control::{self, Request, Step};
 use crate::frames::{self, Served};
 use bench::{Memory, Part, Queue};
+use bus::{PAGE, SRAM, View, Windows};
 use refusal::Refusal;
 use script::words::{self, Words};
 use script::{answers, hash};
@@ -48,17 +47,8 @@ impl Endpoints {
     }
 
     // A microframe of a control request; its end, or a dropped byte, ends the run.
-    fn serve_control(
-        &mut self,
-        dynamic: &mut [u8],
-        sram: &mut [u8],
-        page: &mut [u8],
-        request: Request,
-        out: &mut Output,
-    )
-        requires { Sized (shown dynamic.old sram.old page.old) }
-    {
-        let step = control::microframe(dynamic, sram, page, request, self.line);
+    fn serve_control(&mut self, windows: &mut Windows<'_>, request: Request, out: &mut Output) {
+        let step = control::microframe(windows, request, self.line);
         self.line = step.line;
         self.request = Some(step.request);
         self.live = step.running && !step.dropped;
@@ -67,22 +57,14 @@ impl Endpoints {
             return;
         }
         show_step(step, out);
-        show_windows(&*dynamic, &*sram, &*page, out);
+        show_windows(windows.view(), out);
     }
 
     // A microframe of a serial host; a dropped byte ends the run.
-    fn serve_serial(
-        &mut self,
-        dynamic: &mut [u8],
-        sram: &mut [u8],
-        page: &mut [u8],
-        out: &mut Output,
-    )
-        requires { Sized (shown dynamic.old sram.old page.old) }
-    {
+    fn serve_serial(&mut self, windows: &mut Windows<'_>, out: &mut Output) {
         let mut input = [0u8; 32768];
         let queued = self.queue.as_slice();
-        let served = frames::serial(dynamic, sram, page, queued, &mut input, self.line);
+        let served = frames::serial(windows, queued, &mut input, self.line);
         self.line = served.line;
         self.live = !served.dropped;
         self.queue.remove(served.sent);
@@ -91,7 +73,7 @@ impl Endpoints {
             return;
         }
         show_served(served, &input, self.queue.held, out);
-        show_windows(&*dynamic, &*sram, &*page, out);
+        show_windows(windows.view(), out);
     }
 
     // `u TIME`: a microframe; neither kind of run asks the time.
@@ -111,15 +93,26 @@ impl Endpoints {
         Some(())
     }
 
-    // The same over windows of any lengths.
-    fn serve(&mut self, dynamic: &mut [u8], sram: &mut [u8], page: &mut [u8], out: &mut Output) {
-        if bus::sized(&*dynamic, &*sram, &*page) {
-            match self.request {
-                Some(request) => self.serve_control(dynamic, sram, page, request, out),
-                None => self.serve_serial(dynamic, sram, page, out),
-            }
-        } else {
+    // The same over dynamic memory of any length.
+    fn serve(
+        &mut self,
+        dynamic: &mut [u8],
+        sram: &mut [u8; SRAM],
+        page: &mut [u8; PAGE],
+        out: &mut Output,
+    ) {
+        if !bus::power(dynamic.len()) {
             answers::refused(out, Refusal::Windows);
+            return;
+        }
+        let mut windows = Windows {
+            dynamic,
+            sram,
+            page,
+        };
+        match self.request {
+            Some(request) => self.serve_control(&mut windows, request, out),
+            None => self.serve_serial(&mut windows, out),
         }
     }
 }
@@ -154,7 +147,12 @@ impl Part for Endpoints {
 }
 
 // The hashes of the three windows, and the line's end.
-fn show_windows(dynamic: &[u8], sram: &[u8], page: &[u8], out: &mut Output) {
+fn show_windows(view: View<'_>, out: &mut Output) {
+    let View {
+        dynamic,
+        sram,
+        page,
+    } = view;
     answers::field(out, hash::hash_all(dynamic));
     answers::field(out, hash::hash_all(sram));
     answers::field(out, hash::hash_all(page));

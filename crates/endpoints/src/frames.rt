@@ -1,9 +1,7 @@
 // Single runs on endpoint 2, as a microframe of a serial host does them.
 ghost use Rattle.std.specs.Prelude.{◌≡◌, ◌≤◌, length, IfSome};
-ghost use Rattle.bus.specs.Memory.{shown};
-ghost use Rattle.bus.specs.Sized.{Sized};
 
-use bus::{put_at, word_at};
+use bus::{View, Windows, put_at, word_at};
 use dtd::Found;
 use usbdev::FRINDEX;
 
@@ -17,53 +15,46 @@ pub struct Served {
 }
 
 // A microframe's start: FRINDEX counts, and SRI is raised.
-pub fn begin(page: &mut [u8], flag: bool) -> bool
-    requires { length page.old ≡ 4096 }
-{
-    let frame = usbdev::next_frindex(word_at(&*page, FRINDEX), 1);
+pub fn begin(windows: &mut Windows<'_>, flag: bool) -> bool {
+    let frame = usbdev::next_frindex(word_at(windows.registers(), FRINDEX), 1);
+    let page = &mut *windows.page;
     put_at(page, FRINDEX, frame);
-    usbdev::raise(page, 0x80, flag)
+    usbdev::raise(windows.page, 0x80, flag)
 }
 
 // The bytes of endpoint 2's next input descriptor, and how many there are; a total has 15 bits.
-fn take_in(dynamic: &[u8], sram: &[u8], page: &[u8], input: &mut [u8; 32768]) -> usize
-    requires { Sized (shown dynamic.now sram.now page.now) }
+fn take_in(view: View<'_>, input: &mut [u8; 32768]) -> usize
     ensures { result ≤ 32767 }
 {
-    let Found::Active(_, n, tok) = dtd::find(dynamic, sram, page, 2, true, 0x4_0000) else {
+    let Found::Active(descriptor) = dtd::find(view, 2, true) else {
         return 0;
     };
-    let count = (usbdev::total(tok) as usize).min(32767);
-    let ps = transfer::pointers_for(dynamic, sram, page, bits::clear(n, 0x1F), count);
-    transfer::copy_in(dynamic, sram, page, &ps, count, input, 0);
+    let count = (usbdev::total(descriptor.token) as usize).min(32767);
+    let ps = transfer::pointers_for(view, bits::clear(descriptor.pointer, 0x1F), count);
+    transfer::copy_in(view, &ps, count, input, 0);
     count
 }
 
 // How many of the queued bytes go to endpoint 2's next output descriptor, where there is one.
-fn wanted(dynamic: &[u8], sram: &[u8], page: &[u8], queued: usize) -> Option<usize>
-    requires { Sized (shown dynamic.now sram.now page.now) }
+fn wanted(view: View<'_>, queued: usize) -> Option<usize>
     ensures { IfSome result (λ count. count ≤ queued) }
 {
-    let Found::Active(_, _, tok) = dtd::find(dynamic, sram, page, 2, false, 4) else {
+    let Found::Active(descriptor) = dtd::find(view, 2, false) else {
         return None;
     };
-    Some((usbdev::total(tok) as usize).min(512).min(queued))
+    Some(
+        (usbdev::total(descriptor.token) as usize)
+            .min(512)
+            .min(queued),
+    )
 }
 
 // Input on endpoint 2.
-fn receive(
-    dynamic: &mut [u8],
-    sram: &mut [u8],
-    page: &mut [u8],
-    input: &mut [u8; 32768],
-    flag: bool,
-) -> Served
-    requires { Sized (shown dynamic.old sram.old page.old) }
-    ensures counted { (result.received ≤ 32767) × (result.sent ≡ 0) }
-    ensures sized { Sized (shown dynamic.new sram.new page.new) }
+fn receive(windows: &mut Windows<'_>, input: &mut [u8; 32768], flag: bool) -> Served
+    ensures { (result.received ≤ 32767) × (result.sent ≡ 0) }
 {
-    let received = take_in(&*dynamic, &*sram, &*page, input);
-    let ran = dtd::run_count(dynamic, sram, page, 2, 0x4_0000, flag);
+    let received = take_in(windows.view(), input);
+    let ran = dtd::run_count(windows, 2, flag);
     Served {
         line: ran.line,
         received,
@@ -74,25 +65,22 @@ fn receive(
 
 // A microframe of a serial host that streams: input, then output where bytes are queued and a descriptor is active.
 pub fn serial(
-    dynamic: &mut [u8],
-    sram: &mut [u8],
-    page: &mut [u8],
+    windows: &mut Windows<'_>,
     queue: &[u8],
     input: &mut [u8; 32768],
     flag: bool,
 ) -> Served
-    requires { Sized (shown dynamic.old sram.old page.old) }
     ensures { (result.received ≤ 32767) × (result.sent ≤ length queue.now) }
 {
-    let on = begin(page, flag);
-    let before = receive(dynamic, sram, page, input, on);
+    let on = begin(windows, flag);
+    let before = receive(windows, input, on);
     if queue.is_empty() {
         return before;
     }
-    let Some(count) = wanted(&*dynamic, &*sram, &*page, queue.len()) else {
+    let Some(count) = wanted(windows.view(), queue.len()) else {
         return before;
     };
-    let ran = dtd::run_out(dynamic, sram, page, 2, 4, &queue[..count], before.line);
+    let ran = dtd::run_out(windows, 2, &queue[..count], before.line);
     Served {
         line: ran.line,
         sent: count,

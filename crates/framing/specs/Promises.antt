@@ -27,8 +27,6 @@ pub record Flows (s : State) (words : ℕ) : Type 0 where
   pub rings : Rings s.audio words
   pub none : s.answer.received ≡ 0
 
--- ---- the parts of the streams' step
-
 -- ---- a World with what a function takes in its place
 
 -- with the parts of the streams: MIDI and serial queue, receive area and its cables, both rings

@@ -1,7 +1,7 @@
 // The streams of a microframe over parts, and what it begins with: each function makes one step, and stops or goes on.
 #![tactic(auto)]
 
-ghost use Rattle.std.specs.Prelude.{true, ◌≡◌, ◌+◌, ◌≤◌, length};
+ghost use Rattle.std.specs.Prelude.{true, ◌≡◌, ◌≤◌, length};
 ghost use Rattle.bus.specs.Windows.{contents, SameWindows};
 ghost use Rattle.gptimers.specs.Timer.{in_range};
 ghost use Rattle.record.specs.Change.{when};
@@ -13,7 +13,7 @@ ghost use Rattle.framing.specs.Promises as P;
 ghost use Rattle.record.specs.Sizes as Sizes;
 
 use bus::{PAGE, Windows};
-use record::{Counter, Phase, QUEUE, Settings, State, RING};
+use record::{Counter, Phase, QUEUE, RING, Settings, State};
 
 // MIDI input, where it is read and the host is awake.
 fn midi_in(

@@ -1,12 +1,11 @@
 -- Packets decoded piece by piece: a piece of whole packets, or the last one, splits what is decoded.
 use Rattle.std.specs.Simd.{first_chunks}
-use Rattle.std.proofs.Common.{◌≡◌, ℕ, zero, suc, ◌+◌, ◌-◌, ◌*◌, ◌/◌, ◌%◌, ◌<◌, ◌≤◌, min, Bool, true, false, leb, ◌⊎◌, List, [], ◌∷◌, ◌++◌, length, get_or, take, drop, replicate, sym, refl, ap, ◌∙◌, subst, ap₂, inl, inr, ⊎_elim, append-nil, le_of_lt, arith, length-append, drop-cons, drop-drop, leb-false, leb-true}
+use Rattle.std.proofs.Common.{◌≡◌, ℕ, zero, suc, ◌+◌, ◌-◌, ◌*◌, ◌/◌, ◌<◌, ◌≤◌, min, Bool, true, false, leb, ◌⊎◌, List, [], ◌∷◌, ◌++◌, length, get_or, take, drop, sym, refl, ap, ◌∙◌, subst, ap₂, inl, inr, ⊎_elim, le_of_lt, arith, length-append, drop-cons, drop-drop, leb-false, leb-true}
 use native.Mathlib.Nat.{min-le_left, min-le_right, min-eq_left, min-eq_right}
 use lib.Seq.{sets, length-sets}
 use Rattle.bus.specs.Memory.{Memory}
 use Rattle.transfer.specs.Transfer.{bytes_in, bytes_from}
 use Rattle.transfer.proofs.Laws.{length_bytes_in, from_in}
-use Rattle.midi.specs.Packer.{byte_count}
 use Rattle.bits.proofs.Lists.{sets_append}
 use Rattle.model.specs.Streams.{packet_data, packet_cables, each_packet, decoded}
 use Rattle.model.proofs.Decoded.{data_few, cables_few, each_few, InPacket, data_inside, cables_inside, each_split, each_take, cables_length}
@@ -134,23 +133,6 @@ module _ (bs : List ℕ) (i n : ℕ) (more : i + n ≤ length bs) (whole : (n �
 
 -- ---- one packet
 
-module _ (h x y z k : ℕ) (is : k ≡ byte_count (h % 16)) (out cs : List ℕ) (at : ℕ) where
-  -- n of its bytes
-  abbrev first : ℕ → List ℕ
-  first n = take n (x ∷ y ∷ z ∷ [])
-
-  pub one_packet : (n : ℕ) → k ≡ n → {out' cs' : List ℕ} {e : ℕ} → out' ≡ sets out at (first n) → cs' ≡ sets cs at (replicate (length (first n)) (h / 16))
-      → e ≡ at + length (first n) → Decodes 1 (h ∷ x ∷ y ∷ z ∷ []) out out' cs cs' at e
-  unfolding each_packet
-  one_packet n same area cables end =
-      let count : n ≡ byte_count (h % 16) = sym same ∙ is in
-      let bytes : first n ≡ first (byte_count (h % 16)) ++ [] = ap first count ∙ sym (append-nil (first (byte_count (h % 16)))) in
-      record {
-        area = area ∙ ap (sets out at) bytes;
-        cables = cables ∙ ap (λ (i : ℕ). sets cs at (replicate (length (first i)) (h / 16))) count ∙ ap (sets cs at) (sym (append-nil (replicate (length (first (byte_count (h % 16)))) (h / 16))));
-        behind = end ∙ ap (λ (l : List ℕ). at + length l) bytes;
-      }
-
 -- its four bytes
 pub take_four : (bs : List ℕ) (i : ℕ) → i + 4 ≤ length bs → take 4 (drop i bs) ≡ get_or bs i 0 ∷ get_or bs (i + 1) 0 ∷ get_or bs (i + 2) 0 ∷ get_or bs (i + 3) 0 ∷ []
 take_four bs i h =
@@ -186,11 +168,6 @@ decoding_packet {bs} {out₀} {out} {out'} {cs₀} {cs} {cs'} {start} {at} {at'}
     subst (λ (j : ℕ). Decoding bs out₀ out' cs₀ cs' start at' j) next
     (decoding_more bs (4 * i) 4 fits (inl refl) inv (subst (λ (l : List ℕ). Decodes 1 l out out' cs cs' at at') packet d))
 
--- the same bytes by another name
-pub decodes_as : {bs bs' out out' cs cs' : List ℕ} {at e n : ℕ} → bs ≡ bs' → length bs' ≡ n → Decodes (length bs / 4) bs out out' cs cs' at e → Decodes (n / 4) bs' out out' cs cs' at e
-decodes_as {bs} {bs'} {out} {out'} {cs} {cs'} {at} {e} same size d =
-    subst (λ (k : ℕ). Decodes (k / 4) bs' out out' cs cs' at e) size (subst (λ (l : List ℕ). Decodes (length l / 4) l out out' cs cs' at e) same d)
-
 -- ---- a turn of the loop over the pieces of a run of total bytes
 
 min_512 : (x : ℕ) → (min 512 x ≡ 512) ⊎ (min 512 x ≡ x)
@@ -206,9 +183,6 @@ module _ (total from n : ℕ) (goes : from < total) (is : n ≡ min 512 (total -
 
   pub piece_inside : from + n ≤ total
   piece_inside = omega (arith, is, min-le_right 512 (total - from))
-
-  pub piece_some : 0 < n
-  piece_some = ⊎_elim (λ e. omega (arith, is)) (λ e. omega (arith, is)) (min_512 (total - from))
 
   piece_whole : (n ≡ 4 * (n / 4)) ⊎ (from + n ≡ total)
   piece_whole = ⊎_elim (λ e. inl (omega (arith, is))) (λ e. inr (omega (arith, is))) (min_512 (total - from))

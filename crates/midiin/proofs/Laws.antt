@@ -1,12 +1,13 @@
 -- The reads of MIDI input, from what the code does.
-use Rattle.std.proofs.Common.{◌≡◌, ℕ, suc, ◌+◌, ◌*◌, ◌/◌, ◌%◌, ◌≤◌, Bool, true, false, not, ◌||◌, eqb, List, [], ◌∷◌, length, sym, refl, ap, ◌∙◌, subst, ap₂, arith, ne_eqb, eqb-true}
-use lib.Seq.{sets}
-use Rattle.bits.specs.Pick.{pick, pick_both}
+use Rattle.std.proofs.Common.{◌≡◌, ℕ, suc, ◌+◌, ◌*◌, ◌/◌, ◌≤◌, Bool, true, false, not, ◌||◌, eqb, List, [], ◌∷◌, length, sym, refl, ap, ◌∙◌, subst, ap₂, arith, ne_eqb, eqb-true}
+use Rattle.bits.specs.Pick.{pick}
 use Rattle.bits.specs.Word as W
 use Rattle.bus.specs.Memory.{Memory, memory}
+use Rattle.bus.specs.Windows.{contents, SameWindows}
+use Rattle.bus.specs.declared.windows.Windows.{Windows}
+use Rattle.bus.proofs.Lengths.{sized_of}
 use Rattle.bus.specs.Sized.{Sized}
 use Rattle.bus.specs.Stores as S
-use Rattle.bus.proofs.Places.{Kept, kept_refl, kept_trans}
 use Rattle.bus.specs.Words.{word_at, word_put}
 use Rattle.usbdev.specs.Offsets.{EPNAK}
 use Rattle.usbdev.specs.Registers.{registers, store}
@@ -15,11 +16,10 @@ use Rattle.usbdev.proofs.Tokens.{total_lt}
 use Rattle.transfer.specs.Transfer.{pointers, pointers_for, bytes_in}
 use Rattle.transfer.proofs.Laws.{length_bytes_in}
 use Rattle.transfer.proofs.Addresses.{bytes_for}
-use Rattle.dtd.specs.declared.Found.TheVariants.{Unprimed, Ended}
-use Rattle.dtd.specs.Dtd.{Endpoint, endpoint, primed, descriptor, settling, Run, run_dtds, found, active}
+use Rattle.dtd.specs.Dtd.{Endpoint, endpoint, primed, descriptor, Run, run_dtds, found, active}
 use Rattle.dtd.specs.declared.Ran.{Ran}
-use Rattle.dtd.specs.Promises.{TakesOne, Runs, none_ran}
-use Rattle.dtd.proofs.Runs.{single, runs_unprimed, runs_ended, runs_active}
+use Rattle.dtd.specs.Promises.{TakesOne, Runs, Idle}
+use Rattle.dtd.proofs.Runs.{says_active, runs_active, input_bytes}
 use Rattle.record.specs.declared.State.{State}
 use Rattle.record.specs.Record.{with_stats, counted, midi_dtds}
 use Rattle.record.specs.World.{World, at_page, with_receive_area, with_cables_area}
@@ -27,9 +27,9 @@ use Rattle.record.specs.Change.{count, cabled, received, apply, nothing}
 use Rattle.record.specs.Did.{Leads, after_run}
 use Rattle.record.proofs.Laws.{in_turn, by_true, by_false, unchanged, once, from_here, on_page_lem, run_then}
 use Rattle.model.specs.Phases.{changing}
-use Rattle.model.specs.Streams.{naks, reads, reads_at, midi_in, brought, nonempty, packet_data, packet_cables, each_packet, decoded, cables_of}
+use Rattle.model.specs.Streams.{naks, reads, reads_at, midi_in, brought, nonempty, each_packet, decoded, cables_of}
 use Rattle.streams.specs.Promises.{Fewer}
-use Rattle.streams.proofs.Found.{unprimed_bytes, ended_bytes, active_input, brings}
+use Rattle.model.proofs.Bytes.{run_bytes}
 use Rattle.streams.proofs.Laws.{fewer_same, fewer_then}
 use Rattle.midiin.specs.declared.Read.{Read}
 use Rattle.midiin.specs.Promises.{at_cabled, OnPage, Decodes, count_read, after_read, ReadsOne, Hears}
@@ -50,17 +50,6 @@ module _ (p : List ℕ) where
       }
 
 -- ---- one read
-
-module _ (s : State) (r : Ran) (total at : ℕ) (next : State) (is : next ≡ after_run s r) where
-  pub read_goes : r.done || not (eqb total 0) ≡ true → (t : State) → t ≡ count_read next at → record { state = t; stop = false } ≡ after_read s r total at
-  read_goes h t e =
-      ap (λ (x : State). record { state = x; stop = false }) (e ∙ ap (λ (x : State). count_read x at) is)
-      ∙ sym (ap (λ (b : Bool). pick b (record { state = count_read (after_run s r) at; stop = false }) (record { state = after_run s r; stop = true })) h)
-
-  pub read_stops : r.done || not (eqb total 0) ≡ false → record { state = next; stop = true } ≡ after_read s r total at
-  read_stops h =
-      ap (λ (x : State). record { state = x; stop = true }) is
-      ∙ sym (ap (λ (b : Bool). pick b (record { state = count_read (after_run s r) at; stop = false }) (record { state = after_run s r; stop = true })) h)
 
 abbrev MIDI_IN : Endpoint
 MIDI_IN = endpoint 1 true
@@ -100,11 +89,8 @@ module _ (s : State) (m m' : Memory) (out out' cs cs' : List ℕ) (r : Ran) (run
               p))));
           sized = run.does.sized;
           few = fewer_same refl;
-          most = omega (arith, puts.behind, decoded_few (length ran.bytes / 4) ran.bytes, (brings 1 (omega arith) m s.port.line).few);
+          most = omega (arith, puts.behind, decoded_few (length ran.bytes / 4) ran.bytes, run_bytes MIDI_IN refl [] (S.bus m s.port.line));
         }
-
-reads_as : {s : State} {m m' : Memory} {out out' cs cs' : List ℕ} {r r' : Read} → r ≡ r' → ReadsOne s m out cs r' m' out' cs' → ReadsOne s m out cs r m' out' cs'
-reads_as {s} {m} {m'} {out} {out'} {cs} {cs'} e p = subst (λ (x : Read). ReadsOne s m out cs x m' out' cs') (sym e) p
 
 -- a run of an active descriptor, by its total
 module _ (s : State) (m m' : Memory) (out out' cs cs' : List ℕ) (r : Ran) (run : Runs MIDI_IN [] (S.bus m s.port.line) (S.bus m' r.line) r)
@@ -120,56 +106,35 @@ module _ (s : State) (m m' : Memory) (out out' cs cs' : List ℕ) (r : Ran) (run
       (sym (ap nonempty is-bytes ∙ some bs ∙ ap (λ (k : ℕ). not (eqb k 0)) size))
 
   decodes : Decodes (length (run_dtds MIDI_IN [] (S.bus m s.port.line)).bytes / 4) (run_dtds MIDI_IN [] (S.bus m s.port.line)).bytes out out' cs cs' s.answer.received at
-  decodes =
-      subst (λ (l : List ℕ). Decodes (length l / 4) l out out' cs cs' s.answer.received at) (sym is-bytes)
-      (subst (λ (k : ℕ). Decodes (k / 4) bs out out' cs cs' s.answer.received at) (sym size) puts)
+  decodes = rw (is-bytes, size) puts
+
+  abbrev Reads : Bool → Type 0
+  Reads b = ReadsOne s m out cs (pick b (record { state = count_read (after_run s r) at; stop = false }) (record { state = after_run s r; stop = true })) m' out' cs'
 
   pub active_read : ReadsOne s m out cs (after_read s r total at) m' out' cs'
   unfolding each_packet
-  active_read = by_case (r.done || not (eqb total 0)) refl
+  active_read = by_case r.done (eqb total 0) refl refl
     where
-      by_case : (b : Bool) → r.done || not (eqb total 0) ≡ b → ReadsOne s m out cs (after_read s r total at) m' out' cs'
-      by_case true h =
-          reads_as (sym (read_goes s r total at (after_run s r) refl h (count_read (after_run s r) at) refl))
-          (heard_read s m m' out out' cs cs' r run (sym test ∙ h) at decodes)
-      by_case false h =
-          reads_as (sym (read_stops s r total at (after_run s r) refl h))
-          (subst (λ (x : List ℕ). ReadsOne s m out cs (record { state = after_run s r; stop = true }) m' x cs') (sym (same packet_data out puts.area))
-          (subst (λ (x : List ℕ). ReadsOne s m out cs (record { state = after_run s r; stop = true }) m' out x) (sym (same packet_cables cs puts.cables))
-          (quiet_read s m m' out cs r run (sym test ∙ h))))
-        where
-          both : (x y : Bool) → x || not y ≡ false → y ≡ true
-          both true y e = let z : ◌≡◌ {A = ℕ} 0 1 = cc in absurd (omega arith)
-          both false true e = refl
-          both false false e = let z : ◌≡◌ {A = ℕ} 0 1 = cc in absurd (omega arith)
-
-          none : total / 4 ≡ 0
-          none = omega (arith, eqb-true total 0 (both r.done (eqb total 0) h))
-
-          same : (form : List ℕ → List ℕ) (l : List ℕ) {l' : List ℕ} → l' ≡ sets l s.answer.received (each_packet form (total / 4) bs) → l' ≡ l
-          same form l e = e ∙ ap (λ (k : ℕ). sets l s.answer.received (each_packet form k bs)) none
+      by_case : (x y : Bool) → r.done ≡ x → eqb total 0 ≡ y → Reads (x || not y)
+      by_case true y p q = heard_read s m m' out out' cs cs' r run (sym test ∙ ap₂ (λ (a b : Bool). a || not b) p q) at decodes
+      by_case false false p q = heard_read s m m' out out' cs cs' r run (sym test ∙ ap₂ (λ (a b : Bool). a || not b) p q) at decodes
+      by_case false true p q =
+          let none : total / 4 ≡ 0 = omega (arith, eqb-true total 0 q) in
+          let area : out' ≡ out = rw none at puts.area in
+          let cables : cs' ≡ cs = rw none at puts.cables in
+          rw (area, cables) (quiet_read s m m' out cs r run (sym test ∙ ap₂ (λ (a b : Bool). a || not b) p q))
 
 -- ---- a read by what `find` says
+
+-- one that is over before a descriptor is moved
+pub idle_read : (s : State) {m m' : Memory} (out cs : List ℕ) {r : Ran} → Idle MIDI_IN [] (S.bus m s.port.line) (S.bus m' r.line) r → {t : State} → t ≡ after_run s r
+    → ReadsOne s m out cs (record { state = t; stop = true }) m' out cs
+idle_read s {m} {m'} out cs {r} i e =
+    rw e (quiet_read s m m' out cs r i.runs (ap₂ (λ (x : Bool) (l : List ℕ). x || nonempty l) (sym i.runs.done ∙ ap (λ (x : Ran). x.done) i.nothing) i.bytes))
 
 module _ (s : State) (m : Memory) (out cs : List ℕ) (z : Sized m) where
   abbrev before : S.Bus
   before = S.bus m s.port.line
-
-  none_brought : (run_dtds MIDI_IN [] before).done ≡ false → (run_dtds MIDI_IN [] before).bytes ≡ [] → brought (run_dtds MIDI_IN [] before) ≡ false
-  none_brought p q = ap₂ (λ (x : Bool) (l : List ℕ). x || nonempty l) p q
-
-  pub unprimed_read : found MIDI_IN m ≡ Unprimed → (r : Ran) → r ≡ none_ran s.port.line → (t : State) → t ≡ after_run s r → ReadsOne s m out cs (record { state = t; stop = true }) m out cs
-  unprimed_read f r is t e =
-      let run = runs_unprimed MIDI_IN [] m s.port.line z f in
-      reads_as (ap (λ (x : State). record { state = x; stop = true }) (e ∙ ap (after_run s) is))
-      (quiet_read s m m out cs (none_ran s.port.line) run (none_brought (sym run.done) (unprimed_bytes 1 (omega arith) m s.port.line f)))
-
-  pub ended_read : found MIDI_IN m ≡ Ended → (m' : Memory) (line : Bool) → S.Does (settling 0x20000 1 false) before (S.bus m' line) 0
-      → (r : Ran) → r ≡ none_ran line → (t : State) → t ≡ after_run s r → ReadsOne s m out cs (record { state = t; stop = true }) m' out cs
-  ended_read f m' line does r is t e =
-      let run = runs_ended MIDI_IN [] m s.port.line z (single 1 true (omega arith)) f does in
-      reads_as (ap (λ (x : State). record { state = x; stop = true }) (e ∙ ap (after_run s) is))
-      (quiet_read s m m' out cs (none_ran line) run (none_brought (sym run.done) (ended_bytes 1 (omega arith) m s.port.line f)))
 
   module _ (qh td tok : ℕ) (f : found MIDI_IN m ≡ active qh td tok) (m' : Memory) (out' cs' : List ℕ) (r : Ran) (takes : TakesOne qh td tok 0x20000 before (S.bus m' r.line) r)
       (total d : ℕ) (ps : List ℕ) (at : ℕ) (is-total : total ≡ total_of tok) (is-d : d ≡ descriptor td) (is-ps : ps ≡ pointers_for m d total)
@@ -182,74 +147,55 @@ module _ (s : State) (m : Memory) (out cs : List ℕ) (z : Sized m) where
         ap (λ (x : List ℕ). bytes_in m x total) is-ps ∙ bytes_for m d total few_total m total (omega arith)
         ∙ ap (λ (x : ℕ). bytes_in m (pointers m x) total) is-d
 
-    run_bytes : (run_dtds MIDI_IN [] before).bytes ≡ bytes_in m (pointers m (descriptor td)) total
-    run_bytes = active_input 1 (omega arith) m s.port.line qh td tok f ∙ ap (bytes_in m (pointers m (descriptor td))) (sym is-total)
+    found_bytes : (run_dtds MIDI_IN [] before).bytes ≡ bytes_in m (pointers m (descriptor td)) total
+    found_bytes = input_bytes 1 (omega arith) m s.port.line qh td tok (says_active MIDI_IN m qh td tok f) ∙ ap (bytes_in m (pointers m (descriptor td))) (sym is-total)
 
     pub found_read : {x : Read} → x ≡ after_read s r total at → ReadsOne s m out cs x m' out' cs'
     found_read e =
-        reads_as e
-        (active_read s m m' out out' cs cs' r (runs_active MIDI_IN [] m s.port.line z (single 1 true (omega arith)) qh td tok f 0x20000 refl (takes 1)) total at
-        (bytes_in m (pointers m (descriptor td)) total) run_bytes (length_bytes_in m (pointers m (descriptor td)) total)
+        rw e
+        (active_read s m m' out out' cs cs' r (runs_active MIDI_IN [] m s.port.line z refl qh td tok f 0x20000 refl (takes 1)) total at
+        (bytes_in m (pointers m (descriptor td)) total) found_bytes (length_bytes_in m (pointers m (descriptor td)) total)
         (subst (λ (l : List ℕ). Decodes (total / 4) l out out' cs cs' s.answer.received at) same_bytes puts))
 
 -- ---- the loop over reads: what is left to read from here leads to where the whole does
 
-pub record Reading (count : ℕ) (s₀ : State) (m₀ : Memory) (out₀ cs₀ : List ℕ) (s : State) (m : Memory) (out cs : List ℕ) (left : ℕ) : Type 0 where
-  pub goes : (w : World) {c : World} → Leads (reads left) (at_cabled w s m out cs) c → Leads (reads count) (at_cabled w s₀ m₀ out₀ cs₀) c
-  pub sized : Sized m
+pub record Reading (count : ℕ) (s₀ : State) (w₀ : Windows) (out₀ cs₀ : List ℕ) (s : State) (w : Windows) (out cs : List ℕ) (left : ℕ) : Type 0 where
+  pub goes : (v : World) {c : World} → Leads (reads left) (at_cabled v s (contents w) out cs) c → Leads (reads count) (at_cabled v s₀ (contents w₀) out₀ cs₀) c
   pub few : Fewer s₀.lengths s.lengths
-  pub windows : Kept m₀ m
-  pub long : (length out ≡ length out₀) × (length cs ≡ length cs₀)
+  pub same : SameWindows w₀ w
   pub room : (s.answer.received + left * 24573 ≤ length out) × (s.answer.received + left * 24573 ≤ length cs)
 
-module _ {count : ℕ} {s₀ : State} {m₀ : Memory} {out₀ cs₀ : List ℕ} where
-  pub reading_first : Sized m₀ → (s₀.answer.received + count * 24573 ≤ length out₀) × (s₀.answer.received + count * 24573 ≤ length cs₀) → Reading count s₀ m₀ out₀ cs₀ s₀ m₀ out₀ cs₀ count
-  reading_first z room =
-      record { goes = λ w p. p; sized = z; few = fewer_same refl; windows = kept_refl m₀; long = (refl, refl); room = room }
+module _ {count : ℕ} {s₀ : State} {w₀ : Windows} {out₀ cs₀ : List ℕ} {s : State} {w : Windows} {out cs : List ℕ} {left : ℕ} (inv : Reading count s₀ w₀ out₀ cs₀ s w out cs left) where
+  pub reading_end : left ≡ 0 → Hears (reads count) s₀ (contents w₀) out₀ cs₀ s (contents w) out cs
+  unfolding reads
+  reading_end h =
+      record {
+        leads = λ v. inv.goes v (rw h (unchanged _));
+        sized = sized_of w;
+        few = inv.few;
+      }
 
-  module _ {s : State} {m : Memory} {out cs : List ℕ} {left : ℕ} (inv : Reading count s₀ m₀ out₀ cs₀ s m out cs left) where
-    pub reading_end : left ≡ 0 → Hears (reads count) s₀ m₀ out₀ cs₀ s m out cs
-    unfolding reads
-    reading_end h =
+  -- one more read
+  module _ (k : ℕ) (is : left ≡ suc k) where
+    pub reading_stop : {r : Read} {m' : Memory} {out' cs' : List ℕ} → ReadsOne s (contents w) out cs r m' out' cs' → r.stop ≡ true → Hears (reads count) s₀ (contents w₀) out₀ cs₀ r.state m' out' cs'
+    reading_stop read h =
         record {
-          leads = λ w. inv.goes w (subst (λ (n : ℕ). Leads (reads n) (at_cabled w s m out cs) (at_cabled w s m out cs)) (sym h) (unchanged (at_cabled w s m out cs)));
-          sized = inv.sized;
-          few = inv.few;
+          leads = λ v. inv.goes v (rw is (read.goes k v (rw h (unchanged _))));
+          sized = read.sized;
+          few = fewer_then inv.few read.few;
         }
 
-    -- one more read
-    module _ (k : ℕ) (is : left ≡ suc k) {r : Read} {m' : Memory} {out' cs' : List ℕ} (read : ReadsOne s m out cs r m' out' cs') where
-      next : (w : World) {c : World} (b : Bool) → r.stop ≡ b → Leads (pick b nothing (reads k)) (at_cabled w r.state m' out' cs') c → Leads (reads count) (at_cabled w s₀ m₀ out₀ cs₀) c
-      next w {c} b h p =
-          inv.goes w
-          (subst (λ (n : ℕ). Leads (reads n) (at_cabled w s m out cs) c) (sym is)
-          (read.goes k w (subst (λ (x : Bool). Leads (pick x nothing (reads k)) (at_cabled w r.state m' out' cs') c) (sym h) p)))
-
-      pub reading_stop : r.stop ≡ true → Hears (reads count) s₀ m₀ out₀ cs₀ r.state m' out' cs'
-      reading_stop h =
-          record {
-            leads = λ w. next w true h (unchanged (at_cabled w r.state m' out' cs'));
-            sized = read.sized;
-            few = fewer_then inv.few read.few;
-          }
-
-      pub reading_more : r.stop ≡ false → Kept m m' → length out' ≡ length out → length cs' ≡ length cs → Reading count s₀ m₀ out₀ cs₀ r.state m' out' cs' k
-      reading_more h kept same same-cables =
-          record {
-            goes = λ w p. next w false h p;
-            sized = read.sized;
-            few = fewer_then inv.few read.few;
-            windows = kept_trans inv.windows kept;
-            long = (same ∙ inv.long.0, same-cables ∙ inv.long.1);
-            room = omega (arith, inv.room, is, read.most, same, same-cables);
-          }
+    pub reading_more : {r : Read} {w' : Windows} {out' cs' : List ℕ} → ReadsOne s (contents w) out cs r (contents w') out' cs' → r.stop ≡ false
+        → SameWindows w w' → length out' ≡ length out → length cs' ≡ length cs → Reading count s₀ w₀ out₀ cs₀ r.state w' out' cs' k
+    reading_more read h kept long long-cables =
+        record {
+          goes = λ v p. inv.goes v (rw is (read.goes k v (rw h p)));
+          few = fewer_then inv.few read.few;
+          same = record { dynamic = kept.dynamic ∙ inv.same.dynamic; sram = kept.sram ∙ inv.same.sram; page = kept.page ∙ inv.same.page };
+          room = omega (arith, inv.room, is, read.most, long, long-cables);
+        }
 
 -- ---- the whole of MIDI input
-
--- eight reads at most
-pub reads_few : (every uf : ℕ) → reads_at every uf ≤ 8
-reads_few every uf =
-    pick_both (λ (n : ℕ). n ≤ 8) (eqb every 0) (omega arith) (pick_both (λ (n : ℕ). n ≤ 8) (eqb (uf % every) 0) (omega arith) (omega arith))
 
 module _ (every : ℕ) (s t : State) (d f p p' : List ℕ) (m' : Memory) (out out' cs cs' : List ℕ) (naked : OnPage naks p p') (count : ℕ) (is : count ≡ reads_at every s.port.uf)
     (all : Hears (reads count) s (memory d f p') out cs t m' out' cs') where

@@ -22,6 +22,7 @@ const MIDI_IN: u32 = 0x2_0000;
 const PIECE: usize = 512;
 
 // One packet: as many of its bytes as its code says go to `receive` from `at` on, and its cable beside each; the place behind them.
+#[tactic(auto, using(model::proofs::Decoded::count_few), unfolding(model::specs::Streams::each_packet))]
 fn decode_packet(
     receive: &mut [u8],
     cables: &mut [u8],
@@ -104,9 +105,7 @@ fn decode_run(
     while from < total {
         let n = PIECE.min(total - from);
         let part = &mut piece[..n];
-        at = decode_some(
-            view, pointers, from, part, receive, cables, at,
-        );
+        at = decode_some(view, pointers, from, part, receive, cables, at);
         from += n;
     }
     at
@@ -146,6 +145,7 @@ fn after_read(s: State, ran: Ran, total: usize, at: usize) -> Read
 }
 
 // A read of an active descriptor: its bytes are decoded before it is retired.
+#[tactic(auto, using(usbdev::proofs::Tokens::total_lt))]
 fn read_active(
     s: State,
     windows: &mut Windows<'_>,
@@ -161,25 +161,18 @@ fn read_active(
     let total = usbdev::total(descriptor.token) as usize;
     let start = s.answer.received;
     let ps = transfer::pointers_for(windows.view(), bits::clear(descriptor.pointer, 0x1F), total);
-    let at = decode_run(
-        windows.view(), &ps, total, receive, cables, start,
-    );
-    let ran = dtd::take_one(windows, descriptor, MIDI_IN, s.port.line);
+    let at = decode_run(windows.view(), &ps, total, receive, cables, start);
+    let ran = dtd::take_one(windows, descriptor, s.port.line);
     after_read(s, ran, total, at)
 }
 
 // One read.
-fn read_one(
-    s: State,
-    windows: &mut Windows<'_>,
-    receive: &mut [u8],
-    cables: &mut [u8],
-) -> Read
+fn read_one(s: State, windows: &mut Windows<'_>, receive: &mut [u8], cables: &mut [u8]) -> Read
     requires { P.Room s.answer.received 24573 receive.old cables.old }
     ensures left { P.ReadsOne s (contents windows.old) receive.old cables.old result (contents windows.new) receive.new cables.new }
     ensures same { SameWindows windows.old windows.new }
 {
-    match dtd::begin(windows, 1, true, MIDI_IN, s.port.line) {
+    match dtd::begin(windows, 1, true, s.port.line) {
         Ok(descriptor) => read_active(s, windows, receive, cables, descriptor),
         Err(ran) => Read {
             state: s.after_run(ran),
@@ -212,8 +205,10 @@ fn read_all(
 }
 
 // Polling MIDI input with nothing primed shows as a NAK.
+#[tactic(auto, using(crate::proofs::Laws::nak_none, crate::proofs::Laws::nak_set), unfolding(dtd::specs::Dtd::primed))]
 fn nak(page: &mut [u8; PAGE])
-    ensures { P.OnPage M.naks page.old page.new }
+    ensures did { P.OnPage M.naks page.old page.new }
+    ensures long { length page.new ≡ length page.old }
 {
     if bits::any(word_at(&*page, EPSR), MIDI_IN) {
         return;

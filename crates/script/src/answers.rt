@@ -60,7 +60,7 @@ pub fn flag(out: &mut Output, on: bool)
 // A byte as two digits.
 pub fn pair(out: &mut Output, b: u8)
     ensures behind { Behind 2 out.old out.new }
-    ensures both { length out.old + 2 ≤ 65536 → length out.new ≡ length out.old + 2 }
+    ensures both { length out.old.bytes + 2 ≤ 65536 → length out.new.bytes ≡ length out.old.bytes + 2 }
 {
     out.append_first(&[glyph(b / 16), glyph(b % 16)], 2);
 }

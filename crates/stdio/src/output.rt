@@ -1,11 +1,12 @@
 // Standard output, or none, from a buffer: what has no room makes it write what it holds; behind a write that failed nothing is written any more.
-ghost use Rattle.std.specs.Prelude.{◌≡◌, ◌+◌, ◌<◌, ◌≤◌, [], ◌∷◌, ◌++◌, length, take};
+ghost use Rattle.std.specs.Prelude.{◌≡◌, ◌+◌, ◌<◌, ◌≤◌, [], ◌∷◌, length, take};
+ghost use Rattle.stdio.specs.Held.{fresh, more, Stays};
 
 use std::fmt;
 use std::io::Write;
 use std::marker::Model;
 
-// A clause sees what the buffer holds.
+// A clause sees what the buffer holds, and whether a write failed.
 #[derive(Drop)]
 pub struct Output {
     buffer: [u8; 65536],
@@ -15,11 +16,12 @@ pub struct Output {
 }
 
 impl Model for Output {
-    ghost use Rattle.std.specs.Prelude.{ℕ, List, ◌≤◌, take};
+    ghost use Rattle.std.specs.Prelude.{◌≤◌, take};
+    ghost use Rattle.stdio.specs.Held.{Held};
 
-    ghost Value = { List ℕ };
+    ghost Value = { Held };
 
-    ghost view = { λ o. take o.held o.buffer };
+    ghost view = { λ o. record { bytes = take o.held o.buffer; failed = o.failed } };
 
     ghost invariant = { λ o. o.held ≤ 65536 };
 }
@@ -27,7 +29,7 @@ impl Model for Output {
 impl Output {
     // An output that holds nothing.
     fn empty(rt: Option<HostRuntime>) -> Self
-        ensures { result ≡ [] }
+        ensures { result ≡ fresh }
     {
         Output {
             buffer: [0; 65536],
@@ -39,26 +41,29 @@ impl Output {
 
     // An output of a program that has written nothing.
     pub fn new(rt: HostRuntime) -> Self
-        ensures { result ≡ [] }
+        ensures { result ≡ fresh }
     {
         Output::empty(Some(rt))
     }
 
     // An output whose text goes nowhere.
     pub fn nowhere() -> Self
-        ensures { result ≡ [] }
+        ensures { result ≡ fresh }
     {
         Output::empty(None)
     }
 
     // Whether a write failed.
-    pub fn failed(&self) -> bool {
+    pub fn failed(&self) -> bool
+        ensures { result ≡ self.now.failed }
+    {
         self.failed
     }
 
     // Writes a text past the buffer, unless a write failed.
     fn pass(&mut self, text: &[u8])
-        ensures { self.new ≡ self.old }
+        ensures held { self.new.bytes ≡ self.old.bytes }
+        ensures stays { Stays self.old self.new }
     {
         if let Some(rt) = self.rt
             && !self.failed
@@ -72,7 +77,8 @@ impl Output {
     #[cold]
     #[inline(never)]
     pub fn flush(&mut self)
-        ensures { self.new ≡ [] }
+        ensures emptied { self.new.bytes ≡ [] }
+        ensures stays { Stays self.old self.new }
     {
         if let Some(rt) = self.rt
             && !self.failed
@@ -86,8 +92,9 @@ impl Output {
     // Room for `count` bytes behind those held, or in a buffer that is empty again.
     fn reserve(&mut self, count: usize)
         requires { count ≤ 65536 }
-        ensures room { length self.new + count ≤ 65536 }
-        ensures kept { length self.old + count ≤ 65536 → self.new ≡ self.old }
+        ensures room { length self.new.bytes + count ≤ 65536 }
+        ensures kept { length self.old.bytes + count ≤ 65536 → self.new ≡ self.old }
+        ensures stays { Stays self.old self.new }
     {
         if 65536 - self.held < count {
             self.flush();
@@ -96,7 +103,8 @@ impl Output {
 
     // A byte.
     pub fn put(&mut self, b: u8)
-        ensures { length self.old < 65536 → self.new ≡ self.old ++ b ∷ [] }
+        ensures held { length self.old.bytes < 65536 → self.new ≡ more self.old (b ∷ []) }
+        ensures stays { Stays self.old self.new }
     {
         self.reserve(1);
         self.buffer[self.held] = b;
@@ -105,7 +113,8 @@ impl Output {
 
     // A text; one that is longer than the buffer is written past it.
     pub fn append(&mut self, text: &[u8])
-        ensures { length self.old + length text.now ≤ 65536 → self.new ≡ self.old ++ text.now }
+        ensures held { length self.old.bytes + length text.now ≤ 65536 → self.new ≡ more self.old text.now }
+        ensures stays { Stays self.old self.new }
     {
         if self.buffer.len() < text.len() {
             self.flush();
@@ -121,7 +130,8 @@ impl Output {
     // The first `count` bytes of a short text.
     pub fn append_first<const N: usize>(&mut self, text: &[u8; N], count: usize)
         requires { (count ≤ N) × (N ≤ 65536) }
-        ensures { length self.old + N ≤ 65536 → self.new ≡ self.old ++ take count text.now }
+        ensures held { length self.old.bytes + N ≤ 65536 → self.new ≡ more self.old (take count text.now) }
+        ensures stays { Stays self.old self.new }
     {
         self.reserve(N);
         let end = self.held + N;
@@ -131,15 +141,19 @@ impl Output {
 
     // The end of a program: what the buffer holds is written, and what could not be read or written is said on standard error, as that `work`,
     // which is `the log is` or the like, is not whole. Whether that can be said is not asked.
-    pub fn finish(&mut self, program: &str, work: &str, unread: bool) {
-        let Some(rt) = self.rt else {
-            return;
-        };
-        if unread {
+    pub fn finish(&mut self, program: &str, work: &str, unread: bool)
+        ensures emptied { self.new.bytes ≡ [] }
+        ensures stays { Stays self.old self.new }
+    {
+        if let Some(rt) = self.rt
+            && unread
+        {
             let _ = eprintln!(rt; "{program}: standard input could not be read; {work} not whole");
         }
         self.flush();
-        if self.failed {
+        if let Some(rt) = self.rt
+            && self.failed
+        {
             let _ = eprintln!(rt;
                 "{program}: standard output could not be written; {work} not whole"
             );
@@ -148,7 +162,7 @@ impl Output {
 }
 
 impl fmt::Write for Output {
-    ghost write_str_gives = { λ old text new. length old + length text ≤ 65536 → new ≡ old ++ text };
+    ghost write_str_gives = { λ old text new. length old.bytes + length text ≤ 65536 → new ≡ more old text };
 
     fn write_str(&mut self, s: &str) -> fmt::Result {
         self.append(s.as_bytes());

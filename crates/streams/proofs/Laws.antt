@@ -30,7 +30,8 @@ use Rattle.model.specs.Streams.{ready, fitting, drains_serial, serial_step, drai
 use Rattle.streams.specs.declared.Taken.{Taken}
 use Rattle.streams.specs.Promises.{at_receive, packet_of, served, Fewer, GivesBytes, Gives, Receives, Serves, ServesBoth}
 use Rattle.model.specs.Streams.{takes_serial, gives_serial}
-use Rattle.streams.proofs.Found.{active_ready, active_token, brings}
+use Rattle.streams.proofs.Found.{active_ready, active_token, moved_bytes}
+use Rattle.model.proofs.Bytes.{run_bytes}
 
 -- ---- what is in use
 
@@ -59,7 +60,7 @@ module _ (s : State) (m m' : Memory) (r : Ran) (run : Runs (endpoint 2 true) [] 
   counting t k = with_stats t (counted vendor_in_bytes k t.stats)
 
   same_count : r.moved ≡ length bytes
-  same_count = run.moved ∙ (brings 2 (omega arith) m s.port.line).moved
+  same_count = run.moved ∙ moved_bytes 2 (omega arith) m s.port.line
 
   pub vendor_steps : {t : State} → t ≡ counting next r.moved → Did reads_vendor s m t m'
   unfolding reads_vendor apply
@@ -110,7 +111,7 @@ module _ (s : State) (m m' : Memory) (out out' : List ℕ) (filled : Filled)
   arrived t k = with_answer t (with_count t.answer k)
 
   whole : take (length out - s.answer.received) brought ≡ brought
-  whole = take_all (length out - s.answer.received) brought (omega (arith, (brings 2 (omega arith) m s.port.line).few))
+  whole = take_all (length out - s.answer.received) brought (omega (arith, run_bytes (endpoint 2 true) refl [] (S.bus m s.port.line)))
 
   area : out' ≡ sets out s.answer.received brought
   unfolding kept

@@ -2,5 +2,5 @@
 use Rattle.audio.proofs.Laws.{stream_steps}
 use Rattle.audio.proofs.stream.Goals as goal
 
-pub returns : goal.returns
-returns c = stream_steps _ _ _ _ _ _ _ _ _ c.stream_in-next.ensures c.stream_out.ensures
+pub returns-clause-left : goal.returns-clause-left
+returns-clause-left c = stream_steps _ _ _ _ _ _ _ _ _ c.stream_in-next.ensures.left c.stream_out.ensures.left

@@ -1,14 +1,13 @@
 -- `audio::stream_out` meets its contract.
-use Rattle.std.proofs.Common.{sym, ◌∙◌}
+use Rattle.bus.proofs.Lengths.{sized_of}
 use Rattle.audio.proofs.Laws.{out_short, out_unprimed, out_ended}
 use Rattle.audio.proofs.stream_out.Goals as goal
 
-pub returns-then-s : goal.returns-then-s
-returns-then-s c = out_short _ _ _ c.requires.sized c.requires.can_send c.if-s.true
+pub returns-then-s-clause-left : goal.returns-then-s-clause-left
+returns-then-s-clause-left c = out_short _ _ _ (sized_of c.args.windows.now) c.requires c.if-s.true
 
-pub returns-in-Unprimed : goal.returns-in-Unprimed
-returns-in-Unprimed c = out_unprimed _ _ _ c.requires.sized c.requires.can_send (sym c.find.ensures ∙ c.in-Unprimed.is)
+pub returns-in-Unprimed-clause-left : goal.returns-in-Unprimed-clause-left
+returns-in-Unprimed-clause-left c = out_unprimed _ _ _ (sized_of c.args.windows.now) c.requires (cc)
 
-pub returns-in-Ended : goal.returns-in-Ended
-returns-in-Ended c =
-    out_ended _ _ _ c.requires.sized c.requires.can_send c.if-s.false (sym c.find.ensures ∙ c.in-Ended.is) _ _ c.unprime.ensures
+pub returns-in-Ended-clause-left : goal.returns-in-Ended-clause-left
+returns-in-Ended-clause-left c = out_ended _ _ _ (sized_of c.args.windows.now) c.requires c.if-s.false (cc) _ _ c.unprime.ensures.left

@@ -1,5 +1,5 @@
 -- `dtd::begin` meets its contract. Assumes nothing.
-use Rattle.std.proofs.Common.{ℕ, false, sym, refl, ap, ◌∙◌}
+use Rattle.std.proofs.Common.{ℕ, false, sym, ap, ◌∙◌}
 use Rattle.bus.specs.Windows.{contents}
 use Rattle.bus.specs.Stores.{bus}
 use Rattle.bus.proofs.Lengths.{sized_of}
@@ -20,6 +20,3 @@ returns-in-Ended-clause-left c =
     let f = sym (c.in-Ended.ensures ∙ ap (found e) c.view.ensures) in
     let settled = does_as (ap (λ (x : ℕ). settling x 1 false (bus (contents c.args.windows.now) c.args.flag)) c.bit_of.ensures) c.settle.ensures.left in
     λ bs. idle_as c.none_ran-in-Ended.ensures (idle_ended e bs (contents c.args.windows.now) c.args.flag (sized_of c.args.windows.now) (single c.args.ep c.args.dir_in c.requires.0) f settled)
-
-pub returns-in-Active-clause-left : goal.returns-in-Active-clause-left
-returns-in-Active-clause-left c = (sym (c.find.ensures ∙ ap (found (endpoint c.args.ep c.args.dir_in)) c.view.ensures) ∙ c.in-Active.is, refl)

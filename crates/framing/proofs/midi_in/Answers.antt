@@ -1,15 +1,39 @@
 -- `framing::midi_in` meets its contract.
-use mathlib.Core.Path.{sym, ◌∙◌}
+use Rattle.std.proofs.Common.{refl, sym, ap, ◌∙◌}
 use borrow.Author.Tests.{not-true, not-false}
-use Rattle.bus.specs.Memory.{memory}
-use Rattle.framing.proofs.Steps.{midi_off, midi_sleeps_lem, midi_wakes}
+use Rattle.bus.specs.Windows.{contents}
+use Rattle.bus.proofs.Lengths.{sized_of}
+use Rattle.record.specs.declared.State.{State}
+use Rattle.record.specs.Record.{midi_asleep}
+use Rattle.record.proofs.Laws.{by_true, by_false, unchanged}
+use Rattle.record.proofs.Counters.{counts_one}
+use Rattle.model.specs.Phases.{sleeps}
+use Rattle.model.specs.Streams.{midi_in}
+use Rattle.streams.proofs.Laws.{fewer_same}
+use Rattle.midiin.specs.Promises.{at_cabled}
 use Rattle.framing.proofs.midi_in.Goals as goal
 
-pub returns-then-not-c : goal.returns-then-not-c
-returns-then-not-c c = let a = c.args in midi_off a.c a.time a.s (memory a.dynamic.now a.sram.now a.page.now) a.receive.now a.cables.now (not-true _ c.if-not-c.true) c.requires.sized
+pub returns-then-not-c-clause-left : goal.returns-then-not-c-clause-left
+returns-then-not-c-clause-left c =
+    record {
+      leads = λ w. by_false _ _ _ (not-true _ c.if-not-c.true) (unchanged _);
+      sized = sized_of c.args.windows.now;
+      few = fewer_same refl;
+    }
 
-pub returns-then-in_span : goal.returns-then-in_span
-returns-then-in_span c = let a = c.args in midi_sleeps_lem a.c a.time a.s (memory a.dynamic.now a.sram.now a.page.now) a.receive.now a.cables.now (not-false _ c.if-not-c.false) (sym c.in_span.ensures ∙ c.if-in_span.true) _ c.count.ensures c.requires.sized
+pub returns-then-in_span-clause-left : goal.returns-then-in_span-clause-left
+unfolding midi_in sleeps
+returns-then-in_span-clause-left c =
+    let a = c.args in
+    let asleep = sym c.in_span.ensures ∙ c.if-in_span.true in
+    record {
+      leads = λ w. by_true _ _ _ (not-false _ c.if-not-c.false) (rw asleep (counts_one midi_asleep 1 (at_cabled w a.s (contents a.windows.now) a.receive.now a.cables.now) c.count.ensures));
+      sized = sized_of a.windows.now;
+      few = fewer_same (ap (λ (x : State). x.lengths) c.count.ensures);
+    }
 
-pub returns : goal.returns
-returns c = let a = c.args in midi_wakes a.c a.time a.s (memory a.dynamic.now a.sram.now a.page.now) a.receive.now a.cables.now (not-false _ c.if-not-c.false) (sym c.in_span.ensures ∙ c.if-in_span.false) _ _ _ _ c.midi_step.ensures
+pub returns-clause-left : goal.returns-clause-left
+returns-clause-left c =
+    let heard = c.midi_step.ensures.left in
+    let awake = sym c.in_span.ensures ∙ c.if-in_span.false in
+    record { leads = λ w. by_true _ _ _ (not-false _ c.if-not-c.false) (rw awake (heard.leads w)); sized = heard.sized; few = heard.few }

@@ -1,13 +1,30 @@
 -- `framing::overbridge` meets its contract.
-use native.Mathlib.Omega.{arith}
-use Rattle.framing.proofs.Steps.{streams_midi, streams_answered, bridge_goes}
+use Rattle.std.proofs.Common.{arith}
+use Rattle.bus.specs.Windows.{contents}
+use Rattle.record.proofs.Laws.{in_turn}
+use Rattle.model.specs.Microframe.{others}
+use Rattle.framing.specs.Promises.{at_flow}
+use Rattle.framing.proofs.Steps.{streams_midi, streams_answered}
 use Rattle.framing.proofs.overbridge.Goals as goal
 
 pub midi_in-heard-requires : goal.midi_in-heard-requires
-midi_in-heard-requires c = let e = streams_answered c.args.c _ _ _ _ _ _ _ c.stream-streamed.ensures in record { sized = c.stream-streamed.ensures.sized; received_in_bounds = omega (arith, e, c.requires.in_bounds.1.none, c.requires.in_bounds.0.0, c.requires.in_bounds.0.1.0) }
+midi_in-heard-requires c =
+    let e = streams_answered c.args.c _ _ _ _ _ _ _ c.stream-streamed.ensures.left in omega (arith, e, c.requires.1.none)
 
 pub stack_step-requires : goal.stack_step-requires
-stack_step-requires c = let e = streams_midi c.args.c _ _ _ _ _ _ _ c.stream-streamed.ensures in record { sized = c.midi_in-heard.ensures.sized; midi_bound = omega (arith, e, c.midi_in-heard.ensures.few.midi, c.requires.in_bounds.1.midi) }
+stack_step-requires c =
+    let e = streams_midi c.args.c _ _ _ _ _ _ _ c.stream-streamed.ensures.left in omega (arith, e, c.midi_in-heard.ensures.left.few.midi, c.requires.1.midi)
 
-pub returns : goal.returns
-returns c = bridge_goes c.args.c c.args.time _ _ _ _ _ _ _ _ _ _ _ _ _ _ _ _ _ c.stream-streamed.ensures c.midi_in-heard.ensures c.stack_step.ensures
+pub returns-clause-left : goal.returns-clause-left
+unfolding others
+returns-clause-left c =
+    let a = c.args in
+    let streamed = c.stream-streamed in
+    let heard = c.midi_in-heard in
+    record {
+      leads =
+          λ w. in_turn (streamed.ensures.left.leads (at_flow w a.s (contents a.windows.now) a.midi.now w.own.serial a.receive.now a.cables.now a.received.now a.sending.now))
+          (in_turn (heard.ensures.left.leads (at_flow w streamed.result (contents streamed.new.windows) a.midi.now w.own.serial a.receive.now a.cables.now streamed.new.received a.sending.now))
+          (c.stack_step.ensures.left.leads (at_flow w heard.result (contents heard.new.windows) a.midi.now w.own.serial heard.new.receive heard.new.cables streamed.new.received a.sending.now)));
+      sized = c.stack_step.ensures.left.sized;
+    }

@@ -1,12 +1,41 @@
 -- `framing::streaming` meets its contract.
-use Rattle.framing.proofs.Steps.{not_streaming, no_stream, stream_serial, stream_bridge}
+use Rattle.std.proofs.Common.{ap}
+use Rattle.bus.specs.Windows.{contents}
+use Rattle.bus.proofs.Lengths.{sized_of}
+use Rattle.record.proofs.Laws.{by_true, by_false, unchanged}
+use Rattle.model.specs.Microframe.{streaming, transfers}
+use Rattle.framing.specs.Promises.{at_flow}
+use Rattle.framing.proofs.Steps.{not_streaming}
 use Rattle.framing.proofs.streaming.Goals as goal
 
-pub returns-in_default : goal.returns-in_default
-returns-in_default c = let a = c.args in no_stream a.c a.time a.s _ _ _ _ _ _ _ (not_streaming a.s.phase c.in_default.not-Stream) c.requires.sized
+pub returns-in_default-clause-left : goal.returns-in_default-clause-left
+unfolding transfers
+returns-in_default-clause-left c =
+    record {
+      leads = λ w. by_false _ _ _ (not_streaming c.args.s.phase c.in_default.not-Stream) (unchanged _);
+      sized = sized_of c.args.windows.now;
+    }
 
-pub returns-then-c : goal.returns-then-c
-returns-then-c c = let a = c.args in stream_serial a.c a.time a.s _ a.midi.now _ _ a.cables.now a.received.now a.sending.now c.in-Stream.is c.if-c.true _ _ _ _ c.serial_step.ensures
+pub returns-then-c-clause-left : goal.returns-then-c-clause-left
+unfolding transfers
+returns-then-c-clause-left c =
+    let a = c.args in
+    let served = c.serial_step.ensures.left in
+    record {
+      leads =
+          λ w. by_true _ _ _ (ap streaming c.in-Stream.is)
+          (by_true _ _ _ c.if-c.true (served.leads (at_flow w a.s (contents a.windows.now) a.midi.now a.serial.now a.receive.now a.cables.now a.received.now a.sending.now)));
+      sized = served.sized;
+    }
 
-pub returns : goal.returns
-returns c = let a = c.args in stream_bridge a.c a.time a.s _ _ a.serial.now _ _ _ _ c.in-Stream.is c.if-c.false _ _ _ _ _ _ c.overbridge.ensures
+pub returns-clause-left : goal.returns-clause-left
+unfolding transfers
+returns-clause-left c =
+    let a = c.args in
+    let bridged = c.overbridge.ensures.left in
+    record {
+      leads =
+          λ w. by_true _ _ _ (ap streaming c.in-Stream.is)
+          (by_false _ _ _ c.if-c.false (bridged.leads (at_flow w a.s (contents a.windows.now) a.midi.now a.serial.now a.receive.now a.cables.now a.received.now a.sending.now)));
+      sized = bridged.sized;
+    }

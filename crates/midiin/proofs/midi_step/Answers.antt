@@ -2,6 +2,5 @@
 use Rattle.midiin.proofs.Laws.{midi_steps_lem}
 use Rattle.midiin.proofs.midi_step.Goals as goal
 
-pub returns : goal.returns
-returns c =
-    midi_steps_lem c.args.every c.args.s _ c.args.dynamic.now c.args.sram.now c.args.page.now _ _ c.args.receive.now _ c.args.cables.now _ c.nak.ensures _ c.reads-count.ensures c.read_all.ensures
+pub returns-clause-left : goal.returns-clause-left
+returns-clause-left c = midi_steps_lem c.args.every c.args.s _ _ _ _ _ _ _ _ _ _ c.nak.ensures.did _ c.reads-count.ensures c.read_all.ensures.left

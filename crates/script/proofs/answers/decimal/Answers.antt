@@ -5,4 +5,4 @@ use Rattle.std.proofs.lemmas.Grind.{common_steps}
 use Rattle.script.proofs.answers.decimal.Goals as goal
 
 pub returns : goal.returns
-returns c = behind_le (grind (arith, common_steps)) (behind_text _ c.append.ensures)
+returns c = behind_le (grind (arith, common_steps)) (behind_text _ c.append.ensures.held)
