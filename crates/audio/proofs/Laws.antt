@@ -12,10 +12,11 @@ use Rattle.usbdev.proofs.Tokens.{total_lt}
 use Rattle.transfer.specs.Transfer.{pointers, pointers_for, bytes_in}
 use Rattle.transfer.proofs.Addresses.{bytes_for}
 use Rattle.dtd.specs.declared.Ran.{Ran}
-use Rattle.dtd.specs.declared.Found.TheVariants.{Unprimed, Ended}
-use Rattle.dtd.specs.Dtd.{descriptor, bit_of, primed, terminates, next_dtd, token_of, found, settling, list_ends, unpriming, reporting, Run, run_dtds, active}
+use Rattle.dtd.specs.declared.Found.TheVariants.{Unprimed, Ended, Active}
+use Rattle.dtd.specs.declared.Descriptor.{Descriptor}
+use Rattle.dtd.specs.Dtd.{descriptor, bit_of, primed, terminates, next_dtd, token_of, found, settling, list_ends, unpriming, reporting, Run, run_dtds}
 use Rattle.dtd.specs.Promises.{TakesOne, SendsOne, Runs, Idle}
-use Rattle.dtd.proofs.Runs.{runs_active, says_unprimed, says_ended, says_active, input_bytes, input_length}
+use Rattle.dtd.proofs.Runs.{runs_active, says_unprimed, says_ended, input_bytes, input_length, says, says_found}
 use Rattle.record.specs.declared.Ring.{Ring}
 use Rattle.record.specs.declared.State.{State}
 use Rattle.record.specs.Record.{wrapped, with_audio, with_budget, raised}
@@ -97,24 +98,24 @@ nonempty_by [] = refl
 nonempty_by (b ∷ bs) = sym (ap not (ne_eqb (suc (length bs)) 0 (λ e. omega arith)))
 
 -- input of an active descriptor
-module _ (s : State) (m m' : Memory) (l l' : List ℕ) (qh td tok total : ℕ) (ps : List ℕ) (d : Decoded) (ran : Ran) (t : Bool)
-    (z : Sized m) (is : found audio_in m ≡ active qh td tok) (is-total : total ≡ total_of tok)
-    (at : ℕ) (is_at : at ≡ descriptor td) (is-pointers : ps ≡ pointers_for m at total)
+module _ (s : State) (m m' : Memory) (l l' : List ℕ) (x : Descriptor) (total : ℕ) (ps : List ℕ) (d : Decoded) (ran : Ran) (t : Bool)
+    (z : Sized m) (is : found audio_in m ≡ Active x) (is-total : total ≡ total_of x.token)
+    (at : ℕ) (is_at : at ≡ descriptor x.pointer) (is-pointers : ps ≡ pointers_for m at total)
     (before : Decoded) (is-before : before ≡ decoded_of s) (kept : Keeps (keeps_blocks (blocks_of (bytes_in m ps total))) before l d l')
-    (takes : TakesOne qh td tok (bit_of audio_in) (S.bus m s.port.line) (S.bus m' ran.line) ran)
+    (takes : TakesOne x.queue_head x.pointer x.token x.bit (S.bus m s.port.line) (S.bus m' ran.line) ran)
     (is-brought : t ≡ ran.done || not (eqb total 0)) (same : with_decoded s before ≡ s) where
   abbrev run : Run
   run = run_dtds audio_in [] (S.bus m s.port.line)
 
   ran_so : Runs audio_in [] (S.bus m s.port.line) (S.bus m' ran.line) ran
-  ran_so = runs_active audio_in [] m s.port.line z refl qh td tok is (bit_of audio_in) refl (takes 3)
+  ran_so = runs_active audio_in [] m s.port.line z refl x.queue_head x.pointer x.token (says_found audio_in m is) x.bit (says audio_in m is).1 (takes 3)
 
   same_bytes : bytes_in m ps total ≡ run.bytes
   same_bytes =
-      ap (λ (x : List ℕ). bytes_in m x total) (is-pointers ∙ ap (λ (x : ℕ). pointers_for m x total) is_at)
-      ∙ bytes_for m (descriptor td) total (omega (arith, total_lt tok, is-total)) m total (omega arith)
-      ∙ ap (bytes_in m (pointers m (descriptor td))) is-total
-      ∙ sym (input_bytes 3 (omega arith) m s.port.line qh td tok (says_active audio_in m qh td tok is))
+      ap (λ (y : List ℕ). bytes_in m y total) (is-pointers ∙ ap (λ (y : ℕ). pointers_for m y total) is_at)
+      ∙ bytes_for m (descriptor x.pointer) total (omega (arith, total_lt x.token, is-total)) m total (omega arith)
+      ∙ ap (bytes_in m (pointers m (descriptor x.pointer))) is-total
+      ∙ sym (input_bytes 3 (omega arith) m s.port.line x.queue_head x.pointer x.token (says audio_in m is).0)
 
   kept_so : Keeps (keeps_blocks (blocks_of run.bytes)) (decoded_of s) l d l'
   kept_so = rw (← same_bytes, ← is-before) kept
@@ -122,14 +123,14 @@ module _ (s : State) (m m' : Memory) (l l' : List ℕ) (qh td tok total : ℕ) (
   brought_so : brought run ≡ t
   brought_so =
       ap₂ ◌||◌ (sym ran_so.done)
-      (nonempty_by run.bytes ∙ ap (λ (k : ℕ). not (eqb k 0)) (input_length 3 (omega arith) m s.port.line qh td tok (says_active audio_in m qh td tok is) ∙ sym is-total))
+      (nonempty_by run.bytes ∙ ap (λ (k : ℕ). not (eqb k 0)) (input_length 3 (omega arith) m s.port.line x.queue_head x.pointer x.token (says audio_in m is).0 ∙ sym is-total))
       ∙ sym is-brought
 
   input_leads : (w : World) → Leads inputs (at_heard w s m l) (at_heard w (with_decoded (counted_in (after_run s ran) t) d) m' l')
   unfolding inputs
   input_leads w =
       run_then audio_in [] keeps_run (with_received_ring w l) s m m' ran ran_so
-      (leads_from (ap (λ (x : State). at_heard w (after_run x ran) m' l) (sym (ap (with_decoded s) (sym is-before) ∙ same)))
+      (leads_from (ap (λ (y : State). at_heard w (after_run y ran) m' l) (sym (ap (with_decoded s) (sym is-before) ∙ same)))
       (keeps_run_lem run t brought_so (at_heard w (after_run s ran) m' l) (decoded_of s) d l l' kept_so))
 
   same_out : (t : Bool) → SameOut s (with_decoded (counted_in (after_run s ran) t) d)
@@ -212,26 +213,26 @@ module _ (s : State) (m : Memory) (l : List ℕ) (z : Sized m) (can : CanSend s 
     pub out_ended : found audio_out m ≡ Ended → (r : State) (m' : Memory) → Unprimes s m r m' → Outputs stream_out s m l r m'
     unfolding stream_out
     out_ended f r m' p =
-        let says = says_ended audio_out m f in
+        let ends = says_ended audio_out m f in
         record {
-          leads = λ w. by_true _ _ nothing (primed_enough says.0) (by_false _ _ unprimes says.1 (p.leads w l));
+          leads = λ w. by_true _ _ nothing (primed_enough ends.0) (by_false _ _ unprimes ends.1 (p.leads w l));
           sized = p.sized;
           can = record { ring = rw p.audio can.ring; block = rw p.audio can.block; channels = rw p.audio can.channels };
           received = rw p.audio;
         }
 
-    pub out_active : (qh td tok : ℕ) → found audio_out m ≡ active qh td tok → (bs : List ℕ) → ((w : World) → bs ≡ block_of (at_sent w s m l))
-        → (m' : Memory) (ran : Ran) → SendsOne qh td tok (bit_of audio_out) bs (S.bus m s.port.line) (S.bus m' ran.line) ran
+    pub out_active : (x : Descriptor) → found audio_out m ≡ Active x → (bs : List ℕ) → ((w : World) → bs ≡ block_of (at_sent w s m l))
+        → (m' : Memory) (ran : Ran) → SendsOne x.queue_head x.pointer x.token x.bit bs (S.bus m s.port.line) (S.bus m' ran.line) ran
         → (r₁ r : State) → r₁ ≡ after_run s ran → r ≡ sent_block r₁ (length l / 12) → Outputs stream_out s m l r m'
     unfolding stream_out
-    out_active qh td tok f bs built m' ran sends r₁ r e₁ e =
-        let says = says_active audio_out m qh td tok f in
-        let ran_so = runs_active audio_out bs m s.port.line z refl qh td tok f (bit_of audio_out) refl (sends 3) in
+    out_active x f bs built m' ran sends r₁ r e₁ e =
+        let is = (says audio_out m f).0 in
+        let ran_so = runs_active audio_out bs m s.port.line z refl x.queue_head x.pointer x.token (says_found audio_out m f) x.bit (says audio_out m f).1 (sends 3) in
         rw (e, e₁)
         (record {
           leads =
-              λ w. by_true _ _ nothing (primed_enough says.prime)
-              (by_true _ _ unprimes says.active
+              λ w. by_true _ _ nothing (primed_enough is.prime)
+              (by_true _ _ unprimes is.active
               (from_here _ _ (rw (← built w) (sends_block_lem s m m' l bs ran ran_so w))));
           sized = ran_so.does.sized;
           can = record {

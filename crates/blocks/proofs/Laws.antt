@@ -1,17 +1,15 @@
 -- The received ring and the blocks of a run: what one frame, one block and the loops over them leave.
-use Rattle.std.proofs.Common.{◌≡◌, ℕ, zero, suc, ◌+◌, ◌-◌, ◌*◌, ◌/◌, ◌%◌, ◌<◌, ◌≤◌, Bool, true, false, eqb, List, [], ◌∷◌, length, get_or, take, drop, set, sym, refl, ap, ◌∙◌, subst, ap₂, add-one, arith, length-drop, drop_of_length-le, length-take, get_or-drop, drop-cons, get_or-take, drop-drop, eq-eqb, ne_eqb, le-leb}
-use borrow.Author.Tests.{lt-leb, eqb-false}
+use Rattle.std.proofs.Common.{◌≡◌, ℕ, zero, suc, ◌+◌, ◌-◌, ◌*◌, ◌/◌, ◌%◌, ◌<◌, ◌≤◌, true, false, List, [], ◌∷◌, length, get_or, take, drop, set, sym, refl, ap, ◌∙◌, subst, add-one, arith, length-drop, drop_of_length-le, length-take, get_or-drop, drop-cons, get_or-take, drop-drop}
 use lib.Seq.{sets}
-use Rattle.bits.specs.Pick.{pick}
 use Rattle.bus.specs.Memory.{Memory, word}
 use Rattle.bus.specs.Words.{word_at}
 use Rattle.bus.specs.Steps.{exec_then}
 use Rattle.transfer.specs.Transfer.{bytes_in, bytes_from}
 use Rattle.transfer.proofs.Laws.{length_tabulate, get_d_tabulate, length_bytes_in, from_in}
 use Rattle.record.specs.declared.Ring.{Ring}
-use Rattle.record.specs.Record.{wrapped, raised, in_frames, bad_blocks}
+use Rattle.record.specs.Record.{wrapped, raised, in_frames}
 use Rattle.record.specs.World.{World}
-use Rattle.record.specs.Change.{count, credit, frame, apply, Step, left, nothing, one, ringed, ringed_place}
+use Rattle.record.specs.Change.{count, credit, frame, apply, left, nothing, one, ringed, ringed_place}
 use Rattle.record.specs.Did.{Leads}
 use Rattle.record.proofs.Laws.{in_turn, once}
 use Rattle.model.specs.Streams.{nonempty}
@@ -23,11 +21,7 @@ use Rattle.blocks.specs.Promises.{InRing, at_ring, KeepsFrames, at_blocks, Keeps
 
 pub ring_inside : (r : Ring) → InRing r → InRing (ringed_place r)
 unfolding ringed_place
-ring_inside r i = by_test (eqb r.len 48000) refl
-  where
-    by_test : (t : Bool) → eqb r.len 48000 ≡ t → InRing (pick t (record { start = (r.start + 1) % 48000; len = 48000 }) (record { start = r.start; len = r.len + 1 }))
-    by_test true e = record { start = omega arith; len = omega arith }
-    by_test false e = record { start = i.start; len = omega (arith, i.len, eqb-false r.len 48000 e) }
+ring_inside r i = record { start = grind arith; len = grind arith }
 
 -- ---- a frame's words
 
@@ -47,10 +41,7 @@ module _ {bs l₀ l : List ℕ} {at c : ℕ} (inv : Wording bs l₀ l at c) wher
         same =
             let i : 12 * at + c ≡ at * 12 + c = omega arith in
             let j : at * 12 + (c + 1) ≡ suc (at * 12 + c) = omega arith in
-            ap₂ (λ (k n : ℕ). sets (set l k v) n (drop (c + 1) (words_of bs))) i j
-            ∙ ap₂ (λ (x n : ℕ). sets (set l (at * 12 + c) x) (suc (at * 12 + c)) (drop n (words_of bs))) e (add-one c)
-            ∙ ap (sets l (at * 12 + c)) (sym (drop-cons (words_of bs) c 0 (omega (arith, twelve_words bs))))
-            ∙ inv.same;
+            cc (add-one c, drop-cons (words_of bs) c 0 (omega (arith, twelve_words bs)), inv.same);
       }
 
   pub wording_end : 12 ≤ c → l ≡ sets l₀ (at * 12) (words_of bs)
@@ -63,7 +54,7 @@ module _ (b : List ℕ) (f : ℕ) where
 
   byte_at : (j i : ℕ) → j < 48 → i ≡ 32 + (48 * f + j) → get_or b i 0 ≡ get_or frame_of j 0
   byte_at j i h e =
-      ap (λ (x : ℕ). get_or b x 0) e ∙ sym (get_or-take 48 (drop (48 * f) (drop 32 b)) j 0 h ∙ get_or-drop (48 * f) (drop 32 b) j 0 ∙ get_or-drop 32 b (48 * f + j) 0)
+      cc (get_or-take 48 (drop (48 * f) (drop 32 b)) j 0 h, get_or-drop (48 * f) (drop 32 b) j 0, get_or-drop 32 b (48 * f + j) 0)
 
   pub word_of : (c : ℕ) → c < 12 → word_at b (32 + 4 * (12 * f + c)) ≡ get_or (words_of frame_of) c 0
   unfolding word_at
@@ -73,9 +64,8 @@ module _ (b : List ℕ) (f : ℕ) where
       let e₁ = byte_at (4 * c + 1) (i + 1) (omega arith) (omega arith) in
       let e₂ = byte_at (4 * c + 2) (i + 2) (omega arith) (omega arith) in
       let e₃ = byte_at (4 * c + 3) (i + 3) (omega arith) (omega arith) in
-      ap₂ (λ (x y : ℕ). word x y (get_or b (i + 2) 0) (get_or b (i + 3) 0)) e₀ e₁
-      ∙ ap₂ (λ (x y : ℕ). word (get_or frame_of (4 * c) 0) (get_or frame_of (4 * c + 1) 0) x y) e₂ e₃
-      ∙ sym (get_d_tabulate 12 (λ k. word (get_or frame_of (4 * k) 0) (get_or frame_of (4 * k + 1) 0) (get_or frame_of (4 * k + 2) 0) (get_or frame_of (4 * k + 3) 0)) c 0 h)
+      cc
+      (get_d_tabulate 12 (λ k. word (get_or frame_of (4 * k) 0) (get_or frame_of (4 * k + 1) 0) (get_or frame_of (4 * k + 2) 0) (get_or frame_of (4 * k + 3) 0)) c 0 h)
 
 -- ---- the frames of a block
 
@@ -97,28 +87,13 @@ module _ {bs : List ℕ} {r₀ : Ring} {l₀ : List ℕ} {r : Ring} {l : List �
       → Framing bs r₀ l₀ r' l' (f + 1)
   unfolding ringed
   framing_step h at ea l' el r' er =
+      let one_more : 7 - f ≡ suc (7 - (f + 1)) = omega arith in
+      let further : 48 * f + 48 ≡ 48 * (f + 1) = omega arith in
       record {
         few = omega arith;
         inside = subst InRing (sym er) (ring_inside r inv.inside);
-        same = λ w. step w;
+        same = λ w. cc (drop-drop 48 (48 * f) bs, frames_step (7 - (f + 1)) (drop (48 * f) bs) w r l, inv.same w);
       }
-    where
-      one_more : 7 - f ≡ suc (7 - (f + 1))
-      one_more = omega arith
-
-      further : drop 48 (drop (48 * f) bs) ≡ drop (48 * (f + 1)) bs
-      further =
-          let e : 48 * f + 48 ≡ 48 * (f + 1) = omega arith in
-          drop-drop 48 (48 * f) bs ∙ ap (λ (n : ℕ). drop n bs) e
-
-      step : (w : World) → left (keeps_frames (7 - (f + 1)) (drop (48 * (f + 1)) bs)) (at_ring w r' l') ≡ left (keeps_frames 7 bs) (at_ring w r₀ l₀)
-      step w =
-          ap (λ (x : List ℕ). left (keeps_frames (7 - (f + 1)) x) (at_ring w r' l')) (sym further)
-          ∙ ap₂ (λ (x : Ring) (y : List ℕ). left (keeps_frames (7 - (f + 1)) (drop 48 (drop (48 * f) bs))) (at_ring w x y)) er
-          (el ∙ ap (λ (x : ℕ). sets l (x * 12) (words_of (take 48 (drop (48 * f) bs)))) ea)
-          ∙ sym (frames_step (7 - (f + 1)) (drop (48 * f) bs) w r l)
-          ∙ ap (λ (n : ℕ). left (keeps_frames n (drop (48 * f) bs)) (at_ring w r l)) (sym one_more)
-          ∙ inv.same w
 
   pub framing_end : 7 ≤ f → KeepsFrames bs r₀ l₀ r l
   unfolding keeps_frames nothing
@@ -131,57 +106,33 @@ module _ {bs : List ℕ} {r₀ : Ring} {l₀ : List ℕ} {r : Ring} {l : List �
 
 -- ---- one block
 
-pub good_is : (b : List ℕ) → length b ≡ 368 → get_or b 0 0 ≡ 7 → good b ≡ true
-unfolding good
-good_is b long first = simp (le-leb 368 (length b) (omega arith), eq-eqb (get_or b 0 0) 7 first)
-
-pub bad_first : (b : List ℕ) → length b ≡ 368 → (get_or b 0 0 ≡ 7 → ⊥) → good b ≡ false
-unfolding good
-bad_first b long first = simp (le-leb 368 (length b) (omega arith), ne_eqb (get_or b 0 0) 7 first)
-
-pub bad_short : (b : List ℕ) → length b < 368 → good b ≡ false
-unfolding good
-bad_short b short = simp (lt-leb 368 (length b) short)
-
-module _ (b : List ℕ) (d : Decoded) (l : List ℕ) where
-  bad_leads : good b ≡ false → (w : World) → Leads (keeps_block b) (at_blocks w d l) (at_blocks w (one_bad d) l)
-  unfolding keeps_block apply raised
-  bad_leads e w =
-      subst (λ (t : Bool). Leads (pick t (keeps_good b) (one (λ v. count bad_blocks 1))) (at_blocks w d l) (at_blocks w (one_bad d) l)) (sym e)
-      (once (λ v. count bad_blocks 1) (at_blocks w d l) (at_blocks w (one_bad d) l) refl)
-
-  pub keeps_bad : good b ≡ false → InRing d.ring → Keeps (keeps_block b) d l (one_bad d) l
-  keeps_bad e i = record { leads = bad_leads e; inside = i }
-
-  pub keeps_good_lem : good b ≡ true → (r : Ring) (l' : List ℕ) → KeepsFrames (drop 32 b) d.ring l r l' → Keeps (keeps_block b) d l (one_good d r) l'
-  unfolding keeps_block keeps_good apply raised
-  keeps_good_lem e r l' p =
-      record {
-        leads =
-            λ w. subst (λ (t : Bool). Leads (pick t (keeps_good b) (one (λ v. count bad_blocks 1))) (at_blocks w d l) (at_blocks w (one_good d r) l')) (sym e)
-            (in_turn (p.leads (at_blocks w d l))
-            (in_turn (once (λ v. count in_frames 7) (at_ring (at_blocks w d l) r l') (at_blocks w (record { ring = r; credit = d.credit; frames = wrapped (d.frames + 7); bad = d.bad }) l') refl)
-            (once (λ v. credit (wrapped (v.state.audio.credit + 7))) (at_blocks w (record { ring = r; credit = d.credit; frames = wrapped (d.frames + 7); bad = d.bad }) l') (at_blocks w (one_good d r) l') refl)));
-        inside = p.inside;
-      }
-
--- what a promise says of blocks and rings that are named otherwise
-pub keeps_as : {f g : Step} {d : Decoded} {l : List ℕ} {d' d'' : Decoded} {l' : List ℕ} → f ≡ g → d'' ≡ d' → Keeps f d l d' l' → Keeps g d l d'' l'
-keeps_as {f} {g} {d} {l} {d'} {d''} {l'} e h p =
-    subst (λ (x : Decoded). Keeps g d l x l') (sym h) (subst (λ (x : Step). Keeps x d l d' l') e p)
+bad_leads : (b : List ℕ) (d : Decoded) (l : List ℕ) → good b ≡ false → (w : World) → Leads (keeps_block b) (at_blocks w d l) (at_blocks w (one_bad d) l)
+unfolding keeps_block apply raised one
+bad_leads b d l e w = record { is = simp e }
 
 -- one block of 368 bytes in the code's words
 module _ (b c : List ℕ) (d r : Decoded) (l : List ℕ) (is : b ≡ c) (long : length c ≡ 368) where
-  first_of : get_or b 0 0 ≡ get_or c 0 0
-  first_of = ap (λ (x : List ℕ). get_or x 0 0) is
-
   pub block_bad : (get_or b 0 0 ≡ 7 → ⊥) → InRing d.ring → r ≡ one_bad d → Keeps (keeps_block c) d l r l
-  block_bad h i e = keeps_as refl e (keeps_bad c d l (bad_first c long (λ x. h (first_of ∙ x))) i)
+  unfolding good
+  block_bad h i e =
+      let bad : good c ≡ false = grind arith in
+      subst (λ (x : Decoded). Keeps (keeps_block c) d l x l) (sym e) (record { leads = bad_leads c d l bad; inside = i })
 
   pub block_good : get_or b 0 0 ≡ 7 → (ring : Ring) (l' : List ℕ) → KeepsFrames (drop 32 b) d.ring l ring l' → r ≡ one_good d ring → Keeps (keeps_block c) d l r l'
+  unfolding good keeps_block keeps_good apply raised
   block_good h ring l' p e =
-      keeps_as refl e
-      (keeps_good_lem c d l (good_is c long (sym first_of ∙ h)) ring l' (subst (λ (x : List ℕ). KeepsFrames (drop 32 x) d.ring l ring l') is p))
+      let is-good : good c ≡ true = grind arith in
+      let k = subst (λ (x : List ℕ). KeepsFrames (drop 32 x) d.ring l ring l') is p in
+      let counted : Decoded = record { ring = ring; credit = d.credit; frames = wrapped (d.frames + 7); bad = d.bad } in
+      subst (λ (x : Decoded). Keeps (keeps_block c) d l x l') (sym e)
+      (record {
+        leads = λ w.
+            rw is-good
+            (in_turn (k.leads (at_blocks w d l))
+            (in_turn (once (λ v. count in_frames 7) (at_ring (at_blocks w d l) ring l') (at_blocks w counted l') refl)
+            (once (λ v. credit (wrapped (v.state.audio.credit + 7))) (at_blocks w counted l') (at_blocks w (one_good d ring) l') refl)));
+        inside = p.inside;
+      })
 
 -- ---- the blocks of a run
 
@@ -216,11 +167,9 @@ module _ (m : Memory) (ps : List ℕ) (total : ℕ) where
     pub inside : InRing d.ring
     pub same : (w : World) → left (keeps_blocks (rest i)) (at_blocks w d l) ≡ left (keeps_blocks (blocks_of (bytes_in m ps total))) (at_blocks w d₀ l₀)
 
-  whole : total - 0 ≡ length (bytes_in m ps total)
-  whole = omega (arith, length_bytes_in m ps total)
-
   pub decoding_none : (d : Decoded) (l : List ℕ) → InRing d.ring → Decoding d l d l 0
   decoding_none d l i =
+      let whole : total - 0 ≡ length (bytes_in m ps total) = omega (arith, length_bytes_in m ps total) in
       record {
         few = omega arith;
         inside = i;
@@ -232,17 +181,15 @@ module _ (m : Memory) (ps : List ℕ) (total : ℕ) where
     rest_more h =
         let n : total - i ≡ suc (total - (i + 1)) = omega arith in
         let k : 368 * i + 368 ≡ 368 * (i + 1) = omega arith in
-        ap (λ (x : ℕ). blocks x (drop (368 * i) (bytes_in m ps total))) n
-        ∙ blocks_more (total - (i + 1)) (drop (368 * i) (bytes_in m ps total)) (omega (arith, left_long i))
-        ∙ ap₂ (λ (x : List ℕ) (y : List ℕ). x ∷ blocks (total - (i + 1)) y) (sym (from_in m ps (368 * i) 368 total (omega arith)))
-        (drop-drop 368 (368 * i) (bytes_in m ps total) ∙ ap (λ (x : ℕ). drop x (bytes_in m ps total)) k)
+        cc
+        (n, blocks_more (total - (i + 1)) (drop (368 * i) (bytes_in m ps total)) (omega (arith, left_long i)), from_in m ps (368 * i) 368 total (omega arith), drop-drop 368 (368 * i) (bytes_in m ps total), k)
 
     pub decoding_step : i < total / 368 → (d' : Decoded) (l' : List ℕ) → Keeps (keeps_block (bytes_from m ps (368 * i) 368)) d l d' l' → Decoding d₀ l₀ d' l' (i + 1)
     decoding_step h d' l' p =
         record {
           few = omega arith;
           inside = p.inside;
-          same = λ w. ap (left (keeps_blocks (rest (i + 1)))) (p.leads w).is ∙ sym (keeps_more (bytes_from m ps (368 * i) 368) (rest (i + 1)) (at_blocks w d l)) ∙ ap (λ (x : List (List ℕ)). left (keeps_blocks x) (at_blocks w d l)) (sym (rest_more h)) ∙ inv.same w;
+          same = λ w. cc ((p.leads w).is, keeps_more (bytes_from m ps (368 * i) 368) (rest (i + 1)) (at_blocks w d l), rest_more h, inv.same w);
         }
 
     module _ (all : total / 368 ≤ i) where
@@ -267,15 +214,16 @@ module _ (m : Memory) (ps : List ℕ) (total : ℕ) where
       rest_short h =
           let some_left : 0 < total % 368 = omega arith in
           let n : total - i ≡ suc (total - (i + 1)) = omega (arith, at_end) in
-          ap (λ (x : ℕ). blocks x short) n ∙ blocks_more (total - (i + 1)) short (omega (arith, left_long i, at_end))
-          ∙ ap (λ (y : List (List ℕ)). take 368 short ∷ y) (ap (blocks (total - (i + 1))) (drop_of_length-le short {i = 368} (omega (arith, left_long i, at_end))) ∙ blocks_none (total - (i + 1)))
+          cc
+          (n, blocks_more (total - (i + 1)) short (omega (arith, left_long i, at_end)), drop_of_length-le short {i = 368} (omega (arith, left_long i, at_end)), blocks_none (total - (i + 1)))
 
       pub decoding_short : (total % 368 ≡ 0 → ⊥) → (r : Decoded) → r ≡ one_bad d → Keeps (keeps_blocks (blocks_of (bytes_in m ps total))) d₀ l₀ r l
-      unfolding keeps_blocks nothing
+      unfolding keeps_blocks nothing good
       decoding_short h r e =
           let few : length (take 368 short) < 368 = omega (arith, length-take 368 short, left_long i, at_end) in
-          keeps_as refl e
+          let bad : good (take 368 short) ≡ false = grind arith in
+          subst (λ (x : Decoded). Keeps (keeps_blocks (blocks_of (bytes_in m ps total))) d₀ l₀ x l) (sym e)
           (record {
-            leads = λ w. record { is = (bad_leads (take 368 short) d l (bad_short (take 368 short) few) w).is ∙ sym (keeps_more (take 368 short) [] (at_blocks w d l)) ∙ ap (λ (x : List (List ℕ)). left (keeps_blocks x) (at_blocks w d l)) (sym (rest_short h)) ∙ inv.same w };
+            leads = λ w. record { is = cc ((bad_leads (take 368 short) d l bad w).is, keeps_more (take 368 short) [] (at_blocks w d l), rest_short h, inv.same w) };
             inside = inv.inside;
           })

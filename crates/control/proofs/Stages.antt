@@ -4,7 +4,7 @@ use Rattle.bits.specs.Pick.{pick}
 use Rattle.bus.specs.Memory.{Memory}
 use Rattle.bus.specs.Steps.{choose}
 use Rattle.bus.specs.Stores as S
-use Rattle.dtd.specs.Dtd.{Endpoint, endpoint, Run, run_dtds}
+use Rattle.dtd.specs.Dtd.{Endpoint, endpoint, run_dtds}
 use Rattle.dtd.specs.Promises.{Runs}
 use Rattle.dtd.specs.declared.Ran.{Ran}
 use Rattle.runs.specs.Turns.{RunsIn, kept, kept_end}
@@ -19,7 +19,7 @@ use Rattle.record.proofs.Laws.{in_turn, by_true, by_false, unchanged, once, from
 use Rattle.model.specs.Control.{w_length, to_host, to_status, keeps_reply, status_out, status_ends, status_stage}
 use Rattle.finished.specs.Promises.{Ready}
 use Rattle.control.specs.Promises.{at_reply, Stages, Acknowledges}
-use Rattle.model.specs.Control.{data_in, data_out, ends_by}
+use Rattle.model.specs.Control.{data_in, data_out}
 
 -- ---- the data stage
 
@@ -94,13 +94,6 @@ module _ (s : State) (m m' : Memory) (n : Ran) (ready : Ready s)
 -- ---- the status stage
 
 module _ (s : State) (m m' : Memory) (ready : Ready s) {t : Bool} {k : ℕ} (host : t ≡ to_host s.control) (asked : k ≡ w_length s.control) (few : k ≤ 65535) (n : Ran) where
-  short_reply : s.control.got ≤ 65535
-  short_reply = omega (arith, ready.inside, few, asked)
-
-  ends_so : (stack : Bool) (r : Run) → n.done ≡ r.done → {a b : World} → Leads (ends_by stack n.done) a b → Leads (status_ends stack r) a b
-  unfolding status_ends
-  ends_so stack r e {a} {b} l = subst (λ (t : Bool). Leads (ends_by stack t) a b) e l
-
   -- the run of the direction
   by_direction : (u : Bool) → status_out s.control ≡ u → (stack : Bool) (w : World) {b : World} → Leads (runs (endpoint 0 (not u)) [] (status_ends stack)) (at_bus w s m) b
       → Leads (status_stage stack) (at_bus w s m) b
@@ -109,14 +102,15 @@ module _ (s : State) (m m' : Memory) (ready : Ready s) {t : Bool} {k : ℕ} (hos
   by_direction false e stack w l = record { is = simp e l.is }
 
   pub status_lem : {u : Bool} → t && not (eqb k 0) ≡ u → Runs (endpoint 0 (not u)) [] (S.bus m s.port.line) (S.bus m' n.line) n → Acknowledges s m n m'
+  unfolding status_ends
   status_lem {u} h ran =
       record {
         leads = λ stack w l.
             by_direction u (cc (host, asked, h)) stack w
-            (run_then (endpoint 0 (not u)) [] (status_ends stack) w s m m' n ran (ends_so stack (run_dtds (endpoint 0 (not u)) [] (S.bus m s.port.line)) ran.done l));
+            (run_then (endpoint 0 (not u)) [] (status_ends stack) w s m m' n ran (rw ran.done at l));
         sized = ran.does.sized;
         ready = ready_ran ready n;
-        few = short_reply;
+        few = omega (arith, ready.inside, few, asked);
       }
 
 -- nothing is kept of a status stage

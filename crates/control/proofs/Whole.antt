@@ -133,31 +133,26 @@ module _ (stack : Bool) (s : State) (m : Memory) (q d p c : List ℕ) (off : s.c
   abbrev first_waiting : Setup
   first_waiting = record { first = little q 0; second = little q 4 }
 
-  none_waits : (n : ℕ) {o : Option Setup} → o ≡ next_of q n → o ≡ None → eqb n 0 ≡ true
-  none_waits n e is = grind arith
-
   pub streaming_starts : {o : Option Setup} → o ≡ next_of q s.lengths.setups → o ≡ None → Sized m → {r : State} → Alone configured s r → Controls (controls stack) s m q d p c r m q d p c
   unfolding controls
   streaming_starts e is z k =
       record {
         leads = λ w.
             by_false (λ v. v.state.control.on) (requests stack) waits off
-            (by_true (λ v. eqb v.state.lengths.setups 0) configured posts (none_waits s.lengths.setups e is) (k.leads (at_control w s m q d p c)));
+            (by_true (λ v. eqb v.state.lengths.setups 0) configured posts (grind arith) (k.leads (at_control w s m q d p c)));
         sized = z;
       }
-
-  setup_waits : (n : ℕ) {o : Option Setup} (setup : Setup) → o ≡ next_of q n → o ≡ Some setup → (eqb n 0 ≡ false) × (setup ≡ first_waiting)
-  setup_waits n setup e found = (grind arith, grind arith)
 
   pub setup_posted : {o : Option Setup} {setup : Setup} → o ≡ next_of q s.lengths.setups → o ≡ Some setup → {r : State} {m' : Memory} {q' : List ℕ}
       → Posts (posted (queue_head (endpoint 0 false) m.page) setup.first setup.second) s m q r m' q' → Controls (controls stack) s m q d p c r m' q' d p c
   unfolding controls posts
   setup_posted {o} {setup} e found {r} {m'} {q'} k =
-      let is = setup_waits s.lengths.setups setup e found in
-      let k' = subst (λ (x : Setup). Posts (posted (queue_head (endpoint 0 false) m.page) x.first x.second) s m q r m' q') is.1 k in
+      let some : eqb s.lengths.setups 0 ≡ false = grind arith in
+      let is : setup ≡ first_waiting = grind arith in
+      let k' = subst (λ (x : Setup). Posts (posted (queue_head (endpoint 0 false) m.page) x.first x.second) s m q r m' q') is k in
       record {
         leads = λ w.
             by_false (λ v. v.state.control.on) (requests stack) waits off
-            (by_false (λ v. eqb v.state.lengths.setups 0) configured posts is.0 (from_here _ (at_control w s m q d p c) (k'.leads (at_control w s m q d p c))));
+            (by_false (λ v. eqb v.state.lengths.setups 0) configured posts some (from_here _ (at_control w s m q d p c) (k'.leads (at_control w s m q d p c))));
         sized = k.sized;
       }

@@ -1,14 +1,12 @@
 -- How many bytes a run moves, and how many of its bytes no window takes, by the descriptors that it retires: a total has at most 32,767 bytes, and a
 -- retirement stores five words outside the page (usbhost.rs 558-601).
-use Rattle.std.proofs.Common.{◌≡◌, ℕ, zero, suc, ◌+◌, ◌*◌, ◌≤◌, Bool, not, List, ◌++◌, drop, refl, arith}
+use Rattle.std.proofs.Common.{◌≡◌, ℕ, zero, suc, ◌+◌, ◌*◌, ◌≤◌, Bool, not, List, drop, refl, arith}
 use Rattle.bits.specs.Pick.{pick_both}
-use Rattle.bus.specs.Memory.{after, peek32}
 use Rattle.bus.specs.Steps.{exec, and_then}
-use Rattle.bus.specs.Stores.{Bus, Store, store, stored, dropped, dropped_by, dropped_append, putting, when}
-use Rattle.usbdev.specs.Registers.{registers, lifted}
+use Rattle.bus.specs.Stores.{Bus, Store, store, dropped, dropped_by, dropped_append, putting, when}
 use Rattle.usbdev.proofs.Laws.{none_dropped}
 use Rattle.transfer.specs.Transfer.{pointers}
-use Rattle.dtd.specs.Dtd.{Endpoint, bit_of, primed, queue_head, next_dtd, terminates, descriptor, token_of, is_active, moves, data_out, closing, completing, advancing, retiring, turning, following, Run, ended, joined, turns, most, list_ends, unpriming, reporting, settling, settled, run_dtds}
+use Rattle.dtd.specs.Dtd.{Endpoint, primed, queue_head, next_dtd, terminates, descriptor, token_of, is_active, moves, data_out, closing, advancing, retiring, turning, following, Run, ended, joined, turns, most, settling, settled, run_dtds}
 use Rattle.dtd.proofs.Laws.{dropped32_le, inside_completing, inside_unpriming, inside_reporting}
 use Rattle.dtd.proofs.Runs.{moves_few, lost_few}
 
@@ -21,36 +19,15 @@ data_few e n tok bs b =
 
 close_dropped : (qh n tok moved : ℕ) (b : Bus) → dropped_by (closing qh n tok moved b) ≤ 12
 unfolding closing and_then putting dropped_by dropped
-close_dropped qh n tok moved b = omega (arith, dropped32_le (after (descriptor n) 4), dropped32_le (after (descriptor n) 12), dropped32_le (after qh 4))
-
-none_completing : (tok bit : ℕ) (b : Bus) → 0 ≡ dropped_by (lifted (completing tok bit) b)
-none_completing tok bit b = none_dropped (completing tok bit (registers b.memory.page b.line)) (inside_completing tok bit (registers b.memory.page b.line))
+close_dropped qh n tok moved b = grind (arith, dropped32_le)
 
 advance_dropped : (qh n tok bit : ℕ) (b : Bus) → dropped_by (advancing qh n tok bit b) ≤ 8
 unfolding advancing and_then putting dropped_by dropped
-advance_dropped qh n tok bit b =
-    let first = putting (after qh 8) (peek32 b.memory (descriptor n)) in
-    let x = exec store first b in
-    let second = putting (after qh 12) (peek32 x.memory (after (descriptor n) 4)) in
-    omega (arith, dropped32_le (after qh 8), dropped32_le (after qh 12), none_completing tok bit (exec store second x))
+advance_dropped qh n tok bit b = grind (arith, dropped32_le, none_dropped, inside_completing)
 
 turn_dropped : (e : Endpoint) (qh n : ℕ) (bs : List ℕ) (b : Bus) → dropped_by (turning e qh n bs b) ≤ moves e (token_of n b.memory) bs + 20
 unfolding turning retiring and_then
-turn_dropped e qh n bs b =
-    let tok = token_of n b.memory in
-    let count = moves e tok bs in
-    let sent = data_out e n tok bs b in
-    let x = exec store (data_out e n tok bs) b in
-    let close = closing qh n tok count x in
-    let y = exec store (closing qh n tok count) x in
-    omega (
-      arith,
-      dropped_append sent (close ++ advancing qh n tok (bit_of e) y),
-      dropped_append close (advancing qh n tok (bit_of e) y),
-      data_few e n tok bs b,
-      close_dropped qh n tok count x,
-      advance_dropped qh n tok (bit_of e) y,
-    )
+turn_dropped e qh n bs b = grind (arith, dropped_append, data_few, close_dropped, advance_dropped)
 
 -- ---- a run
 
@@ -65,11 +42,7 @@ none_bounded n = record { moves = omega arith; drops = omega arith }
 
 joined_bounded : (e : Endpoint) (qh n : ℕ) (bs : List ℕ) (b : Bus) (r : Run) → Bounded r → Bounded (joined e qh n bs b r)
 unfolding joined
-joined_bounded e qh n bs b r p =
-    record {
-      moves = omega (arith, moves_few e (token_of n b.memory) bs, p.moves);
-      drops = omega (arith, dropped_append (turning e qh n bs b) r.stores, turn_dropped e qh n bs b, p.drops);
-    }
+joined_bounded e qh n bs b r p = record { moves = grind (arith, moves_few, p.moves); drops = grind (arith, dropped_append, turn_dropped, p.drops) }
 
 turns_bounded : (k : ℕ) (e : Endpoint) (qh n : ℕ) (bs : List ℕ) (b : Bus) → Bounded (turns k e qh n bs b)
 unfolding turns
@@ -83,24 +56,11 @@ turns_bounded (suc k) e qh n bs b =
 
 none_settling : (bit n : ℕ) (done : Bool) (b : Bus) → dropped_by (settling bit n done b) ≡ 0
 unfolding settling and_then
-none_settling bit n done b =
-    let first = lifted (unpriming (list_ends n b.memory) bit) in
-    let x = exec store first b in
-    omega (
-      arith,
-      dropped_append (first b) (lifted (reporting done) x),
-      none_dropped (unpriming (list_ends n b.memory) bit (registers b.memory.page b.line)) (inside_unpriming (list_ends n b.memory) bit (registers b.memory.page b.line)),
-      none_dropped (reporting done (registers x.memory.page x.line)) (inside_reporting done (registers x.memory.page x.line)),
-    )
+none_settling bit n done b = grind (arith, dropped_append, none_dropped, inside_unpriming, inside_reporting)
 
 settled_bounded : (e : Endpoint) (b : Bus) (r : Run) → Bounded r → Bounded (settled e b r)
 unfolding settled
-settled_bounded e b r p =
-    let rest = settling (bit_of e) r.last r.done (stored r.stores b) in
-    record {
-      moves = p.moves;
-      drops = omega (arith, dropped_append r.stores rest, none_settling (bit_of e) r.last r.done (stored r.stores b), p.drops);
-    }
+settled_bounded e b r p = record { moves = p.moves; drops = grind (arith, dropped_append, none_settling, p.drops) }
 
 pub run_bounded : (e : Endpoint) (bs : List ℕ) (b : Bus) → Bounded (run_dtds e bs b)
 unfolding run_dtds

@@ -1,14 +1,14 @@
 -- What the proofs on descriptors cite.
-use Rattle.std.proofs.Common.{◌≡◌, ℕ, ◌+◌, ◌%◌, ◌^◌, ◌≤◌, Bool, List, ap, ◌∙◌, ap₂, arith}
+use Rattle.std.proofs.Common.{◌≡◌, ℕ, ◌≤◌, Bool, List, ap, ◌∙◌, arith}
 use Rattle.bits.specs.Pick.{pick_both}
-use Rattle.bus.specs.Memory.{Memory, memory, after, poke32, dropped32}
-use Rattle.bus.specs.Sized.{Sized, Left}
+use Rattle.bus.specs.Memory.{Memory, memory, after, dropped32}
+use Rattle.bus.specs.Sized.{Sized}
 use Rattle.bus.specs.Steps.{and_then}
-use Rattle.bus.specs.Stores.{bus, putting, Does}
+use Rattle.bus.specs.Stores.{bus, Does}
 use Rattle.bus.specs.Windows.{contents}
 use Rattle.bus.specs.declared.windows.Windows.{Windows}
 use Rattle.bus.proofs.Lengths.{sized_of}
-use Rattle.bus.proofs.Storing.{does_put, does_then, does_reading}
+use Rattle.bus.proofs.Storing.{does_then, does_reading}
 use Rattle.bus.proofs.Words.{dropped8_le}
 use Rattle.usbdev.specs.Registers as usb
 use Rattle.usbdev.specs.Registers.{Registers, registers, PageStore, put, irq, PageStep, lifted, done, setting}
@@ -19,17 +19,6 @@ pub dropped32_le : (a : ℕ) → dropped32 a ≤ 4
 unfolding dropped32
 dropped32_le a =
     omega (arith, dropped8_le a, dropped8_le (after a 1), dropped8_le (after a 2), dropped8_le (after a 3))
-
--- the k-th address after one that is known by another name
-pub after_is : (a b k r : ℕ) → r ≡ (a + k) % 2 ^ 32 → a ≡ b → r ≡ after b k
-unfolding after
-after_is a b k r e f = e ∙ ap (λ (x : ℕ). (x + k) % 2 ^ 32) f
-
--- a word stored, at an address and of a value that are known by other names
-pub does_store : {m m' : Memory} {a a' v v' : ℕ} (l : Bool) {n : ℕ} → a' ≡ a → v' ≡ v → Left m' (poke32 m a' v') → n ≡ dropped32 a'
-    → Does (putting a v) (bus m l) (bus m' l) n
-does_store {m} {m'} {a} {a'} {v} {v'} l {n} ea ev p d =
-    does_put a v l (record { is = p.is ∙ ap₂ (poke32 m) ea ev; sized = p.sized }) (d ∙ ap dropped32 ea)
 
 -- ---- steps on the register page
 

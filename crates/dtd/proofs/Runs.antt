@@ -207,13 +207,9 @@ turn_steps e d bit bs {b} {b₁} {m} is_moved sent finished h =
 pub idle_as : {e : Endpoint} {bs : List ℕ} {b : Bus} {m : Memory} {r r' : Ran} → r ≡ r' → Idle e bs b (bus m r'.line) r' → Idle e bs b (bus m r.line) r
 idle_as {e} {bs} {b} {m} h p = subst (λ (x : Ran). Idle e bs b (bus m x.line) x) (sym h) p
 
--- a count of bytes to send is a total at most, and no more than there are
-module _ (tok total count held : ℕ) (is-total : total ≡ total_of tok) (is-count : count ≡ min total held) where
-  pub counted_few : count ≤ 32767
-  counted_few = omega (arith, total_lt tok)
-
-  pub counted_held : count ≤ held
-  counted_held = omega arith
+-- a count of bytes to send is a total at most
+pub counted_few : (tok total count held : ℕ) → total ≡ total_of tok → count ≡ min total held → count ≤ 32767
+counted_few tok total count held is-total is-count = omega (arith, total_lt tok)
 
 -- no more bytes are lost than are sent
 pub lost_few : (ps bs : List ℕ) (n : ℕ) (b : Bus) {lost : ℕ} → lost ≡ dropped_by (sending ps bs n b) → lost ≤ n

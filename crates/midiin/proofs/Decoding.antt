@@ -1,7 +1,7 @@
 -- Packets decoded piece by piece: a piece of whole packets, or the last one, splits what is decoded.
 use Rattle.std.specs.Simd.{first_chunks}
-use Rattle.std.proofs.Common.{◌≡◌, ℕ, zero, suc, ◌+◌, ◌-◌, ◌*◌, ◌/◌, ◌<◌, ◌≤◌, min, Bool, true, false, leb, ◌⊎◌, List, [], ◌∷◌, ◌++◌, length, get_or, take, drop, sym, refl, ap, ◌∙◌, subst, ap₂, inl, inr, ⊎_elim, le_of_lt, arith, length-append, drop-cons, drop-drop, leb-false, leb-true}
-use native.Mathlib.Nat.{min-le_left, min-le_right, min-eq_left, min-eq_right}
+use Rattle.std.proofs.Common.{◌≡◌, ℕ, zero, suc, ◌+◌, ◌-◌, ◌*◌, ◌/◌, ◌<◌, ◌≤◌, min, List, [], ◌∷◌, ◌++◌, length, get_or, take, drop, sym, refl, ap, ◌∙◌, subst, arith, length-append, drop-cons, drop-drop}
+use native.Mathlib.Nat.{min-le_left, min-le_right}
 use lib.Seq.{sets, length-sets}
 use Rattle.bus.specs.Memory.{Memory}
 use Rattle.transfer.specs.Transfer.{bytes_in, bytes_from}
@@ -26,7 +26,6 @@ cables_form = record { few = cables_few; own = cables_inside }
 
 -- an area into which a form of packets goes
 pub record Filling (form : List ℕ → List ℕ) (bs out₀ out : List ℕ) (start at i : ℕ) : Type 0 where
-  pub same : length out ≡ length out₀
   pub room : at + 3 * ((length bs - i) / 4) ≤ length out
   pub area : sets out at (each_packet form ((length bs - i) / 4) (drop i bs)) ≡ sets out₀ start (each_packet form (length bs / 4) bs)
 
@@ -41,11 +40,11 @@ module _ {form : List ℕ → List ℕ} {bs out₀ : List ℕ} {start : ℕ} whe
   filling_first : start + 3 * (length bs / 4) ≤ length out₀ → Filling form bs out₀ out₀ start start 0
   filling_first h =
       let all : (length bs - 0) / 4 ≡ length bs / 4 = omega arith in
-      record { same = refl; room = omega arith; area = ap (λ (k : ℕ). sets out₀ start (each_packet form k bs)) all }
+      record { room = omega arith; area = rw all }
 
   filling_end : {out : List ℕ} {at i : ℕ} → Filling form bs out₀ out start at i → (length bs - i) / 4 ≡ 0 → out ≡ sets out₀ start (each_packet form (length bs / 4) bs)
   unfolding each_packet
-  filling_end {out} {at} {i} inv none = sym (ap (λ (k : ℕ). sets out at (each_packet form k (drop i bs))) none) ∙ inv.area
+  filling_end inv none = rw none at inv.area
 
 module _ {bs out₀ cs₀ : List ℕ} {start : ℕ} where
   pub decoding_first : start + 3 * (length bs / 4) ≤ length out₀ → start + 3 * (length bs / 4) ≤ length cs₀ → Decoding bs out₀ out₀ cs₀ cs₀ start start 0
@@ -55,7 +54,7 @@ module _ {bs out₀ cs₀ : List ℕ} {start : ℕ} where
         inside = omega arith;
         bytes = filling_first h;
         cables = filling_first k;
-        end = ap (λ (k : ℕ). start + length (decoded k bs)) all;
+        end = rw all;
       }
 
   module _ {out cs : List ℕ} {at i : ℕ} (inv : Decoding bs out₀ out cs₀ cs start at i) (past : length bs < i + 4) where
@@ -68,13 +67,11 @@ module _ {bs out₀ cs₀ : List ℕ} {start : ℕ} where
         record {
           area = filling_end inv.bytes none;
           cables = filling_end inv.cables none;
-          behind =
-              let nil : at ≡ at + 0 = omega arith in
-              nil ∙ sym (ap (λ (k : ℕ). at + length (decoded k (drop i bs))) none) ∙ inv.end;
+          behind = let nil : at ≡ at + 0 = omega arith in nil ∙ (rw none at inv.end);
         }
 
 -- a piece of n bytes from i on
-module _ (bs : List ℕ) (i n : ℕ) (more : i + n ≤ length bs) (whole : (n ≡ 4 * (n / 4)) ⊎ (i + n ≡ length bs)) where
+module _ (bs : List ℕ) (i n : ℕ) (more : i + n ≤ length bs) (whole : i + n < length bs → n ≡ 4 * (n / 4)) where
   abbrev later : ℕ
   later = (length bs - (i + n)) / 4
 
@@ -82,20 +79,19 @@ module _ (bs : List ℕ) (i n : ℕ) (more : i + n ≤ length bs) (whole : (n �
   piece = take n (drop i bs)
 
   counts : (length bs - i) / 4 ≡ n / 4 + later
-  counts = ⊎_elim (λ e. omega arith) (λ e. omega arith) whole
+  counts = grind arith
 
   module _ {form : List ℕ → List ℕ} (f : Form form) where
     rest : each_packet form later (drop (4 * (n / 4)) (drop i bs)) ≡ each_packet form later (drop (i + n) bs)
     unfolding each_packet
-    rest =
-        ⊎_elim (λ e. ap (each_packet form later) (drop-drop (4 * (n / 4)) i bs ∙ ap (λ (k : ℕ). drop (i + k) bs) (sym e)))
-        (λ e. let last : later ≡ 0 = omega arith in
-        ap (λ (k : ℕ). each_packet form k (drop (4 * (n / 4)) (drop i bs))) last ∙ sym (ap (λ (k : ℕ). each_packet form k (drop (i + n) bs)) last)) whole
+    rest = by_later later refl
+      where
+        by_later : (k : ℕ) → later ≡ k → each_packet form k (drop (4 * (n / 4)) (drop i bs)) ≡ each_packet form k (drop (i + n) bs)
+        by_later zero e = refl
+        by_later (suc k) e = let w : n ≡ 4 * (n / 4) = whole (omega arith) in rw (drop-drop (4 * (n / 4)) i bs, ← w)
 
     split : each_packet form ((length bs - i) / 4) (drop i bs) ≡ each_packet form (n / 4) piece ++ each_packet form later (drop (i + n) bs)
-    split =
-        ap (λ (k : ℕ). each_packet form k (drop i bs)) counts ∙ each_split form (n / 4) later (drop i bs)
-        ∙ ap₂ ◌++◌ (sym (each_take form f.own (n / 4) n (drop i bs) (omega arith))) rest
+    split = rw (counts, each_split form (n / 4) later (drop i bs), each_take form f.own (n / 4) n (drop i bs) (omega arith), rest)
 
     module _ {out₀ out : List ℕ} {start at : ℕ} (inv : Filling form bs out₀ out start at i) where
       filling_room : at + 3 * (n / 4) ≤ length out
@@ -107,11 +103,8 @@ module _ (bs : List ℕ) (i n : ℕ) (more : i + n ≤ length bs) (whole : (n �
           let left = each_packet form later (drop (i + n) bs) in
           let long : length out' ≡ length out = ap length puts ∙ length-sets out at put in
           record {
-            same = long ∙ inv.same;
             room = omega (arith, inv.room, counts, behind, each_few form f.few (n / 4) piece, long);
-            area =
-                ap₂ (λ (x : List ℕ) (y : ℕ). sets x y left) puts behind
-                ∙ sym (sets_append out at put left) ∙ ap (sets out at) (sym split) ∙ inv.area;
+            area = rw (puts, behind, ← sets_append out at put left, ← split) inv.area;
           }
 
   module _ {out₀ out cs₀ cs : List ℕ} {start at : ℕ} (inv : Decoding bs out₀ out cs₀ cs start at i) where
@@ -125,10 +118,10 @@ module _ (bs : List ℕ) (i n : ℕ) (more : i + n ≤ length bs) (whole : (n �
         record {
           inside = more;
           bytes = filling_more bytes_form inv.bytes d.area d.behind;
-          cables = filling_more cables_form inv.cables d.cables (d.behind ∙ ap (λ (k : ℕ). at + k) (sym (cables_length (n / 4) piece)));
+          cables = filling_more cables_form inv.cables d.cables (rw (cables_length (n / 4) piece) d.behind);
           end =
-              let lengths : at' + length left ≡ at + length (put ++ left) = omega (arith, d.behind, length-append put left) in
-              lengths ∙ ap (λ (l : List ℕ). at + length l) (sym (split bytes_form)) ∙ inv.end;
+              let joined = rw (split bytes_form, length-append put left) at inv.end in
+              omega (arith, d.behind, joined);
         }
 
 -- ---- one packet
@@ -165,17 +158,9 @@ decoding_packet {bs} {out₀} {out} {out'} {cs₀} {cs} {cs'} {start} {at} {at'}
     let next : 4 * i + 4 ≡ 4 * (i + 1) = omega arith in
     let bytes = take_four bs (4 * i) fits in
     let packet : four x ≡ take 4 (drop (4 * i) bs) = ap four (e ∙ bytes) ∙ sym bytes in
-    subst (λ (j : ℕ). Decoding bs out₀ out' cs₀ cs' start at' j) next
-    (decoding_more bs (4 * i) 4 fits (inl refl) inv (subst (λ (l : List ℕ). Decodes 1 l out out' cs cs' at at') packet d))
+    rw (← next) (decoding_more bs (4 * i) 4 fits (λ more. refl) inv (rw packet at d))
 
 -- ---- a turn of the loop over the pieces of a run of total bytes
-
-min_512 : (x : ℕ) → (min 512 x ≡ 512) ⊎ (min 512 x ≡ x)
-min_512 x = by_test (leb 512 x) refl
-  where
-    by_test : (t : Bool) → leb 512 x ≡ t → (min 512 x ≡ 512) ⊎ (min 512 x ≡ x)
-    by_test true h = inl (min-eq_left (leb-true 512 x h))
-    by_test false h = inr (min-eq_right (le_of_lt (leb-false 512 x h)))
 
 module _ (total from n : ℕ) (goes : from < total) (is : n ≡ min 512 (total - from)) where
   pub piece_few : n ≤ 512
@@ -184,8 +169,8 @@ module _ (total from n : ℕ) (goes : from < total) (is : n ≡ min 512 (total -
   pub piece_inside : from + n ≤ total
   piece_inside = omega (arith, is, min-le_right 512 (total - from))
 
-  piece_whole : (n ≡ 4 * (n / 4)) ⊎ (from + n ≡ total)
-  piece_whole = ⊎_elim (λ e. inl (omega (arith, is))) (λ e. inr (omega (arith, is))) (min_512 (total - from))
+  piece_whole : from + n < total → n ≡ 4 * (n / 4)
+  piece_whole more = omega (arith, is)
 
 module _ (m : Memory) (ps : List ℕ) (total : ℕ) where
   size : length (bytes_in m ps total) ≡ total
@@ -193,10 +178,7 @@ module _ (m : Memory) (ps : List ℕ) (total : ℕ) where
 
   module _ {out₀ cs₀ : List ℕ} {start : ℕ} where
     pub run_first : start + 3 * (total / 4) ≤ length out₀ → start + 3 * (total / 4) ≤ length cs₀ → Decoding (bytes_in m ps total) out₀ out₀ cs₀ cs₀ start start 0
-    run_first h k = decoding_first (fits h) (fits k)
-      where
-        fits : {x : ℕ} → start + 3 * (total / 4) ≤ x → start + 3 * (length (bytes_in m ps total) / 4) ≤ x
-        fits {x} e = subst (λ (j : ℕ). start + 3 * (j / 4) ≤ x) (sym size) e
+    run_first h k = decoding_first (rw size h) (rw size k)
 
     module _ {out cs : List ℕ} {at from : ℕ} (inv : Decoding (bytes_in m ps total) out₀ out cs₀ cs start at from) where
       pub run_end : total ≤ from → Decodes (total / 4) (bytes_in m ps total) out₀ out cs₀ cs start at
@@ -206,8 +188,8 @@ module _ (m : Memory) (ps : List ℕ) (total : ℕ) where
         inside_bytes : from + n ≤ length (bytes_in m ps total)
         inside_bytes = omega (arith, size, piece_inside total from n goes is)
 
-        whole_pieces : (n ≡ 4 * (n / 4)) ⊎ (from + n ≡ length (bytes_in m ps total))
-        whole_pieces = ⊎_elim (λ e. inl e) (λ e. inr (e ∙ sym size)) (piece_whole total from n goes is)
+        whole_pieces : from + n < length (bytes_in m ps total) → n ≡ 4 * (n / 4)
+        whole_pieces more = piece_whole total from n goes is (omega (arith, size))
 
         pub run_room : (at + 3 * (n / 4) ≤ length out) × (at + 3 * (n / 4) ≤ length cs)
         run_room = piece_room (bytes_in m ps total) from n inside_bytes whole_pieces inv
@@ -215,5 +197,4 @@ module _ (m : Memory) (ps : List ℕ) (total : ℕ) where
         pub decoding_run : (k : ℕ) → k ≡ n → {out' cs' : List ℕ} {at' : ℕ} → Decodes (k / 4) (bytes_from m ps from k) out out' cs cs' at at' → Decoding (bytes_in m ps total) out₀ out' cs₀ cs' start at' (from + n)
         decoding_run k e {out'} {cs'} {at'} d =
             decoding_more (bytes_in m ps total) from n inside_bytes whole_pieces inv
-            (subst (λ (l : List ℕ). Decodes (n / 4) l out out' cs cs' at at') (from_in m ps from n total (piece_inside total from n goes is))
-            (subst (λ (j : ℕ). Decodes (j / 4) (bytes_from m ps from j) out out' cs cs' at at') e d))
+            (rw (e, from_in m ps from n total (piece_inside total from n goes is)) at d)

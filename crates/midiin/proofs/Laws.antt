@@ -16,10 +16,12 @@ use Rattle.usbdev.proofs.Tokens.{total_lt}
 use Rattle.transfer.specs.Transfer.{pointers, pointers_for, bytes_in}
 use Rattle.transfer.proofs.Laws.{length_bytes_in}
 use Rattle.transfer.proofs.Addresses.{bytes_for}
-use Rattle.dtd.specs.Dtd.{Endpoint, endpoint, primed, descriptor, Run, run_dtds, found, active}
+use Rattle.dtd.specs.declared.Descriptor.{Descriptor}
+use Rattle.dtd.specs.declared.Found.TheVariants.{Active}
+use Rattle.dtd.specs.Dtd.{Endpoint, endpoint, primed, descriptor, Run, run_dtds, found}
 use Rattle.dtd.specs.declared.Ran.{Ran}
 use Rattle.dtd.specs.Promises.{TakesOne, Runs, Idle}
-use Rattle.dtd.proofs.Runs.{says_active, runs_active, input_bytes}
+use Rattle.dtd.proofs.Runs.{runs_active, input_bytes, says, says_found}
 use Rattle.record.specs.declared.State.{State}
 use Rattle.record.specs.Record.{with_stats, counted, midi_dtds}
 use Rattle.record.specs.World.{World, at_page, with_receive_area, with_cables_area}
@@ -136,25 +138,25 @@ module _ (s : State) (m : Memory) (out cs : List ℕ) (z : Sized m) where
   abbrev before : S.Bus
   before = S.bus m s.port.line
 
-  module _ (qh td tok : ℕ) (f : found MIDI_IN m ≡ active qh td tok) (m' : Memory) (out' cs' : List ℕ) (r : Ran) (takes : TakesOne qh td tok 0x20000 before (S.bus m' r.line) r)
-      (total d : ℕ) (ps : List ℕ) (at : ℕ) (is-total : total ≡ total_of tok) (is-d : d ≡ descriptor td) (is-ps : ps ≡ pointers_for m d total)
+  module _ (x : Descriptor) (f : found MIDI_IN m ≡ Active x) (m' : Memory) (out' cs' : List ℕ) (r : Ran) (takes : TakesOne x.queue_head x.pointer x.token x.bit before (S.bus m' r.line) r)
+      (total d : ℕ) (ps : List ℕ) (at : ℕ) (is-total : total ≡ total_of x.token) (is-d : d ≡ descriptor x.pointer) (is-ps : ps ≡ pointers_for m d total)
       (puts : Decodes (total / 4) (bytes_in m ps total) out out' cs cs' s.answer.received at) where
     few_total : total ≤ 32767
-    few_total = omega (arith, is-total, total_lt tok)
+    few_total = omega (arith, is-total, total_lt x.token)
 
-    same_bytes : bytes_in m ps total ≡ bytes_in m (pointers m (descriptor td)) total
+    same_bytes : bytes_in m ps total ≡ bytes_in m (pointers m (descriptor x.pointer)) total
     same_bytes =
-        ap (λ (x : List ℕ). bytes_in m x total) is-ps ∙ bytes_for m d total few_total m total (omega arith)
-        ∙ ap (λ (x : ℕ). bytes_in m (pointers m x) total) is-d
+        ap (λ (y : List ℕ). bytes_in m y total) is-ps ∙ bytes_for m d total few_total m total (omega arith)
+        ∙ ap (λ (y : ℕ). bytes_in m (pointers m y) total) is-d
 
-    found_bytes : (run_dtds MIDI_IN [] before).bytes ≡ bytes_in m (pointers m (descriptor td)) total
-    found_bytes = input_bytes 1 (omega arith) m s.port.line qh td tok (says_active MIDI_IN m qh td tok f) ∙ ap (bytes_in m (pointers m (descriptor td))) (sym is-total)
+    found_bytes : (run_dtds MIDI_IN [] before).bytes ≡ bytes_in m (pointers m (descriptor x.pointer)) total
+    found_bytes = input_bytes 1 (omega arith) m s.port.line x.queue_head x.pointer x.token (says MIDI_IN m f).0 ∙ ap (bytes_in m (pointers m (descriptor x.pointer))) (sym is-total)
 
-    pub found_read : {x : Read} → x ≡ after_read s r total at → ReadsOne s m out cs x m' out' cs'
+    pub found_read : {y : Read} → y ≡ after_read s r total at → ReadsOne s m out cs y m' out' cs'
     found_read e =
         rw e
-        (active_read s m m' out out' cs cs' r (runs_active MIDI_IN [] m s.port.line z refl qh td tok f 0x20000 refl (takes 1)) total at
-        (bytes_in m (pointers m (descriptor td)) total) found_bytes (length_bytes_in m (pointers m (descriptor td)) total)
+        (active_read s m m' out out' cs cs' r (runs_active MIDI_IN [] m s.port.line z refl x.queue_head x.pointer x.token (says_found MIDI_IN m f) x.bit (says MIDI_IN m f).1 (takes 1)) total at
+        (bytes_in m (pointers m (descriptor x.pointer)) total) found_bytes (length_bytes_in m (pointers m (descriptor x.pointer)) total)
         (subst (λ (l : List ℕ). Decodes (total / 4) l out out' cs cs' s.answer.received at) same_bytes puts))
 
 -- ---- the loop over reads: what is left to read from here leads to where the whole does

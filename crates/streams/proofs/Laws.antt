@@ -1,8 +1,8 @@
 -- The steps of serial, MIDI and vendor transfers, from what the code does.
 use Prim.Native.Nat.{ℕ, ◌+◌, ◌-◌, ◌*◌, ◌/◌, ◌≤◌, min}
-use mathlib.Core.Bool.{Bool, true, false, not, ◌&&◌}
+use mathlib.Core.Bool.{true, false, not, ◌&&◌}
 use mathlib.Core.List.{List, []}
-use mathlib.Core.Path.{◌≡◌, refl, sym, ap, ap₂, subst, ◌∙◌}
+use mathlib.Core.Path.{◌≡◌, refl, ap, ◌∙◌}
 use Rattle.std.proofs.Common.{Option, None, Some}
 use native.Mathlib.Omega.{arith}
 use native.Mathlib.Nat.{min-le_right, le_refl, le_trans, div-mul-le_self}
@@ -25,10 +25,10 @@ use Rattle.record.specs.Record.{with_stats, with_answer, with_count, with_length
 use Rattle.record.specs.World.{World, at_bus, with_serial_queue, with_midi_queue, with_receive_area}
 use Rattle.record.specs.Change.{count, received, serial, midi, drained, apply, Step, nothing, when, one, here}
 use Rattle.record.specs.Did.{Leads, Did, after_run}
-use Rattle.record.proofs.Laws.{in_turn, by_true, by_false, unchanged, once, from_here, leads_as, leads_by, run_then}
+use Rattle.record.proofs.Laws.{in_turn, by_true, by_false, unchanged, once, from_here, run_then}
 use Rattle.model.specs.Streams.{ready, fitting, drains_serial, serial_step, drains_midi, reads_vendor}
 use Rattle.streams.specs.declared.Taken.{Taken}
-use Rattle.streams.specs.Promises.{at_receive, packet_of, served, Fewer, GivesBytes, Gives, Receives, Serves, ServesBoth}
+use Rattle.streams.specs.Promises.{at_receive, packet_of, served, Fewer, GivesNothing, GivesBytes, Gives, Receives, Serves, ServesBoth}
 use Rattle.model.specs.Streams.{takes_serial, gives_serial}
 use Rattle.streams.proofs.Found.{active_ready, active_token, moved_bytes}
 use Rattle.model.proofs.Bytes.{run_bytes}
@@ -36,8 +36,7 @@ use Rattle.model.proofs.Bytes.{run_bytes}
 -- ---- what is in use
 
 pub fewer_same : {a b : Lengths} → b ≡ a → Fewer a b
-fewer_same {a} e =
-    subst (λ (x : Lengths). Fewer a x) (sym e) (record { setups = refl; midi = le_refl a.midi; serial = le_refl a.serial; device = refl; config = refl })
+fewer_same {a} e = rw e (record { setups = refl; midi = le_refl a.midi; serial = le_refl a.serial; device = refl; config = refl })
 
 pub fewer_then : {a b c : Lengths} → Fewer a b → Fewer b c → Fewer a c
 fewer_then p q =
@@ -67,7 +66,7 @@ module _ (s : State) (m m' : Memory) (r : Ran) (run : Runs (endpoint 2 true) [] 
   vendor_steps {t} e =
       record {
         leads = λ w. run_then (endpoint 2 true) [] _ w s m m' r run
-            (once (λ v. count vendor_in_bytes (length bytes)) (at_bus w (after_run s r) m') _ (ap (λ (x : State). at_bus w x m') (e ∙ ap₂ counting is same_count)));
+            (once (λ v. count vendor_in_bytes (length bytes)) (at_bus w (after_run s r) m') _ (rw (e, is, same_count)));
         sized = run.does.sized;
       }
 
@@ -86,18 +85,18 @@ module _ (e : Endpoint) (held : World → ℕ) (f : ℕ → Step) where
 -- whether it is served, by what `find` says
 module _ (e : Endpoint) (held : ℕ) (m : Memory) where
   pub served_none : held ≡ 0 → served e held m ≡ false
-  served_none h = ap (λ (t : Bool). not t && (primed e m.page && next_active e m)) (eq-eqb held 0 h)
+  served_none h = rw (eq-eqb held 0 h)
 
   pub served_not : primed e m.page && next_active e m ≡ false → served e held m ≡ false
-  served_not h = ap (λ (t : Bool). not (eqb held 0) && t) h ∙ and_false (not (eqb held 0))
+  served_not h = rw h (and_false (not (eqb held 0)))
 
   pub served_active : (held ≡ 0 → ⊥) → (qh n tok : ℕ) → found e m ≡ active e qh n tok → served e held m ≡ true
-  served_active some qh n tok f = ap₂ (λ (t u : Bool). not t && u) (ne_eqb held 0 some) (active_ready e m qh n tok f)
+  served_active some qh n tok f = rw (ne_eqb held 0 some) (active_ready e m qh n tok f)
 
 -- what fits, by the token that `find` says
 pub fits_active : (e : Endpoint) (m : Memory) (qh n tok : ℕ) → found e m ≡ active e qh n tok → (held unit k : ℕ) → k ≡ packet_of tok held
     → k / unit * unit ≡ packet_of (token_of (next_dtd e m) m) held / unit * unit
-fits_active e m qh n tok f held unit k is = ap (λ (x : ℕ). x / unit * unit) (is ∙ ap (λ (x : ℕ). packet_of x held) (active_token e m qh n tok f))
+fits_active e m qh n tok f held unit k is = rw (is, active_token e m qh n tok f)
 
 -- ---- serial
 
@@ -115,21 +114,20 @@ module _ (s : State) (m m' : Memory) (out out' : List ℕ) (filled : Filled)
 
   area : out' ≡ sets out s.answer.received brought
   unfolding kept
-  area = run.area ∙ ap (sets out s.answer.received) whole
+  area = rw whole at run.area
 
   end : filled.at ≡ s.answer.received + length brought
   unfolding kept_end
-  end = run.end ∙ ap (λ (bs : List ℕ). s.answer.received + length bs) whole
+  end = rw whole at run.end
 
   pub serial_in_steps : {t : State} → t ≡ arrived next filled.at → Receives takes_serial s m out t m' out'
   unfolding apply
   serial_in_steps {t} e =
       record {
         leads = λ w. run_then (endpoint 2 true) [] _ (with_receive_area w out) s m m' filled.ran run.runs
-            (once (λ v. received brought) (at_receive w (after_run s filled.ran) m' out) _
-            (ap₂ (λ (x : State) (y : List ℕ). at_receive w x m' y) (e ∙ ap₂ arrived is end) area));
+            (once (λ v. received brought) (at_receive w (after_run s filled.ran) m' out) _ (rw (e, is, end, area)));
         sized = run.runs.does.sized;
-        few = fewer_same (ap (λ (x : State). x.lengths) (e ∙ ap (λ (x : State). arrived x filled.at) is));
+        few = rw (e, is) (fewer_same refl);
       }
 
 -- n bytes of the queue go, which loses them
@@ -138,19 +136,17 @@ module _ (s : State) (m m' : Memory) (q q' : List ℕ) (r : Ran) (n : ℕ) (run 
   abbrev lefts : State → State
   lefts t = with_lengths t (with_serial t.lengths (s.lengths.serial - n))
 
-  less : Fewer s.lengths (lefts s).lengths
-  less = record { setups = refl; midi = le_refl s.lengths.midi; serial = omega arith; device = refl; config = refl }
-
   pub serial_sent_lem : {t next : State} → next ≡ after_run s r → t ≡ lefts next → Serves with_serial_queue (drains_serial n) s m q t m' q'
   unfolding drains_serial apply
   serial_sent_lem {t} {next} is e =
       record {
-        leads = λ w. from_here _ (at_bus (with_serial_queue w q) s m)
+        leads = λ w. rw (e, is, drains)
+            (from_here _ (at_bus (with_serial_queue w q) s m)
             (in_turn (once (λ v. serial n) (at_bus (with_serial_queue w q) s m) (at_bus (with_serial_queue w (drained q s.lengths.serial n)) (lefts s) m) refl)
             (run_then (endpoint 2 false) (take n q) (λ x. nothing) (with_serial_queue w (drained q s.lengths.serial n)) (lefts s) m m' r run
-            (leads_as (unchanged _) (ap₂ (λ (x : State) (y : List ℕ). at_bus (with_serial_queue w y) x m') (e ∙ ap lefts is) drains))));
+            (unchanged _))));
         sized = run.does.sized;
-        few = subst (λ (x : State). Fewer s.lengths x.lengths) (sym (e ∙ ap lefts is)) less;
+        few = rw (e, is) (record { setups = refl; midi = le_refl s.lengths.midi; serial = omega arith; device = refl; config = refl });
       }
 
 -- both directions
@@ -177,21 +173,17 @@ module _ (s : State) (m m' : Memory) (q q' : List ℕ) (r : Ran) (n : ℕ) (run 
   abbrev more : State → State
   more t = with_stats t (counted midi_packets_out (n / 4) t.stats)
 
-  less_midi : Fewer s.lengths (fewer s).lengths
-  less_midi = record { setups = refl; midi = omega arith; serial = le_refl s.lengths.serial; device = refl; config = refl }
-
   pub midi_sent_lem : {t next counting : State} → next ≡ after_run s r → counting ≡ more next → t ≡ fewer counting → Serves with_midi_queue (drains_midi n) s m q t m' q'
   unfolding drains_midi apply
   midi_sent_lem {t} is counts e =
-      let all = e ∙ ap fewer (counts ∙ ap more is) in
       record {
-        leads = λ w. from_here _ (at_bus (with_midi_queue w q) s m)
+        leads = λ w. rw (e, counts, is, drains)
+            (from_here _ (at_bus (with_midi_queue w q) s m)
             (in_turn (once (λ v. midi n) (at_bus (with_midi_queue w q) s m) (at_bus (with_midi_queue w behind) (fewer s) m) refl)
             (run_then (endpoint 1 false) (take n q) (λ x. one (λ v. count midi_packets_out (n / 4))) (with_midi_queue w behind) (fewer s) m m' r run
-            (once (λ v. count midi_packets_out (n / 4)) (at_bus (with_midi_queue w behind) (fewer (after_run s r)) m') _
-            (ap₂ (λ (x : State) (y : List ℕ). at_bus (with_midi_queue w y) x m') all drains))));
+            (once (λ v. count midi_packets_out (n / 4)) (at_bus (with_midi_queue w behind) (fewer (after_run s r)) m') _ refl))));
         sized = run.does.sized;
-        few = subst (λ (x : State). Fewer s.lengths x.lengths) (sym all) less_midi;
+        few = rw (e, counts, is) (record { setups = refl; midi = omega arith; serial = le_refl s.lengths.serial; device = refl; config = refl });
       }
 
 -- whole units of what a packet carries wait
@@ -211,18 +203,15 @@ pub record Output : Type 0 where
   pub same : (x : ℕ) → drains (x / unit * unit) ≡ step x
 
 module _ (o : Output) (s : State) (m m' : Memory) (q q' : List ℕ) (k : Option Taken) (g : Gives o.to o.unit s.port.line m q (o.held s.lengths) k m' q') where
-  abbrev As : Option Taken → Type 0
-  As x = Gives o.to o.unit s.port.line m q (o.held s.lengths) x m' q'
-
   abbrev given : Step
   given = sends o.to (λ v. o.held v.state.lengths) o.step
 
   pub nothing_given : k ≡ None → Serves o.put given s m q s m' q'
   unfolding Gives
   nothing_given is =
-      let none = subst As is g in
+      let none : GivesNothing o.to m q (o.held s.lengths) m' q' = rw is at g in
       record {
-        leads = λ w. leads_as (none_sent o.to (λ v. o.held v.state.lengths) o.step (at_bus (o.put w q) s m) none.none) (ap₂ (λ (x : Memory) (y : List ℕ). at_bus (o.put w y) s x) none.memory none.queue);
+        leads = λ w. rw (none.memory, none.queue) (none_sent o.to (λ v. o.held v.state.lengths) o.step (at_bus (o.put w q) s m) none.none);
         sized = none.sized;
         few = fewer_same refl;
       }
@@ -230,7 +219,7 @@ module _ (o : Output) (s : State) (m m' : Memory) (q q' : List ℕ) (k : Option 
   module _ {t : Taken} (is : k ≡ Some t) where
     some : GivesBytes o.to o.unit s.port.line m q (o.held s.lengths) t m' q'
     unfolding Gives
-    some = subst As is g
+    some = rw is at g
 
     pub bytes_held : t.bytes ≤ o.held s.lengths
     bytes_held = some.few
@@ -241,8 +230,7 @@ module _ (o : Output) (s : State) (m m' : Memory) (q q' : List ℕ) (k : Option 
     bytes_given sent =
         let p = sent some.run some.queue in
         record {
-          leads = λ w. some_sent o.to (λ v. o.held v.state.lengths) o.step (at_bus (o.put w q) s m) some.some
-              (leads_by {f = o.drains t.bytes} (ap (λ (x : ℕ). o.drains x (at_bus (o.put w q) s m)) some.fits ∙ ap (λ (h : Step). h (at_bus (o.put w q) s m)) (o.same _)) (p.leads w));
+          leads = λ w. some_sent o.to (λ v. o.held v.state.lengths) o.step (at_bus (o.put w q) s m) some.some (rw (← o.same _, ← some.fits) (p.leads w));
           sized = p.sized;
           few = p.few;
         }

@@ -8,8 +8,8 @@ use lib.Dec.{eqb, leb, ltb}
 use lib.ListN.{length}
 use borrow.Author.Tests.{eqb-true, leb-true, ne_eqb}
 use Rattle.bits.specs.Pick.{pick}
-use Rattle.bus.specs.Sized.{Sized, is_sized}
-use Rattle.bus.proofs.Sizes.{and_true, is_sized_lem}
+use Rattle.bus.specs.Sized.{is_sized}
+use Rattle.bus.proofs.Sizes.{and_true}
 use Rattle.refusal.specs.declared.Refusal.{Refusal}
 use Rattle.refusal.specs.Number.{number}
 use Rattle.midi.specs.declared.Packer.{Packer}
@@ -19,14 +19,14 @@ use Rattle.record.specs.Record.{with_answer}
 use Rattle.record.specs.Did.{Leads}
 use Rattle.bounds.specs.Bounds.{MOST, areas_ok, received_ok, sending_ok, in_bounds, enumerating_ok, counts_ok}
 use Rattle.model.specs.Microframe as M
-use Rattle.frames.specs.Promises.{Fit, Long, Frame}
+use Rattle.frames.specs.Promises.{Fit, Frame}
 use Rattle.frames.proofs.Fit.{fit_of}
 use Rattle.record.specs.World.{Own, Lent, World, world}
 use Rattle.usbhost.specs.declared.Host.{Host}
 use Rattle.usbhost.specs.Answers.{Stored, Framed}
 use Rattle.usbhost.specs.Host.{state_of, host_of, own_of, host_with}
 use Rattle.usbhost.specs.Calls.{unless, bounded, few_spans, sending_length}
-use Rattle.usbhost.specs.Frame.{world_of, lengths_ok, area_lengths, bounds_ok, frame_bounds, frame_number, framed, frame_answer}
+use Rattle.usbhost.specs.Frame.{world_of, lengths_ok, Long, area_lengths, bounds_ok, frame_bounds, frame_number, framed, frame_answer}
 use Rattle.usbhost.specs.Promises.{bare, unanswered, FramePromise}
 use Rattle.usbhost.proofs.Laws.{refused}
 
@@ -59,17 +59,9 @@ accepted_tests h l e =
     record { sized = p₁.0; lengths = p₂.0; spans = p₃.0; bounds = p₄.0; before = p₅.0 }
 
 -- the lengths that number 2 tests
-record Lengthy (reply config receive cables received sending : ℕ) : Type 0 where
-  reply_long : 65535 ≤ reply
-  config_long : 65535 ≤ config
-  receive_long : 196608 ≤ receive
-  cables_long : 196608 ≤ cables
-  received_whole : received ≡ 576000
-  sending_most : sending ≤ 576000
-
-lengthy : (reply config receive cables received sending : ℕ) → lengths_ok reply config receive cables received sending ≡ true → Lengthy reply config receive cables received sending
+pub lengths_long : (reply config receive cables received sending : ℕ) → lengths_ok reply config receive cables received sending ≡ true → Long reply config receive cables received sending
 unfolding lengths_ok sending_length
-lengthy reply config receive cables received sending e =
+lengths_long reply config receive cables received sending e =
     let a = and_true (leb 65535 reply) _ e in
     let b = and_true (leb 65535 config) _ a.1 in
     let d = and_true (leb 196608 receive) _ b.1 in
@@ -86,21 +78,8 @@ lengthy reply config receive cables received sending e =
     }
 
 module _ (h : Host) (l : Lent) (e : frame_number h l ≡ 0) where
-  lengthy_of : Lengthy (length l.reply) (length l.config) (length l.receive) (length l.cables) (length l.received) (length l.sending)
-  lengthy_of = lengthy (length l.reply) (length l.config) (length l.receive) (length l.cables) (length l.received) (length l.sending) (accepted_tests h l e).lengths
-
-  pub accepted_sized : Sized l.memory
-  accepted_sized = is_sized_lem l.memory (accepted_tests h l e).sized
-
-  pub accepted_long : Long l.reply l.config l.receive l.cables l.received
-  accepted_long =
-      record {
-        reply_long = lengthy_of.reply_long;
-        config_long = lengthy_of.config_long;
-        receive_long = lengthy_of.receive_long;
-        cables_long = lengthy_of.cables_long;
-        received_whole = lengthy_of.received_whole;
-      }
+  pub accepted_long : Long (length l.reply) (length l.config) (length l.receive) (length l.cables) (length l.received) (length l.sending)
+  accepted_long = lengths_long _ _ _ _ _ _ (accepted_tests h l e).lengths
 
   pub accepted_fit : Fit (state_of h) (length l.sending)
   unfolding bounds_ok
@@ -108,7 +87,7 @@ module _ (h : Host) (l : Lent) (e : frame_number h l ≡ 0) where
       let a = and_true (bounded h) _ (accepted_tests h l e).bounds in
       let b = and_true (areas_ok (state_of h) (length l.reply) (length l.config)) _ a.1 in
       let d = and_true (received_ok (state_of h)) (sending_ok (state_of h) (length l.sending)) b.1 in
-      fit_of (state_of h) h.packers h.setups (length l.sending) a.0 d.0 d.1 lengthy_of.sending_most refl
+      fit_of (state_of h) h.packers h.setups (length l.sending) a.0 d.0 d.1 accepted_long.sending_most refl
 
   pub accepted_spans : h.settings.spans ≤ 16
   accepted_spans = leb-true h.settings.spans 16 (accepted_tests h l e).spans
@@ -121,14 +100,19 @@ pub bare_number : (s : State) (c : Settings) (packers : List Packer) (o : Own) (
 unfolding frame_number bounds_ok in_bounds enumerating_ok counts_ok areas_ok
 bare_number s c packers o l = refl
 
--- and is given by the tests of its parts
-pub frame_tests : (f : State) (spans : ℕ) (packers : List Packer) (setups : List ℕ) (l : Lent) {sized : Bool} → sized ≡ is_sized l.memory
-    → unless 1 sized (unless 2 (area_lengths l) (unless 3 (leb spans 16)
-    (unless 5 (in_bounds f packers setups && (areas_ok f (length l.reply) (length l.config) && (received_ok f && sending_ok f (length l.sending))))
-    (unless 6 (ltb f.port.uf MOST) 0))))
-    ≡ frame_number (bare f spans packers setups) l
-unfolding frame_number bounds_ok in_bounds enumerating_ok counts_ok areas_ok
-frame_tests f spans packers setups l e = rw e refl
+-- it is 1 where the windows have other lengths, and else given by the tests of its parts
+module _ (f : State) (spans : ℕ) (packers : List Packer) (setups : List ℕ) (l : Lent) where
+  pub frame_unsized : is_sized l.memory ≡ false → 1 ≡ frame_number (bare f spans packers setups) l
+  unfolding frame_number
+  frame_unsized e = rw e refl
+
+  pub frame_tests : is_sized l.memory ≡ true
+      → unless 2 (area_lengths l) (unless 3 (leb spans 16)
+      (unless 5 (in_bounds f packers setups && (areas_ok f (length l.reply) (length l.config) && (received_ok f && sending_ok f (length l.sending))))
+      (unless 6 (ltb f.port.uf MOST) 0)))
+      ≡ frame_number (bare f spans packers setups) l
+  unfolding frame_number bounds_ok in_bounds enumerating_ok counts_ok areas_ok
+  frame_tests e = rw e refl
 
 module _ (t : ℕ) (h : Host) (l : Lent) {n : ℕ} (e : n ≡ frame_number h l) where
   pub frame_stops : (n ≡ 0 → ⊥) → FramePromise t h l (record { refusal = n; state = state_of h }) (own_of h) l
@@ -154,13 +138,16 @@ module _ (t : ℕ) (s : State) (c : Settings) (packers : List Packer) (o : Own) 
   pub parts_stop : (n ≡ 0 → ⊥) → FramePromise t whole l (record { refusal = n; state = f }) o l
   parts_stop m = rw u (frame_stops t whole l number_of m)
 
-  pub parts_ask : n ≡ 0 → Sized l.memory × (Long l.reply l.config l.receive l.cables l.received × (Fit f (length l.sending) × (c.spans ≤ 16)))
-  parts_ask z =
+  pub parts_fit : n ≡ 0 → Fit f (length l.sending) × (c.spans ≤ 16)
+  parts_fit z =
       let none : frame_number whole l ≡ 0 = sym number_of ∙ z in
-      (accepted_sized whole l none, (accepted_long whole l none, (rw u (accepted_fit whole l none), accepted_spans whole l none)))
+      (rw u (accepted_fit whole l none), accepted_spans whole l none)
 
-  pub parts_go : n ≡ 0 → (s' : State) (o' : Own) (l' : Lent) → Frame t c f o l s' o' l' → FramePromise t whole l (record { refusal = 0; state = s' }) o' l'
-  parts_go z s' o' l' d = frame_goes t whole l number_of z s' o' l' ((rw u at d).leads packers)
+  -- the windows and the areas as two values hold what was lent, and what is left is what they hold
+  pub parts_go : n ≡ 0 → {o₁ o₂ o₃ : Own} {l₁ l₂ l₃ : Lent} (s' : State) → Frame t c f o₁ l₁ s' o₂ l₂
+      → o₁ ≡ o → l₁ ≡ l → o₃ ≡ o₂ → l₃ ≡ l₂ → FramePromise t whole l (record { refusal = 0; state = s' }) o₃ l₃
+  parts_go z s' d p q p' q' =
+      rw (p', q') (frame_goes t whole l number_of z s' _ _ ((rw (u, p, q) at d).leads packers))
 
 -- ---- the call by value
 

@@ -1,7 +1,7 @@
 // The host record, and the calls on it: microframe, MIDI and serial send, frames given and taken, device access.
 #![tactic(auto)]
 
-ghost use Rattle.std.specs.Prelude.{◌≡◌, ◌&&◌, ◌++◌, ℕ, ◌+◌, ◌-◌, ◌*◌, ◌≤◌, length, take, drop, replicate, eqb, leb, ltb, IfOk};
+ghost use Rattle.std.specs.Prelude.{◌≡◌, ◌&&◌, ◌++◌, ℕ, ◌+◌, ◌-◌, ◌*◌, ◌≤◌, length, take, drop, replicate, eqb, leb, ltb, IfOk, OnOk};
 ghost use Rattle.std.proofs.lemmas.List.Edits.{sets};
 ghost use Rattle.refusal.specs.Number.{number_of};
 ghost use Rattle.usbdev.specs.Access.{fits, read_sized};
@@ -12,12 +12,14 @@ ghost use Rattle.model.specs.Microframe.{streaming as Microframe·streaming};
 ghost use Rattle.usbhost.specs.Answers.{sent_by, taken_by, read_by, framed_by, midi_sent_by, stored_by, taken_frame_by};
 ghost use Rattle.usbhost.specs.Calls.{unless, sending_length, midi_sent, serial_sent, given, given_ring, give_number, taken_frame, take_number, device_read, device_written, written_page};
 ghost use Rattle.usbhost.specs.Promises.{bare, unanswered, MidiPromise, SerialPromise, GivePromise, TakePromise, ReadPromise, WritePromise, FramePromise};
-ghost use Rattle.usbhost.specs.Frame.{lengths_ok, framed, frame_answer};
+ghost use Rattle.usbhost.specs.Frame.{lengths_ok, Long, framed, frame_answer};
 ghost use Rattle.bus.specs.Memory.{shown};
 ghost use Rattle.record.specs.Record.{no_span, counter_of, in_frames, out_frames};
 ghost use Rattle.record.specs.World.{own, lent};
 ghost use Rattle.usbhost.specs.Host.{state_of, host_of, host_with, no_settings, new_host, created, created_by};
 
+use bus::{PAGE, SRAM, Windows};
+use frames::Areas;
 use gptimers::Timers;
 use midi::{CABLES, Packer};
 use record::{
@@ -351,7 +353,7 @@ fn take_passes(
 
 // The lengths of the areas that a microframe is lent.
 #[derive(Clone, Copy)]
-struct Areas {
+struct AreaLengths {
     reply: usize,
     config: usize,
     receive: usize,
@@ -360,7 +362,7 @@ struct Areas {
     sending: usize,
 }
 
-impl Areas {
+impl AreaLengths {
     // Whether each is as long as it must be.
     #[tactic(auto, unfolding(crate::specs::Frame::lengths_ok))]
     fn long(self) -> bool
@@ -385,21 +387,21 @@ impl Areas {
     }
 }
 
-// Numbers 1, 2, 3, 5 and 6 of a microframe: whether the three windows have their lengths, the lengths of the areas, and the record.
+// Numbers 2, 3, 5 and 6 of a microframe: the lengths of the areas, and the record.
+#[tactic(auto, using(crate::proofs::Frame::lengths_long))]
 fn microframe_passes(
-    sized: bool,
-    areas: Areas,
+    lengths: AreaLengths,
     s: State,
     spans: usize,
     packers: [Packer; CABLES],
     setups: &[u8; SETUP_BYTES],
 ) -> Result<(), Refusal>
-    ensures { number_of result ≡ unless 1 sized (unless 2 (lengths_ok areas.reply areas.config areas.receive areas.cables areas.received areas.sending) (unless 3 (leb spans 16) (unless 5 (in_bounds s packers setups.now && (areas_ok s areas.reply areas.config && (received_ok s && sending_ok s areas.sending))) (unless 6 (ltb s.port.uf MOST) 0)))) }
+    ensures number { number_of result ≡ unless 2 (lengths_ok lengths.reply lengths.config lengths.receive lengths.cables lengths.received lengths.sending) (unless 3 (leb spans 16) (unless 5 (in_bounds s packers setups.now && (areas_ok s lengths.reply lengths.config && (received_ok s && sending_ok s lengths.sending))) (unless 6 (ltb s.port.uf MOST) 0))) }
+    ensures long { OnOk result (Long lengths.reply lengths.config lengths.receive lengths.cables lengths.received lengths.sending) }
 {
-    refusal::unless(sized, Refusal::Windows)?;
-    refusal::unless(areas.long(), Refusal::Areas)?;
+    refusal::unless(lengths.long(), Refusal::Areas)?;
     refusal::unless(spans <= 16, Refusal::Spans)?;
-    refusal::unless(areas.bound(s, packers, setups), Refusal::Bounds)?;
+    refusal::unless(lengths.bound(s, packers, setups), Refusal::Bounds)?;
     refusal::unless(s.port.uf < 1_099_511_627_776, Refusal::Microframes)
 }
 
@@ -440,8 +442,8 @@ pub fn run_microframe(
     ensures { FramePromise time (host_of s c packers (own setups.old midi.old serial.old device.old)) (lent (shown dynamic.old sram.old page.old) reply.old config.old receive.old cables.old received.old sending.now) (stored_by (unanswered s) result) (own setups.new midi.new serial.new device.new) (lent (shown dynamic.new sram.new page.new) reply.new config.new receive.new cables.new received.new sending.now) }
 {
     let fresh = unanswered(s);
-    let sized = bus::sized(&*dynamic, &*sram, &*page);
-    let areas = Areas {
+    bus::accept(&*dynamic, &*sram, &*page)?;
+    let lengths = AreaLengths {
         reply: reply.len(),
         config: config.len(),
         receive: receive.len(),
@@ -449,12 +451,28 @@ pub fn run_microframe(
         received: received.len(),
         sending: sending.len(),
     };
-    microframe_passes(sized, areas, fresh, c.spans, packers, &*setups)?;
-    let next = frames::microframe(
-        fresh, c, setups, midi, serial, device, dynamic, sram, page, reply, config, receive,
-        cables, received, sending, time,
-    );
-    Ok(next)
+    microframe_passes(lengths, fresh, c.spans, packers, &*setups)?;
+    let sram = sram.as_mut_array::<SRAM>().unwrap();
+    let page = page.as_mut_array::<PAGE>().unwrap();
+    let received = received.as_mut_array::<RING>().unwrap();
+    let mut windows = Windows {
+        dynamic,
+        sram,
+        page,
+    };
+    let mut areas = Areas {
+        setups,
+        midi,
+        serial,
+        device,
+        reply,
+        config,
+        receive,
+        cables,
+        received,
+        sending,
+    };
+    Ok(frames::microframe(fresh, c, &mut windows, &mut areas, time))
 }
 
 // Takes the oldest frame from the received ring, or finds it empty.
@@ -502,7 +520,7 @@ fn access(
     ensures number { number_of result ≡ unless 1 (eqb (length page.now) 4096) (unless 3 (leb spans 16) (unless 4 (fits off size) (unless 5 (in_bounds s packers setups.now) 0))) }
     ensures value { IfOk result (λ v. v ≡ read_sized page.now off size) }
 {
-    refusal::unless(page.len() == bus::PAGE, Refusal::Windows)?;
+    refusal::unless(page.len() == PAGE, Refusal::Windows)?;
     refusal::unless(spans <= 16, Refusal::Spans)?;
     let value = usbdev::read(page, off, size)?;
     refusal::unless(bounds::in_bounds(s, packers, setups), Refusal::Bounds)?;

@@ -12,6 +12,6 @@ returns-clause-left c =
     let m = contents a.windows.now in
     let d = a.descriptor in
     let can = c.requires.can_send.0 in
-    out_active a.s m a.sending.now (sized_of a.windows.now) can c.requires.can_send.1 d.queue_head d.pointer d.token c.requires.page_value _
+    out_active a.s m a.sending.now (sized_of a.windows.now) can c.requires.can_send.1 d c.requires.page_value _
     (λ w. block_is_lem (at_sent w a.s m a.sending.now) _ (c.encode.ensures (at_sent w a.s m a.sending.now)) can.block)
     _ _ c.send_one-ran.ensures.left _ _ c.after_run.ensures c.after_block.ensures

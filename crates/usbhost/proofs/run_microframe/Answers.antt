@@ -1,31 +1,31 @@
 -- `usbhost::run_microframe` meets its contract.
-use Rattle.std.proofs.Common.{refl, ◌∙◌}
+use Rattle.std.proofs.Common.{rules, refl, ap, ◌∙◌}
 use Rattle.std.proofs.lemmas.Result.{err_from_is_err_and}
-use Rattle.bus.specs.Memory.{memory}
-use Rattle.record.specs.World.{own, lent}
-use Rattle.usbhost.proofs.Laws.{refused}
-use Rattle.usbhost.proofs.Frame.{frame_tests, parts_stop, parts_ask, parts_go}
+use Rattle.refusal.specs.Number.{number}
+use Rattle.record.specs.World.{own}
+use Rattle.usbhost.proofs.Laws.{failed, passed, refused}
+use Rattle.usbhost.proofs.Frame.{frame_unsized, frame_tests, parts_stop, parts_fit, parts_go}
 use Rattle.usbhost.proofs.run_microframe.Goals as goal
+
+pub returns-in_err-accept : goal.returns-in_err-accept
+returns-in_err-accept c =
+    let p = err_from_is_err_and c.from_residual.result c.from_residual.ensures.1 in
+    let f = failed _ _ _ c.in_err-accept.ensures.tested in
+    rw (p.1, p.2, ← c.unanswered-fresh.ensures) (parts_stop _ c.args.s _ _ _ _ c.unanswered-fresh.ensures (ap number f.1 ∙ frame_unsized c.unanswered-fresh.result _ _ _ _ f.0) (refused _))
 
 pub returns-in_err-microframe_passes : goal.returns-in_err-microframe_passes
 returns-in_err-microframe_passes c =
-    let a = c.args in
-    let l = lent (memory a.dynamic.now a.sram.now a.page.now) a.reply.now a.config.now a.receive.now a.cables.now a.received.now a.sending.now in
-    let p = err_from_is_err_and c.from_residual.result c.from_residual.ensures.1 in
-    let number = c.in_err-microframe_passes.ensures ∙ frame_tests c.unanswered-fresh.result a.c.spans a.packers a.setups.now l c.sized-sized.ensures in
-    rw (p.1, p.2, ← c.unanswered-fresh.ensures) (parts_stop a.time a.s a.c a.packers (own a.setups.now a.midi.now a.serial.now a.device.now) l c.unanswered-fresh.ensures number (refused _))
+    let p = err_from_is_err_and c.from_residual-in_err-microframe_passes.result c.from_residual-in_err-microframe_passes.ensures.1 in
+    rw (p.1, p.2, ← c.unanswered-fresh.ensures) (parts_stop _ c.args.s _ _ _ _ c.unanswered-fresh.ensures (c.in_err-microframe_passes.ensures.number ∙ frame_tests _ _ _ _ _ (passed _ _ _ c.in_ok-accept.ensures.tested)) (refused _))
 
-pub microframe-next-requires : goal.microframe-next-requires
-microframe-next-requires c =
+pub invariant_of-windows-clause-power : goal.invariant_of-windows-clause-power
+invariant_of-windows-clause-power c = c.in_ok-accept.ensures.fits.0
+
+pub microframe-requires : goal.microframe-requires
+microframe-requires c =
     let a = c.args in
-    let l = lent (memory a.dynamic.now a.sram.now a.page.now) a.reply.now a.config.now a.receive.now a.cables.now a.received.now a.sending.now in
-    let number = c.in_ok-microframe_passes.ensures ∙ frame_tests c.unanswered-fresh.result a.c.spans a.packers a.setups.now l c.sized-sized.ensures in
-    let all = parts_ask a.time a.s a.c a.packers (own a.setups.now a.midi.now a.serial.now a.device.now) l c.unanswered-fresh.ensures number refl in
-    record { sized = all.0; long = all.1.0; fit = all.1.1 }
+    parts_fit a.time a.s a.c _ (own a.setups.now a.midi.now a.serial.now a.device.now) _ c.unanswered-fresh.ensures (c.in_ok-microframe_passes.ensures.number ∙ frame_tests _ _ _ _ _ (passed _ _ _ c.in_ok-accept.ensures.tested)) refl
 
 pub returns : goal.returns
 returns c =
-    let a = c.args in
-    let l = lent (memory a.dynamic.now a.sram.now a.page.now) a.reply.now a.config.now a.receive.now a.cables.now a.received.now a.sending.now in
-    let number = c.in_ok-microframe_passes.ensures ∙ frame_tests c.unanswered-fresh.result a.c.spans a.packers a.setups.now l c.sized-sized.ensures in
-    parts_go a.time a.s a.c a.packers (own a.setups.now a.midi.now a.serial.now a.device.now) l c.unanswered-fresh.ensures number refl _ _ _ c.microframe-next.ensures
+    parts_go _ c.args.s _ _ _ _ c.unanswered-fresh.ensures (c.in_ok-microframe_passes.ensures.number ∙ frame_tests _ _ _ _ _ (passed _ _ _ c.in_ok-accept.ensures.tested)) refl _ c.microframe.ensures.left refl (search rules) (search rules) (search rules)
