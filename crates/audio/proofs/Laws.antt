@@ -9,7 +9,7 @@ use Rattle.bus.specs.Stores as S
 use Rattle.bus.specs.Steps.{and_then}
 use Rattle.usbdev.specs.Transfer.{total_of}
 use Rattle.usbdev.proofs.Tokens.{total_lt}
-use Rattle.transfer.specs.Transfer.{pointers, pointers_for, bytes_in}
+use Rattle.transfer.specs.Transfer.{pointers_for, bytes_in}
 use Rattle.transfer.proofs.Addresses.{bytes_for}
 use Rattle.dtd.specs.declared.Ran.{Ran}
 use Rattle.dtd.specs.declared.Found.TheVariants.{Unprimed, Ended, Active}
@@ -66,7 +66,7 @@ module _ (w : World) (s : State) (m : Memory) (l : List ℕ) (c : World) where
       (in_turn (by_true _ _ nothing en (once _ _ (at_heard w (budgeted s 0) m l) refl)) q))
   paced_by false o en eo q =
       in_turn (by_false _ _ nothing en (unchanged _))
-      (by_false over_budget nothing _ (ap (λ (x : Bool). x && ltb s.audio.budget (total_of (token_of (next_dtd audio_in m) m))) en)
+      (by_false over_budget nothing _ (rw en)
       (in_turn (by_false _ _ nothing en (unchanged _)) q))
 
   stream_paced : {p : Paced} → p ≡ paced_of m s.audio.budget → after_pace p → Leads stream_in (at_heard w s m l) c
@@ -80,10 +80,6 @@ unfolding keeps_blocks blocks nothing
 none_kept [] d d' l l' h p w = (p.leads w).is
 none_kept (b ∷ bs) d d' l l' h p w = absurd (false_true (sym h))
 
-or_none : (x y : Bool) → x || y ≡ false → y ≡ false
-or_none true y h = absurd (false_true (sym h))
-or_none false y h = h
-
 keeps_run_lem : (r : Run) (t : Bool) → brought r ≡ t → (w : World) (d d' : Decoded) (l l' : List ℕ) → Keeps (keeps_blocks (blocks_of r.bytes)) d l d' l'
     → Leads (keeps_run r) (at_blocks w d l) (at_blocks (with_state w (counted_in w.state t)) d' l')
 unfolding keeps_run apply raised
@@ -91,7 +87,7 @@ keeps_run_lem r true e w d d' l l' p =
     by_true _ _ nothing e (one_then _ (p.leads (with_state w (counted_in w.state true))))
 keeps_run_lem r false e w d d' l l' p =
     by_false _ _ nothing e
-    (leads_as (unchanged (at_blocks w d l)) (none_kept r.bytes d d' l l' (or_none r.done (nonempty r.bytes) e) p w))
+    (leads_as (unchanged (at_blocks w d l)) (none_kept r.bytes d d' l l' (grind (arith, e)) p w))
 
 nonempty_by : (bs : List ℕ) → nonempty bs ≡ not (eqb (length bs) 0)
 nonempty_by [] = refl
@@ -112,19 +108,16 @@ module _ (s : State) (m m' : Memory) (l l' : List ℕ) (x : Descriptor) (total :
 
   same_bytes : bytes_in m ps total ≡ run.bytes
   same_bytes =
-      ap (λ (y : List ℕ). bytes_in m y total) (is-pointers ∙ ap (λ (y : ℕ). pointers_for m y total) is_at)
-      ∙ bytes_for m (descriptor x.pointer) total (omega (arith, total_lt x.token, is-total)) m total (omega arith)
-      ∙ ap (bytes_in m (pointers m (descriptor x.pointer))) is-total
-      ∙ sym (input_bytes 3 (omega arith) m s.port.line x.queue_head x.pointer x.token (says audio_in m is).0)
+      rw (is-pointers, is_at, is-total)
+      (bytes_for m (descriptor x.pointer) (total_of x.token) (omega (arith, total_lt x.token)) m (total_of x.token) (omega arith)
+      ∙ sym (input_bytes 3 (omega arith) m s.port.line x.queue_head x.pointer x.token (says audio_in m is).0))
 
   kept_so : Keeps (keeps_blocks (blocks_of run.bytes)) (decoded_of s) l d l'
   kept_so = rw (← same_bytes, ← is-before) kept
 
   brought_so : brought run ≡ t
   brought_so =
-      ap₂ ◌||◌ (sym ran_so.done)
-      (nonempty_by run.bytes ∙ ap (λ (k : ℕ). not (eqb k 0)) (input_length 3 (omega arith) m s.port.line x.queue_head x.pointer x.token (says audio_in m is).0 ∙ sym is-total))
-      ∙ sym is-brought
+      rw (is-brought, is-total, ran_so.done, nonempty_by run.bytes, input_length 3 (omega arith) m s.port.line x.queue_head x.pointer x.token (says audio_in m is).0)
 
   input_leads : (w : World) → Leads inputs (at_heard w s m l) (at_heard w (with_decoded (counted_in (after_run s ran) t) d) m' l')
   unfolding inputs
@@ -147,12 +140,11 @@ pub input_none : (s : State) (m m' : Memory) (l : List ℕ) (ran : Ran) → InRi
     → {r : State} → r ≡ after_run s ran → Hears inputs s m l r m' l
 unfolding inputs keeps_run
 input_none s m m' l ran i idle e =
-    let done = sym idle.runs.done ∙ ap (λ (x : Ran). x.done) idle.nothing in
     rw e
     (record {
       leads =
           λ w. run_then audio_in [] keeps_run (with_received_ring w l) s m m' ran idle.runs
-          (by_false _ _ nothing (ap₂ (λ (x : Bool) (bs : List ℕ). x || nonempty bs) done idle.bytes) (unchanged _));
+          (by_false _ _ nothing (rw (← idle.runs.done, idle.nothing, idle.bytes)) (unchanged _));
       sized = idle.runs.does.sized;
       inside = i;
       same = record { sending = refl; block = refl; channels = refl };
@@ -200,11 +192,10 @@ module _ (s : State) (m : Memory) (l : List ℕ) (z : Sized m) (can : CanSend s 
   out_still h = record { leads = λ w. by_false _ _ nothing h (unchanged _); sized = z; can = can; received = refl }
 
   pub out_short : s.audio.credit < 7 → Outputs stream_out s m l s m
-  out_short h =
-      out_still (ap (λ (x : Bool). primed audio_out m.page && x) (lt-leb 7 s.audio.credit h) ∙ and_false (primed audio_out m.page))
+  out_short h = out_still (rw (lt-leb 7 s.audio.credit h) (and_false _))
 
   pub out_unprimed : found audio_out m ≡ Unprimed → Outputs stream_out s m l s m
-  out_unprimed f = out_still (ap (λ (x : Bool). x && leb 7 s.audio.credit) (says_unprimed audio_out m f))
+  out_unprimed f = out_still (rw (says_unprimed audio_out m f))
 
   module _ (enough : 7 ≤ s.audio.credit) where
     primed_enough : primed audio_out m.page ≡ true → primed audio_out m.page && leb 7 s.audio.credit ≡ true

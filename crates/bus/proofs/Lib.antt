@@ -9,3 +9,4 @@ pub mod Registers
 pub mod Edges
 pub mod Storing
 pub mod Lengths
+pub mod Arms

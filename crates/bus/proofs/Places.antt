@@ -97,9 +97,13 @@ lost_any n k a =
     both true x y x' y' p q = p
     both false x y x' y' p q = q
 
+pub lost_at : (n a : ℕ) (q : Place) → q ≡ place n a → dropped8 a ≡ lost q
+unfolding dropped8
+lost_at n a q e = lost_any 1 n a ∙ ap lost (sym e)
+
 pub dropped_at : (m : Memory) (a : ℕ) (q : Place) → at m a ≡ q → dropped8 a ≡ lost q
-unfolding dropped8 at
-dropped_at m a q e = lost_any 1 (length m.dynamic) a ∙ ap lost e
+unfolding at
+dropped_at m a q e = lost_at (length m.dynamic) a q (sym e)
 
 -- ---- a write keeps the three lengths
 

@@ -1,9 +1,12 @@
 -- The tests of the windows' lengths decide what they say: isPower decides Power, and isSized decides Sized.
-use Rattle.std.proofs.Common.{◌≡◌, ℕ, zero, suc, ◌+◌, ◌-◌, ◌*◌, ◌/◌, ◌%◌, ◌^◌, ◌<◌, ◌≤◌, min, Bool, true, false, ◌&&◌, eqb, leb, ◌⊎◌, length, sym, refl, ap, ◌∙◌, subst, ap₂, inl, inr, ⊎_elim, pow-suc, arith, pow_mono, eq-eqb, eqb-true, le-leb, leb-false, leb-true}
+use Rattle.std.proofs.Common.{Result, Ok, Err, OnOk, ◌≡◌, ℕ, zero, suc, ◌+◌, ◌-◌, ◌*◌, ◌/◌, ◌%◌, ◌^◌, ◌<◌, ◌≤◌, min, Bool, true, false, ◌&&◌, eqb, leb, ◌⊎◌, length, sym, refl, ap, ◌∙◌, subst, ap₂, inl, inr, ⊎_elim, pow-suc, arith, pow_mono, eq-eqb, eqb-true, le-leb, leb-false, leb-true}
 use native.Mathlib.Decide.{ℕ_discrete}
 use native.Mathlib.Nat.{min-zero, zero-min, mod_self}
 use lib.Bits.{bit_and, and_step, and_self, and_mask}
 use lib.Pow.{pow-lt}
+use Rattle.bits.specs.Pick.{pick}
+use Rattle.refusal.specs.declared.Refusal.{Refusal}
+use Rattle.refusal.specs.declared.Refusal.TheVariants.{Windows}
 use Rattle.bus.specs.Memory.{Memory}
 use Rattle.bus.specs.Sized.{Power, Sized, Accepted, is_power, is_sized}
 
@@ -91,10 +94,12 @@ sized_is m s =
     simp
     (eq-eqb (length m.sram) 65536 s.sram_length, eq-eqb (length m.page) 4096 s.page_length, power_is (length m.dynamic) s.dynamic_length)
 
--- the three tests, one by one
-pub sized_parts : (m : Memory) → is_sized m ≡ true → Accepted m
+-- what the test that passes gives
+pub accepted : (m : Memory) (t : Bool) (r : Result (Unit {0}) Refusal) → t ≡ is_sized m → r ≡ pick t (Ok tt) (Err Windows) → OnOk r (Accepted m)
 unfolding is_sized
-sized_parts m e =
-    let p = and_true (eqb (length m.sram) 65536) (eqb (length m.page) 4096 && is_power (length m.dynamic)) e in
+accepted m true r e f =
+    let p = and_true (eqb (length m.sram) 65536) (eqb (length m.page) 4096 && is_power (length m.dynamic)) (sym e) in
     let q = and_true (eqb (length m.page) 4096) (is_power (length m.dynamic)) p.1 in
+    subst (λ (z : Result (Unit {0}) Refusal). OnOk z (Accepted m)) (sym f)
     (q.1, (eqb-true (length m.sram) 65536 p.0, eqb-true (length m.page) 4096 q.0))
+accepted m false r e f = subst (λ (z : Result (Unit {0}) Refusal). OnOk z (Accepted m)) (sym f) tt

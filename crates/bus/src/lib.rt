@@ -1,7 +1,7 @@
 // The three windows of memory: reads and writes of bytes and of big-endian words; bytes stored in an area.
 #![tactic(auto)]
 
-ghost use Rattle.std.specs.Prelude.{◌≡◌, ℕ, ◌+◌, ◌≤◌, true, length, OnOk};
+ghost use Rattle.std.specs.Prelude.{◌≡◌, ℕ, ◌+◌, ◌≤◌, length, OnOk};
 ghost use Rattle.bits.specs.Pick.{pick};
 ghost use Rattle.refusal.specs.declared.Refusal.TheVariants.{Windows as Refusal·Windows};
 ghost use Rattle.std.proofs.lemmas.List.Edits.{sets};
@@ -115,6 +115,7 @@ pub fn sized(dynamic: &[u8], sram: &[u8], page: &[u8]) -> bool
 }
 
 // Accepts windows that are as long as they must be.
+#[tactic(auto, using(crate::proofs::Sizes::accepted))]
 pub fn accept(dynamic: &[u8], sram: &[u8], page: &[u8]) -> Result<(), Refusal>
     ensures tested { result ≡ pick (is_sized (shown dynamic.now sram.now page.now)) (Ok tt) (Err Refusal·Windows) }
     ensures fits { OnOk result (Accepted (shown dynamic.now sram.now page.now)) }

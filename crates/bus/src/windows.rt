@@ -38,7 +38,7 @@ impl<'a> View<'a> {
     }
 
     // The byte at address a.
-    #[tactic(auto, using(crate::proofs::Places::peek_at), unfolding(crate::specs::Memory::at, crate::specs::Memory::read))]
+    #[tactic(auto, using(crate::proofs::Places::peek_at, crate::proofs::Sizes::is_power_lem), unfolding(crate::specs::Memory::at, crate::specs::Memory::read))]
     pub fn peek8(self, a: u32) -> u8
         ensures { result ≡ M.peek8 (viewed self.entry) a }
     {
@@ -63,7 +63,7 @@ impl<'a> View<'a> {
     }
 
     // The word at address a: at once where it lies in one page of 4,096 bytes, since no window ends inside one.
-    #[tactic(auto, using(crate::proofs::PageWords::peek_word), unfolding(crate::specs::Memory::at))]
+    #[tactic(auto, using(crate::proofs::Arms::word_read, crate::proofs::Sizes::is_power_lem))]
     pub fn peek32(self, a: u32) -> u32
         ensures { result ≡ M.peek32 (viewed self.entry) a }
     {
@@ -124,6 +124,7 @@ impl<'a> Windows<'a> {
     }
 
     // Stores v at address a, and answers how many bytes were dropped.
+    #[tactic(auto, using(crate::proofs::Arms::byte_written, crate::proofs::Places::lost_at, crate::proofs::Sizes::is_power_lem), unfolding(crate::specs::Memory::write, crate::specs::Memory::lost))]
     pub fn poke8(&mut self, a: u32, v: u8) -> u32
         ensures left { contents self.new ≡ M.poke8 (contents self.old) a v }
         ensures same { SameWindows self.old self.new }
@@ -147,6 +148,7 @@ impl<'a> Windows<'a> {
     }
 
     // Stores v at address a, byte by byte, and answers how many bytes were dropped.
+    #[tactic(auto, using(crate::proofs::Words::dropped8_le), unfolding(crate::specs::Memory::poke32, crate::specs::Memory::dropped32, crate::specs::Memory::after))]
     fn poke32_bytes(&mut self, a: u32, v: u32) -> u32
         ensures left { contents self.new ≡ M.poke32 (contents self.old) a v }
         ensures same { SameWindows self.old self.new }
@@ -160,6 +162,7 @@ impl<'a> Windows<'a> {
     }
 
     // Stores v at address a, and answers how many bytes were dropped.
+    #[tactic(auto, using(crate::proofs::Arms::word_written, crate::proofs::Arms::word_dropped, crate::proofs::Sizes::is_power_lem), unfolding(crate::specs::Memory::lost))]
     pub fn poke32(&mut self, a: u32, v: u32) -> u32
         ensures left { contents self.new ≡ M.poke32 (contents self.old) a v }
         ensures same { SameWindows self.old self.new }

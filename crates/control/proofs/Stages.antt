@@ -16,10 +16,9 @@ use Rattle.record.specs.World.{World, at_bus}
 use Rattle.record.specs.Change.{apply, control, reply, nothing, when, runs}
 use Rattle.record.specs.Did.{Leads, after_run}
 use Rattle.record.proofs.Laws.{in_turn, by_true, by_false, unchanged, once, from_here, run_then}
-use Rattle.model.specs.Control.{w_length, to_host, to_status, keeps_reply, status_out, status_ends, status_stage}
+use Rattle.model.specs.Control.{w_length, to_host, to_status, keeps_reply, data_in, data_out, status_out, status_ends, status_stage}
 use Rattle.finished.specs.Promises.{Ready}
 use Rattle.control.specs.Promises.{at_reply, Stages, Acknowledges}
-use Rattle.model.specs.Control.{data_in, data_out}
 
 -- ---- the data stage
 

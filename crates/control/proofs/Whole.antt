@@ -3,6 +3,7 @@ use Rattle.std.proofs.Common.{◌≡◌, ℕ, Bool, true, false, Option, None, S
 use Rattle.bits.specs.Word as W
 use Rattle.bus.specs.Memory.{Memory, memory}
 use Rattle.bus.specs.Sized.{Sized}
+use Rattle.bus.specs.Steps.{choose}
 use Rattle.bus.specs.Words.{word_at, word_put}
 use Rattle.bus.proofs.Registers.{length_put}
 use Rattle.usbdev.specs.Offsets.{EPCR0}
@@ -16,17 +17,15 @@ use Rattle.record.specs.declared.Stage.TheVariants.{Data, Status}
 use Rattle.record.specs.declared.State.{State}
 use Rattle.record.specs.Record.{with_on, with_control}
 use Rattle.record.specs.Setups.{little}
-use Rattle.bus.specs.Steps.{choose}
 use Rattle.record.specs.Change.{apply, control, nothing, Step, if, when}
 use Rattle.record.specs.World.{World}
 use Rattle.record.specs.Did.{Leads, Alone, after_run}
 use Rattle.record.proofs.Laws.{in_turn, once, by_true, by_false, from_here, leads_as, leads_from, on_page_lem}
 use Rattle.model.specs.Phases.{changing, drops_request}
-use Rattle.model.specs.Control.{posted, posts, configured, in_status, timed_out, finishes, status_stage, stalled, unstalls, stages, controls}
+use Rattle.model.specs.Control.{posted, posts, configured, in_status, timed_out, finishes, status_stage, stalled, unstalls, data_then_status, stages, requests, controls}
 use Rattle.finished.specs.Promises.{Brings}
 use Rattle.control.specs.declared.Setup.{Setup}
 use Rattle.control.specs.Promises.{next_of, Posts, Stages, data_first, Acknowledges, at_control, Controls}
-use Rattle.model.specs.Control.{data_then_status, requests}
 
 -- ---- the status stage and the end of the request
 

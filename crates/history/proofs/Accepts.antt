@@ -51,7 +51,7 @@ refused_stays h (microframe t l) m = ap (λ (x : Framed). x.host) (frame_refused
 refused_stays h (midi_send cable bs) m = midi_refused h cable bs m
 refused_stays h (serial_send bs) m = serial_refused h bs m
 refused_stays h (frame_give f sending) m = give_refused h f sending m
-refused_stays h (frame_take received) m = ap (λ (x : Taken). x.host) (take_refused h received m)
+refused_stays h (frame_take received) m = ap (λ (x : Taken Host). x.next) (take_refused h received m)
 refused_stays h (device_read page off size) m = refl
 refused_stays h (device_write page off size v) m = write_refused h page off size v m
 
@@ -91,31 +91,31 @@ either : (t : Bool) (h next : Host) → Rests h next → Rests h (pick t next h)
 either true h next r = r
 either false h next r = same h
 
-midi_rests : (h : Host) (cable : ℕ) (bs : List ℕ) → Rests h (midi_sent h cable bs).host
+midi_rests : (h : Host) (cable : ℕ) (bs : List ℕ) → Rests h (midi_sent h cable bs).next
 unfolding midi_sent midi_queued
 midi_rests h cable bs =
     either (eqb (midi_number h cable bs) 0) h (midi_queued h cable bs)
     (record { setups = refl; midi = length-sets h.midi h.lengths.midi (packets_of cable (packer_at h.packers cable) bs); serial = refl; config = refl; second = refl; uf = refl })
 
-serial_rests : (h : Host) (bs : List ℕ) → Rests h (serial_sent h bs).host
+serial_rests : (h : Host) (bs : List ℕ) → Rests h (serial_sent h bs).next
 unfolding serial_sent serial_queued
 serial_rests h bs =
     either (eqb (serial_number h bs) 0) h (serial_queued h bs)
     (record { setups = refl; midi = refl; serial = length-sets h.serial h.lengths.serial bs; config = refl; second = refl; uf = refl })
 
-give_rests : (h : Host) (frame sending : List ℕ) → Rests h (given h frame sending).host
+give_rests : (h : Host) (frame sending : List ℕ) → Rests h (given h frame sending).next
 unfolding given frame_given
 give_rests h frame sending =
     either (eqb (give_number h frame sending) 0) h (frame_given h)
     (record { setups = refl; midi = refl; serial = refl; config = refl; second = refl; uf = refl })
 
-take_rests : (h : Host) (received : List ℕ) → Rests h (taken_frame h received).host
+take_rests : (h : Host) (received : List ℕ) → Rests h (taken_frame h received).next
 unfolding taken_frame frame_taken
 take_rests h received =
     either (holds_frame h received) h (frame_taken h)
     (record { setups = refl; midi = refl; serial = refl; config = refl; second = refl; uf = refl })
 
-write_rests : (h : Host) (page : List ℕ) (off size v : ℕ) → Rests h (device_written h page off size v).host
+write_rests : (h : Host) (page : List ℕ) (off size v : ℕ) → Rests h (device_written h page off size v).next
 unfolding device_written with_flag
 write_rests h page off size v =
     either (eqb (access_number h (length page) off size) 0) h (with_flag h (write_sized (registers_of h page) off size v).line)
@@ -231,14 +231,14 @@ module _ (k : ℕ) (h : Host) (s : sending_ok (state_of h) k ≡ true) where
       ∙ sending_kept t (world_of h l) (ap (λ (n : ℕ). sending_ok (state_of h) n) e ∙ s))
       (λ no. s)
 
-  ring_give : (f sending : List ℕ) → RingCall k (frame_give f sending) → sending_ok (state_of (given h f sending).host) k ≡ true
+  ring_give : (f sending : List ℕ) → RingCall k (frame_give f sending) → sending_ok (state_of (given h f sending).next) k ≡ true
   unfolding given give_number RingCall input_number
   ring_give f sending r = by_lengths (sending_length (length sending) && eqb (length f) WORDS) refl
     where
-      by_lengths : (b : Bool) → (sending_length (length sending) && eqb (length f) WORDS) ≡ b → sending_ok (state_of (given h f sending).host) k ≡ true
+      by_lengths : (b : Bool) → (sending_length (length sending) && eqb (length f) WORDS) ≡ b → sending_ok (state_of (given h f sending).next) k ≡ true
       by_lengths true e =
           let m = r (input_right (frame_give f sending) (simp e)) in
-          subst (λ (n : ℕ). sending_ok (state_of (given h f sending).host) n ≡ true) m
+          subst (λ (n : ℕ). sending_ok (state_of (given h f sending).next) n ≡ true) m
           ((give_kept h f sending).sending (ap (λ (n : ℕ). sending_ok (state_of h) n) m ∙ s))
       by_lengths false e = rw e s
 

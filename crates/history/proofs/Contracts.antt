@@ -171,10 +171,10 @@ module _ {M : Type 1} {𝓤 : Ura M} (𝓛 : Logic 𝓤) where
 
 pub midi_send_follows : (κs : Lfts 1) (a : Dens κs MidiSend.ps) (r : (res_t MidiSend.r κs).Denot) (s : AtExit (ended_of 1 MidiSend.ps MidiSend.r) κs)
     → MidiSend·contract.Post κs a r s
-    → Follows a.0 (midi_send a.1.0 a.1.1.0.now) (sent_by a.0 r).refusal (sent_by a.0 r).host
+    → Follows a.0 (midi_send a.1.0 a.1.1.0.now) (sent_by a.0 r).refusal (sent_by a.0 r).next
 unfolding step number_of midi_sent
 midi_send_follows κs a r s p =
-    record { answers = ap (λ (x : Sent). x.refusal) (p); leaves = ap (λ (x : Sent). x.host) (p) }
+    record { answers = ap (λ (x : Sent Host). x.refusal) (p); leaves = ap (λ (x : Sent Host). x.next) (p) }
 
 pub midi_send_met : {M : Type 1} → MidiSend·code.statement M
 midi_send_met = MidiSend·proof.met
@@ -183,10 +183,10 @@ midi_send_met = MidiSend·proof.met
 
 pub serial_send_follows : (κs : Lfts 1) (a : Dens κs SerialSend.ps) (r : (res_t SerialSend.r κs).Denot) (s : AtExit (ended_of 1 SerialSend.ps SerialSend.r) κs)
     → SerialSend·contract.Post κs a r s
-    → Follows a.0 (serial_send a.1.0.now) (sent_by a.0 r).refusal (sent_by a.0 r).host
+    → Follows a.0 (serial_send a.1.0.now) (sent_by a.0 r).refusal (sent_by a.0 r).next
 unfolding step number_of serial_sent
 serial_send_follows κs a r s p =
-    record { answers = ap (λ (x : Sent). x.refusal) (p); leaves = ap (λ (x : Sent). x.host) (p) }
+    record { answers = ap (λ (x : Sent Host). x.refusal) (p); leaves = ap (λ (x : Sent Host). x.next) (p) }
 
 pub serial_send_met : {M : Type 1} → SerialSend·code.statement M
 serial_send_met = SerialSend·proof.met
@@ -195,10 +195,10 @@ serial_send_met = SerialSend·proof.met
 
 pub frame_give_follows : (κs : Lfts 2) (a : Dens κs FrameGive.ps) (r : (res_t FrameGive.r κs).Denot) (s : AtExit (ended_of 2 FrameGive.ps FrameGive.r) κs)
     → FrameGive·contract.Post κs a r s
-    → Follows a.0 (frame_give a.1.0.now a.1.1.0.now) (sent_by a.0 r).refusal (sent_by a.0 r).host
+    → Follows a.0 (frame_give a.1.0.now a.1.1.0.now) (sent_by a.0 r).refusal (sent_by a.0 r).next
 unfolding step number_of given
 frame_give_follows κs a r s p =
-    record { answers = ap (λ (x : Sent). x.refusal) p.0; leaves = ap (λ (x : Sent). x.host) p.0 }
+    record { answers = ap (λ (x : Sent Host). x.refusal) p.0; leaves = ap (λ (x : Sent Host). x.next) p.0 }
 
 pub frame_give_met : {M : Type 1} → FrameGive·code.statement M
 frame_give_met = FrameGive·proof.met
@@ -207,10 +207,10 @@ frame_give_met = FrameGive·proof.met
 
 pub frame_take_follows : (κs : Lfts 1) (a : Dens κs FrameTake.ps) (r : (res_t FrameTake.r κs).Denot) (s : AtExit (ended_of 1 FrameTake.ps FrameTake.r) κs)
     → FrameTake·contract.Post κs a r s
-    → Follows a.0 (frame_take a.1.0.now) (taken_by a.0 r).refusal (taken_by a.0 r).host
+    → Follows a.0 (frame_take a.1.0.now) (taken_by a.0 r).refusal (taken_by a.0 r).next
 unfolding step number_of taken_frame
 frame_take_follows κs a r s p =
-    record { answers = ap (λ (x : Taken). x.refusal) (p); leaves = ap (λ (x : Taken). x.host) (p) }
+    record { answers = ap (λ (x : Taken Host). x.refusal) (p); leaves = ap (λ (x : Taken Host). x.next) (p) }
 
 pub frame_take_met : {M : Type 1} → FrameTake·code.statement M
 frame_take_met = FrameTake·proof.met
@@ -231,10 +231,10 @@ device_read_met = DeviceRead·proof.met
 
 pub device_write_follows : (κs : Lfts 1) (a : Dens κs DeviceWrite.ps) (r : (res_t DeviceWrite.r κs).Denot) (s : AtExit (ended_of 1 DeviceWrite.ps DeviceWrite.r) κs)
     → DeviceWrite·contract.Post κs a r s
-    → Follows a.0 (device_write a.1.0.now a.1.1.0 a.1.1.1.0 a.1.1.1.1.0) (sent_by a.0 r).refusal (sent_by a.0 r).host
+    → Follows a.0 (device_write a.1.0.now a.1.1.0 a.1.1.1.0 a.1.1.1.1.0) (sent_by a.0 r).refusal (sent_by a.0 r).next
 unfolding step number_of device_written
 device_write_follows κs a r s p =
-    record { answers = ap (λ (x : Sent). x.refusal) p.0; leaves = ap (λ (x : Sent). x.host) p.0 }
+    record { answers = ap (λ (x : Sent Host). x.refusal) p.0; leaves = ap (λ (x : Sent Host). x.next) p.0 }
 
 pub device_write_met : {M : Type 1} → DeviceWrite·code.statement M
 device_write_met = DeviceWrite·proof.met

@@ -21,7 +21,7 @@ use Rattle.record.specs.declared.Settings.{Settings}
 use Rattle.record.specs.declared.State.{State}
 use Rattle.usbdev.specs.Answers.{value_of}
 use Rattle.usbhost.specs.declared.Host.{Host}
-use Rattle.usbhost.specs.Answers.{Sent, Taken, Read, midi_sent_by, stored_by, taken_frame_by}
+use Rattle.usbhost.specs.Answers.{Sent, sent, Taken, Read, midi_sent_by, sent_by, taken_by}
 use Rattle.usbhost.specs.Host.{host_of}
 use Rattle.usbhost.specs.Calls as C
 use Rattle.usbhost.specs.Calls.{midi_sent, serial_sent, given, taken_frame, device_written}
@@ -71,7 +71,7 @@ parts_lent κs a =
 
 pub run_microframe_follows : (κs : Lfts 13) (a : Dens κs RunMicroframe.ps) (r : (res_t RunMicroframe.r κs).Denot) (s : AtExit (ended_of 13 RunMicroframe.ps RunMicroframe.r) κs)
     → RunMicroframe·contract.Post κs a r s
-    → Follows (host_of a.0 a.1.0 a.1.1.0 (own a.1.1.1.0.now a.1.1.1.1.0.now a.1.1.1.1.1.0.now a.1.1.1.1.1.1.0.now)) (microframe a.1.1.1.1.1.1.1.1.1.1.1.1.1.1.1.1.0 (parts_lent κs a)) (stored_by (unanswered a.0) r).refusal (host_of (stored_by (unanswered a.0) r).state a.1.0 a.1.1.0 (own s.1.1.1.0.now s.1.1.1.1.0.now s.1.1.1.1.1.0.now s.1.1.1.1.1.1.0.now))
+    → Follows (host_of a.0 a.1.0 a.1.1.0 (own a.1.1.1.0.now a.1.1.1.1.0.now a.1.1.1.1.1.0.now a.1.1.1.1.1.1.0.now)) (microframe a.1.1.1.1.1.1.1.1.1.1.1.1.1.1.1.1.0 (parts_lent κs a)) (sent_by (unanswered a.0) r).refusal (host_of (sent_by (unanswered a.0) r).next a.1.0 a.1.1.0 (own s.1.1.1.0.now s.1.1.1.1.0.now s.1.1.1.1.1.0.now s.1.1.1.1.1.1.0.now))
 unfolding step number_of
 run_microframe_follows κs a r s p = record { answers = p.number; leaves = ap host_in p.outcome }
 
@@ -101,10 +101,10 @@ abbrev pub whole : Settings → ℕ → State → List Packer → Own → Host
 whole c spans s packers o = host_of s (with_spans c spans) packers o
 
 -- a send's answer
-sends : (h : Host) (call : Call) (number : ℕ) (next : Host) (x : Sent) → x.refusal ≡ number_of h call → x.host ≡ step h call
-    → ◌≡◌ {A = Sent} (record { refusal = number; host = next }) x → Follows h call number next
+sends : (h : Host) (call : Call) (number : ℕ) (next : Host) (x : Sent Host) → x.refusal ≡ number_of h call → x.next ≡ step h call
+    → sent number next ≡ x → Follows h call number next
 sends h call number next x n l e =
-    record { answers = ap (λ (y : Sent). y.refusal) e ∙ n; leaves = ap (λ (y : Sent). y.host) e ∙ l }
+    record { answers = ap (λ (y : Sent Host). y.refusal) e ∙ n; leaves = ap (λ (y : Sent Host). y.next) e ∙ l }
 
 -- ---- `send_midi`
 
@@ -122,7 +122,7 @@ send_midi_met = SendMidi·proof.met
 
 pub send_serial_follows : (κs : Lfts 3) (a : Dens κs SendSerial.ps) (r : (res_t SendSerial.r κs).Denot) (s : AtExit (ended_of 3 SendSerial.ps SendSerial.r) κs) (c : Settings) (o : Own)
     → SendSerial·contract.Post κs a r s
-    → Follows (whole c a.1.0 a.0 a.1.1.0 (own_serial (own_setups o a.1.1.1.1.0.now) a.1.1.1.1.1.0.now)) (serial_send a.1.1.1.0.now) (stored_by a.0 r).refusal (whole c a.1.0 (stored_by a.0 r).state a.1.1.0 (own_serial (own_setups o a.1.1.1.1.0.now) s.1.1.1.1.1.0.now))
+    → Follows (whole c a.1.0 a.0 a.1.1.0 (own_serial (own_setups o a.1.1.1.1.0.now) a.1.1.1.1.1.0.now)) (serial_send a.1.1.1.0.now) (sent_by a.0 r).refusal (whole c a.1.0 (sent_by a.0 r).next a.1.1.0 (own_serial (own_setups o a.1.1.1.1.0.now) s.1.1.1.1.1.0.now))
 unfolding step number_of serial_sent
 send_serial_follows κs a r s c o q =
     sends _ (serial_send a.1.1.1.0.now) _ _ _ refl refl (q.done c o)
@@ -134,7 +134,7 @@ send_serial_met = SendSerial·proof.met
 
 pub give_frame_follows : (κs : Lfts 3) (a : Dens κs GiveFrame.ps) (r : (res_t GiveFrame.r κs).Denot) (s : AtExit (ended_of 3 GiveFrame.ps GiveFrame.r) κs) (c : Settings) (o : Own)
     → GiveFrame·contract.Post κs a r s
-    → Follows (whole c a.1.0 a.0 a.1.1.0 (own_setups o a.1.1.1.1.0.now)) (frame_give a.1.1.1.0.now a.1.1.1.1.1.0.now) (stored_by a.0 r).refusal (whole c a.1.0 (stored_by a.0 r).state a.1.1.0 (own_setups o a.1.1.1.1.0.now))
+    → Follows (whole c a.1.0 a.0 a.1.1.0 (own_setups o a.1.1.1.1.0.now)) (frame_give a.1.1.1.0.now a.1.1.1.1.1.0.now) (sent_by a.0 r).refusal (whole c a.1.0 (sent_by a.0 r).next a.1.1.0 (own_setups o a.1.1.1.1.0.now))
 unfolding step number_of given
 give_frame_follows κs a r s c o q =
     sends _ (frame_give a.1.1.1.0.now a.1.1.1.1.1.0.now) _ _ _ refl refl (q.done c o)
@@ -146,10 +146,10 @@ give_frame_met = GiveFrame·proof.met
 
 pub take_frame_follows : (κs : Lfts 2) (a : Dens κs TakeFrame.ps) (r : (res_t TakeFrame.r κs).Denot) (s : AtExit (ended_of 2 TakeFrame.ps TakeFrame.r) κs) (c : Settings) (o : Own)
     → TakeFrame·contract.Post κs a r s
-    → Follows (whole c a.1.0 a.0 a.1.1.0 (own_setups o a.1.1.1.0.now)) (frame_take a.1.1.1.1.0.now) (taken_frame_by a.0 r).refusal (whole c a.1.0 (taken_frame_by a.0 r).state a.1.1.0 (own_setups o a.1.1.1.0.now))
+    → Follows (whole c a.1.0 a.0 a.1.1.0 (own_setups o a.1.1.1.0.now)) (frame_take a.1.1.1.1.0.now) (taken_by a.0 r).refusal (whole c a.1.0 (taken_by a.0 r).next a.1.1.0 (own_setups o a.1.1.1.0.now))
 unfolding step number_of taken_frame
 take_frame_follows κs a r s c o q =
-    record { answers = ap (λ (x : Taken). x.refusal) (q.done c o); leaves = ap (λ (x : Taken). x.host) (q.done c o) }
+    record { answers = ap (λ (x : Taken Host). x.refusal) (q.done c o); leaves = ap (λ (x : Taken Host). x.next) (q.done c o) }
 
 pub take_frame_met : {M : Type 1} → TakeFrame·code.statement M
 take_frame_met = TakeFrame·proof.met
@@ -170,7 +170,7 @@ read_device_met = ReadDevice·proof.met
 
 pub write_device_follows : (κs : Lfts 2) (a : Dens κs WriteDevice.ps) (r : (res_t WriteDevice.r κs).Denot) (s : AtExit (ended_of 2 WriteDevice.ps WriteDevice.r) κs) (c : Settings) (o : Own)
     → WriteDevice·contract.Post κs a r s
-    → Follows (whole c a.1.0 a.0 a.1.1.0 (own_setups o a.1.1.1.0.now)) (device_write a.1.1.1.1.0.now a.1.1.1.1.1.0 a.1.1.1.1.1.1.0 a.1.1.1.1.1.1.1.0) (stored_by a.0 r).refusal (whole c a.1.0 (stored_by a.0 r).state a.1.1.0 (own_setups o a.1.1.1.0.now))
+    → Follows (whole c a.1.0 a.0 a.1.1.0 (own_setups o a.1.1.1.0.now)) (device_write a.1.1.1.1.0.now a.1.1.1.1.1.0 a.1.1.1.1.1.1.0 a.1.1.1.1.1.1.1.0) (sent_by a.0 r).refusal (whole c a.1.0 (sent_by a.0 r).next a.1.1.0 (own_setups o a.1.1.1.0.now))
 unfolding step number_of device_written
 write_device_follows κs a r s c o q =
     sends _ (device_write a.1.1.1.1.0.now a.1.1.1.1.1.0 a.1.1.1.1.1.1.0 a.1.1.1.1.1.1.1.0) _ _ _ refl refl (q.done c o)

@@ -197,7 +197,7 @@ take_answers_empty h ring e = (
 
 -- and then nothing changes, and the frame is zeros
 pub take_none : (h : Host) (ring : List ℕ) → take_number h ring ≡ 0 → to_take h ring ≡ []
-    → taken_frame h ring ≡ record { refusal = 0; empty = true; frame = replicate WORDS 0; host = h }
+    → taken_frame h ring ≡ record { refusal = 0; empty = true; frame = replicate WORDS 0; next = h }
 take_none h ring e none = take_empty h ring e (sym (take-length h ring) ∙ ap length none)
 
 holds_frame_lem : (h : Host) (ring : List ℕ) → take_number h ring ≡ 0 → 1 ≤ h.audio.received.len → holds_frame h ring ≡ true

@@ -19,12 +19,12 @@ pub data Call : Type 0 where
 -- the record that a call leaves, refused or not: each clause is the definition that the entry's contract cites
 unfoldable pub step : Host → Call → Host
 step h (microframe t l) = host_in (framed t h l)
-step h (midi_send cable bs) = (midi_sent h cable bs).host
-step h (serial_send bs) = (serial_sent h bs).host
-step h (frame_give f sending) = (given h f sending).host
-step h (frame_take received) = (taken_frame h received).host
+step h (midi_send cable bs) = (midi_sent h cable bs).next
+step h (serial_send bs) = (serial_sent h bs).next
+step h (frame_give f sending) = (given h f sending).next
+step h (frame_take received) = (taken_frame h received).next
 step h (device_read page off size) = (C.device_read h page off size).host
-step h (device_write page off size v) = (device_written h page off size v).host
+step h (device_write page off size v) = (device_written h page off size v).next
 
 -- each call gets the record that the last left
 unfoldable pub after : Host → List Call → Host

@@ -8,6 +8,7 @@ ghost use Rattle.bus.specs.Stores.{bus, store};
 ghost use Rattle.transfer.specs.Checked as C;
 ghost use Rattle.meter.specs.Meter.{metered, metering, answered};
 
+use bus::{PAGE, SRAM, View, Windows};
 use transfer::{accept, copy_in, copy_out, pointers_for};
 
 // Copies the first total bytes of the dTD at td to the start of out; answers 0 or the number of its refusal.
@@ -26,8 +27,15 @@ pub extern "C" fn meter_in(
     if let Err(refusal) = accept(dynamic, sram, page, 0, total, out.len()) {
         return refusal.number();
     }
-    let pointers = pointers_for(dynamic, sram, page, td, total);
-    copy_in(dynamic, sram, page, &pointers, total, out, 0);
+    let sram = sram.as_array::<SRAM>().unwrap();
+    let page = page.as_array::<PAGE>().unwrap();
+    let view = View {
+        dynamic,
+        sram,
+        page,
+    };
+    let pointers = pointers_for(view, td, total);
+    copy_in(view, &pointers, total, out, 0);
     0
 }
 
@@ -47,6 +55,18 @@ pub extern "C" fn meter_out(
     if let Err(refusal) = accept(&*dynamic, &*sram, &*page, 0, total, source.len()) {
         return 0x1_0000 * u32::from(refusal.number());
     }
-    let pointers = pointers_for(&*dynamic, &*sram, &*page, td, total);
-    copy_out(dynamic, sram, page, &pointers, source, total)
+    let sram = sram.as_mut_array::<SRAM>().unwrap();
+    let page = page.as_mut_array::<PAGE>().unwrap();
+    let view = View {
+        dynamic: &*dynamic,
+        sram: &*sram,
+        page: &*page,
+    };
+    let pointers = pointers_for(view, td, total);
+    let mut windows = Windows {
+        dynamic,
+        sram,
+        page,
+    };
+    copy_out(&mut windows, &pointers, source, total)
 }

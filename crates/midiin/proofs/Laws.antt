@@ -3,12 +3,12 @@ use Rattle.std.proofs.Common.{◌≡◌, ℕ, suc, ◌+◌, ◌*◌, ◌/◌, �
 use Rattle.bits.specs.Pick.{pick}
 use Rattle.bits.specs.Word as W
 use Rattle.bus.specs.Memory.{Memory, memory}
-use Rattle.bus.specs.Windows.{contents, SameWindows}
-use Rattle.bus.specs.declared.windows.Windows.{Windows}
-use Rattle.bus.proofs.Lengths.{sized_of}
 use Rattle.bus.specs.Sized.{Sized}
 use Rattle.bus.specs.Stores as S
 use Rattle.bus.specs.Words.{word_at, word_put}
+use Rattle.bus.specs.Windows.{contents, SameWindows}
+use Rattle.bus.specs.declared.windows.Windows.{Windows}
+use Rattle.bus.proofs.Lengths.{sized_of}
 use Rattle.usbdev.specs.Offsets.{EPNAK}
 use Rattle.usbdev.specs.Registers.{registers, store}
 use Rattle.usbdev.specs.Transfer.{total_of}
@@ -30,12 +30,12 @@ use Rattle.record.specs.Did.{Leads, after_run}
 use Rattle.record.proofs.Laws.{in_turn, by_true, by_false, unchanged, once, from_here, on_page_lem, run_then}
 use Rattle.model.specs.Phases.{changing}
 use Rattle.model.specs.Streams.{naks, reads, reads_at, midi_in, brought, nonempty, each_packet, decoded, cables_of}
-use Rattle.streams.specs.Promises.{Fewer}
 use Rattle.model.proofs.Bytes.{run_bytes}
+use Rattle.model.proofs.Decoded.{decoded_few}
+use Rattle.streams.specs.Promises.{Fewer}
 use Rattle.streams.proofs.Laws.{fewer_same, fewer_then}
 use Rattle.midiin.specs.declared.Read.{Read}
 use Rattle.midiin.specs.Promises.{at_cabled, OnPage, Decodes, count_read, after_read, ReadsOne, Hears}
-use Rattle.model.proofs.Decoded.{decoded_few}
 
 -- ---- NAK
 
@@ -126,7 +126,7 @@ module _ (s : State) (m m' : Memory) (out out' cs cs' : List ℕ) (r : Ran) (run
           let cables : cs' ≡ cs = rw none at puts.cables in
           rw (area, cables) (quiet_read s m m' out cs r run (sym test ∙ ap₂ (λ (a b : Bool). a || not b) p q))
 
--- ---- a read by what `find` says
+-- ---- a read by what `begin` says
 
 -- one that is over before a descriptor is moved
 pub idle_read : (s : State) {m m' : Memory} (out cs : List ℕ) {r : Ran} → Idle MIDI_IN [] (S.bus m s.port.line) (S.bus m' r.line) r → {t : State} → t ≡ after_run s r

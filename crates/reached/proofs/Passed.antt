@@ -159,7 +159,7 @@ module _ (a : Areas) (f : List ℕ) (long : Long a) (static_length : length f �
   give_number_lem =
       simp (right, twelve, few_spans_lem, o.bounds.record_bounds, o.bounds.sending, lt-ltb h.audio.sending.len (length ring / 12) (omega (arith, none_out, most)))
 
-  given_is : (given h x ring).host ≡ frame_given h
+  given_is : (given h x ring).next ≡ frame_given h
   unfolding given
   given_is = ap (λ (n : ℕ). pick (eqb n 0) (frame_given h) h) give_number_lem
 
@@ -422,7 +422,7 @@ module _ (a : Areas) (f : List ℕ) (long : Long a) (static_length : length f �
       sym (ap (λ (n : ℕ). first_of (contents ring₃ (framed 0 h₂ (lend areas₂ m₃)).state.audio.received.start n)) seven)
       ∙ ap first_of frames₃
 
-  pub taken : taken_frame h₃ ring₃ ≡ record { refusal = 0; empty = false; frame = 0x1234_5678 ∷ 0x9ABC_DEF0 ∷ replicate 10 0; host = frame_taken h₃ }
+  pub taken : taken_frame h₃ ring₃ ≡ record { refusal = 0; empty = false; frame = 0x1234_5678 ∷ 0x9ABC_DEF0 ∷ replicate 10 0; next = frame_taken h₃ }
   unfolding taken_frame holds_frame
   taken = simp (take_number_lem, seven, oldest_is)
 
@@ -434,7 +434,7 @@ module _ (a : Areas) (f : List ℕ) (long : Long a) (static_length : length f �
 
   pub passing_phase : (after h (passing a f x h)).phase ≡ Stream
   unfolding passing after step frame_taken
-  passing_phase = ap (λ z. z.host.phase) taken ∙ ap (λ (k : Stand). k.phase) on₃.stands
+  passing_phase = ap (λ z. z.next.phase) taken ∙ ap (λ (k : Stand). k.phase) on₃.stands
 
   pub heard_sums_lem : tally h (alike 0 0) (gives a f x ∷ microframe 0 (hearing a f x h) ∷ []) ≡ alike 7 0
   unfolding tally tallied

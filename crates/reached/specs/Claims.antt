@@ -69,7 +69,7 @@ pub record Passes (a : Areas) (f x : List ℕ) : Type 0 where
   pub gone : (answered a f x (streamed a f x)).audio.sending.len ≡ 0
   -- the answer of the frame taken: neither refused nor empty
   pub taken : taken_frame (answered a f x (streamed a f x)) (ring_left a f x (streamed a f x))
-      ≡ record { refusal = 0; empty = false; frame = 0x1234_5678 ∷ 0x9ABC_DEF0 ∷ replicate 10 0; host = frame_taken (answered a f x (streamed a f x)) }
+      ≡ record { refusal = 0; empty = false; frame = 0x1234_5678 ∷ 0x9ABC_DEF0 ∷ replicate 10 0; next = frame_taken (answered a f x (streamed a f x)) }
 
 -- whether the bus is suspended then, and in how many microframes no MIDI was read so far (409, 427, 776)
 pub record Rests (c : Settings) (cs : List Call) (mark : Bool) (unread : ℕ) : Type 0 where

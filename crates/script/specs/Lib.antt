@@ -1,1 +1,4 @@
 pub mod Fnv
+pub mod Line
+pub mod Left
+pub mod Kept

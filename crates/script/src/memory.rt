@@ -1,5 +1,7 @@
 // The lines of a run script that go through the three memory windows: stores, fills and looks. A bad line has no answer, and stores nothing.
-ghost use Rattle.std.specs.Prelude.{◌≡◌, ◌+◌, ◌≤◌, ◌/◌, length, IfSome};
+ghost use Rattle.std.specs.Prelude.{◌≡◌, ◌+◌, ◌≤◌, ◌%◌, ◌⊎◌, length, IsSome, IfSome};
+ghost use Rattle.bus.specs.Memory.{shown};
+ghost use Rattle.script.specs.Kept.{Unsized};
 
 use crate::answers;
 use crate::words::{self, Words};
@@ -11,16 +13,7 @@ fn byte(high: u8, low: u8) -> u8 {
     words::byte(high, low).unwrap_or(0)
 }
 
-// The bytes of some digits at the start of a part of a window.
-fn put_digits(part: &mut [u8], digits: &[u8])
-    requires { length part.old ≤ length digits.now / 2 }
-{
-    for (i, b) in part.iter_mut().enumerate() {
-        *b = byte(digits[2 * i], digits[2 * i + 1]);
-    }
-}
-
-// The same at the address `a`, byte by byte; those outside the windows are dropped.
+// Stores the bytes of some digits from the address `a` on, one by one; those outside the windows are dropped.
 fn poke_digits(windows: &mut Windows<'_>, a: u32, digits: &[u8]) {
     let mut address = a;
     for i in 0..digits.len() / 2 {
@@ -43,23 +36,27 @@ fn place_in(length: usize, base: u32, a: u32, count: usize) -> Option<usize>
 }
 
 // The same; bytes that lie together in dynamic memory or on the page are put there at once.
-fn store(windows: &mut Windows<'_>, a: u32, digits: &[u8]) {
+fn store(windows: &mut Windows<'_>, a: u32, digits: &[u8])
+    requires { length digits.now % 2 ≡ 0 }
+{
     let count = digits.len() / 2;
     if let Some(place) = place_in(windows.dynamic.len(), 0x4000_0000, a, count) {
         let dynamic = &mut *windows.dynamic;
-        put_digits(&mut dynamic[place..place + count], digits);
+        words::put_digits(&mut dynamic[place..place + count], digits);
         return;
     }
     if let Some(place) = place_in(PAGE, 0xFC0B_0000, a, count) {
         let page = &mut *windows.page;
-        put_digits(&mut page[place..place + count], digits);
+        words::put_digits(&mut page[place..place + count], digits);
         return;
     }
     poke_digits(windows, a, digits);
 }
 
 // `w ADDR BYTES`; windows of wrong lengths stay as they are.
-pub fn store_line(line: &[u8], dynamic: &mut [u8], sram: &mut [u8], page: &mut [u8]) -> Option<()> {
+pub fn store_line(line: &[u8], dynamic: &mut [u8], sram: &mut [u8], page: &mut [u8]) -> Option<()>
+    ensures { Unsized (shown dynamic.old sram.old page.old) (shown dynamic.new sram.new page.new) }
+{
     let mut words = Words::new(line);
     let a = words.word()?;
     let digits = words.digits()?;
@@ -84,7 +81,9 @@ fn fill(windows: &mut Windows<'_>, a: u32, count: u32, value: u8) {
 }
 
 // `f ADDR COUNT VALUE`; the same.
-pub fn fill_line(line: &[u8], dynamic: &mut [u8], sram: &mut [u8], page: &mut [u8]) -> Option<()> {
+pub fn fill_line(line: &[u8], dynamic: &mut [u8], sram: &mut [u8], page: &mut [u8]) -> Option<()>
+    ensures { Unsized (shown dynamic.old sram.old page.old) (shown dynamic.new sram.new page.new) }
+{
     let mut words = Words::new(line);
     let a = words.word()?;
     let count = words.word()?;
@@ -148,7 +147,11 @@ pub fn line(
     sram: &mut [u8],
     page: &mut [u8],
     out: &mut Output,
-) -> Option<()> {
+) -> Option<()>
+    ensures letters { IsSome result → (letter ≡ 119) ⊎ ((letter ≡ 102) ⊎ (letter ≡ 112)) }
+    ensures wrong { Unsized (shown dynamic.old sram.old page.old) (shown dynamic.new sram.new page.new) }
+    ensures looked { letter ≡ 112 → shown dynamic.new sram.new page.new ≡ shown dynamic.old sram.old page.old }
+{
     match letter {
         b'w' => store_line(line, dynamic, sram, page),
         b'f' => fill_line(line, dynamic, sram, page),

@@ -1,5 +1,6 @@
 // The words of a line: numbers and byte strings in lower-case hexadecimal.
-ghost use Rattle.std.specs.Prelude.{◌+◌, ◌*◌, ◌<◌, ◌≤◌, length, IfSome};
+ghost use Rattle.std.specs.Prelude.{◌≡◌, ◌+◌, ◌*◌, ◌/◌, ◌%◌, ◌^◌, ◌<◌, ◌≤◌, ◌↔◌, [], drop, length, IsSome, IfSome, IfNone, None, option_map, option_copied};
+ghost use Rattle.script.specs.Line as L;
 
 // The letter that a line begins with, where a space or the end follows it.
 pub fn letter(line: &[u8]) -> Option<u8> {
@@ -12,7 +13,8 @@ pub fn letter(line: &[u8]) -> Option<u8> {
 
 // The value of a digit.
 pub fn digit(b: u8) -> Option<u8>
-    ensures { IfSome result (λ d. d < 16) }
+    ensures value { result ≡ L.digit b }
+    ensures small { IfSome result (λ d. d < 16) }
 {
     match b {
         b'0'..=b'9' => Some(b - b'0'),
@@ -22,8 +24,46 @@ pub fn digit(b: u8) -> Option<u8>
 }
 
 // The byte of two digits.
-pub fn byte(high: u8, low: u8) -> Option<u8> {
+pub fn byte(high: u8, low: u8) -> Option<u8>
+    ensures { result ≡ L.byte high low }
+{
     Some(digit(high)? * 16 + digit(low)?)
+}
+
+// With how many digits a text begins.
+#[tactic(auto, unfolding(crate::specs::Line::run))]
+fn run(text: &[u8]) -> usize
+    ensures value { result ≡ L.run text.now }
+    ensures inside { result ≤ length text.now }
+{
+    for (i, b) in text.iter().enumerate() {
+        if digit(*b).is_none() {
+            return i;
+        }
+    }
+    text.len()
+}
+
+// The number that at most sixteen digits make.
+fn value(digits: &[u8]) -> u64
+    requires { length digits.now ≤ 16 }
+    ensures { result ≡ L.hex 0 digits.now }
+{
+    let mut value: u64 = 0;
+    for b in digits {
+        value = (value << 4) | u64::from(digit(*b).unwrap_or(0));
+    }
+    value
+}
+
+// Stores the bytes of some digits, two for each.
+pub(crate) fn put_digits(part: &mut [u8], digits: &[u8])
+    requires { length digits.now ≡ 2 * length part.old }
+    ensures { part.new ≡ L.bytes digits.now }
+{
+    for i in 0..part.len() {
+        part[i] = byte(digits[2 * i], digits[2 * i + 1]).unwrap_or(0);
+    }
 }
 
 // A place in a line, from which its words are taken.
@@ -35,8 +75,12 @@ pub struct Words<'a> {
 }
 
 impl<'a> Words<'a> {
+    ghost use Rattle.script.specs.Left.{left};
+
     // The words behind a line's letter.
-    pub fn new(line: &'a [u8]) -> Self {
+    pub fn new(line: &'a [u8]) -> Self
+        ensures { left result ≡ drop 1 line.entry.now }
+    {
         Words {
             line,
             next: line.len().min(1),
@@ -44,7 +88,11 @@ impl<'a> Words<'a> {
     }
 
     // Steps over a space, or to the line's end where none stands next.
-    fn space(&mut self) -> Option<()> {
+    fn space(&mut self) -> Option<()>
+        ensures some { option_map (λ u. left self.new) result ≡ L.spaced (left self.old) }
+        ensures none { IfNone result (left self.new ≡ []) }
+        ensures line { self.new.line ≡ self.old.line }
+    {
         if self.line[self.next..].first() == Some(&b' ') {
             self.next += 1;
             return Some(());
@@ -54,33 +102,33 @@ impl<'a> Words<'a> {
     }
 
     // A space and a number, which has at most 16 digits. The place is behind its digits also where there are more or none.
-    pub fn number(&mut self) -> Option<u64> {
+    pub fn number(&mut self) -> Option<u64>
+        ensures value { result ≡ L.number (left self.old) }
+        ensures behind { left self.new ≡ L.behind (left self.old) }
+    {
         self.space()?;
         let text = &self.line[self.next..];
-        let mut value: u64 = 0;
-        let mut count = 0;
-        for b in text {
-            let Some(d) = digit(*b) else {
-                break;
-            };
-            value = (value << 4) | u64::from(d);
-            count += 1;
-        }
+        let count = run(text);
         self.next += count;
         if 1 <= count && count <= 16 {
-            Some(value)
+            Some(value(&text[..count]))
         } else {
             None
         }
     }
 
     // A space and a number of 32 bits.
-    pub fn word(&mut self) -> Option<u32> {
+    pub fn word(&mut self) -> Option<u32>
+        ensures value { result ≡ L.short (L.number (left self.old)) }
+        ensures behind { left self.new ≡ L.behind (left self.old) }
+    {
         u32::try_from(self.number()?).ok()
     }
 
     // The line's end.
-    pub fn end(&self) -> Option<()> {
+    pub fn end(&self) -> Option<()>
+        ensures { IsSome result ↔ (left self.now ≡ []) }
+    {
         if self.next == self.line.len() {
             Some(())
         } else {
@@ -89,7 +137,11 @@ impl<'a> Words<'a> {
     }
 
     // A space and the text of a byte string, up to the line's end: pairs of characters, or none where it is a dash.
-    fn pairs(&mut self) -> Option<&'a [u8]> {
+    fn pairs(&mut self) -> Option<&'a [u8]>
+        ensures value { option_copied result ≡ L.pairs (left self.old) }
+        ensures even { IfSome result (λ text. length text.now % 2 ≡ 0) }
+        ensures inside { IfSome result (λ text. length text.now ≤ length self.old.line.now) }
+    {
         self.space()?;
         let text = &self.line[self.next..];
         if let [b'-'] = text {
@@ -102,24 +154,29 @@ impl<'a> Words<'a> {
     }
 
     // A space and a byte string, which ends the line: its digits, two for each byte.
-    pub fn digits(&mut self) -> Option<&'a [u8]> {
+    pub fn digits(&mut self) -> Option<&'a [u8]>
+        ensures value { option_copied result ≡ L.digits (left self.old) }
+        ensures even { IfSome result (λ text. length text.now % 2 ≡ 0) }
+        ensures inside { IfSome result (λ text. length text.now ≤ length self.old.line.now) }
+    {
         let text = self.pairs()?;
-        for b in text {
-            digit(*b)?;
+        if run(text) < text.len() {
+            return None;
         }
         Some(text)
     }
 
     // The same, stored as bytes at the start of a buffer: none is read where half the line's length does not fit.
-    pub fn bytes<'b>(&mut self, into: &'b mut [u8]) -> Option<&'b [u8]> {
+    pub fn bytes<'b>(&mut self, into: &'b mut [u8]) -> Option<&'b [u8]>
+        ensures read { length self.old.line.now / 2 ≤ length into.old → option_copied result ≡ L.byte_string (left self.old) }
+        ensures none { length into.old < length self.old.line.now / 2 → result ≡ None }
+    {
         if into.len() < self.line.len() / 2 {
             return None;
         }
-        let text = self.pairs()?;
-        let part = into.get_mut(..text.len() / 2)?;
-        for (i, b) in part.iter_mut().enumerate() {
-            *b = byte(text[2 * i], text[2 * i + 1])?;
-        }
+        let text = self.digits()?;
+        let part = &mut into[..text.len() / 2];
+        put_digits(part, text);
         Some(part)
     }
 }

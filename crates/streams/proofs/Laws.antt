@@ -26,12 +26,11 @@ use Rattle.record.specs.World.{World, at_bus, with_serial_queue, with_midi_queue
 use Rattle.record.specs.Change.{count, received, serial, midi, drained, apply, Step, nothing, when, one, here}
 use Rattle.record.specs.Did.{Leads, Did, after_run}
 use Rattle.record.proofs.Laws.{in_turn, by_true, by_false, unchanged, once, from_here, run_then}
-use Rattle.model.specs.Streams.{ready, fitting, drains_serial, serial_step, drains_midi, reads_vendor}
+use Rattle.model.specs.Streams.{ready, fitting, takes_serial, gives_serial, drains_serial, serial_step, drains_midi, reads_vendor}
+use Rattle.model.proofs.Bytes.{run_bytes}
 use Rattle.streams.specs.declared.Taken.{Taken}
 use Rattle.streams.specs.Promises.{at_receive, packet_of, served, Fewer, GivesNothing, GivesBytes, Gives, Receives, Serves, ServesBoth}
-use Rattle.model.specs.Streams.{takes_serial, gives_serial}
 use Rattle.streams.proofs.Found.{active_ready, active_token, moved_bytes}
-use Rattle.model.proofs.Bytes.{run_bytes}
 
 -- ---- what is in use
 

@@ -1,19 +1,19 @@
 -- A turn of each copy: the bytes that lie in one page.
-use Rattle.std.proofs.Common.{◌≡◌, ℕ, zero, suc, ◌+◌, ◌-◌, ◌*◌, ◌%◌, ◌<◌, ◌≤◌, List, ◌++◌, length, get_or, take, drop, sym, refl, ap, ◌∙◌, subst, append_assoc, append-nil, le_of_eq, add-zero, add-suc, zero-add, arith, length-drop, length-take-le, get_or-drop, take_all, get_or-take, drop-drop, ext_get_or, take-add}
+use Rattle.std.proofs.Common.{◌≡◌, ℕ, zero, suc, ◌+◌, ◌-◌, ◌*◌, ◌%◌, ◌<◌, ◌≤◌, List, ◌++◌, length, get_or, take, drop, sym, refl, ap, ◌∙◌, subst, append_assoc, append-nil, le_of_eq, add-zero, add-suc, zero-add, arith, lit≤, length-drop, length-take-le, get_or-drop, take_all, get_or-take, drop-drop, ext_get_or, take-add}
 use borrow.Rule.Slice.PartMut.{put_mid, Post-is}
 use lib.Seq.{paste, paste-zero, length-paste, drop-length, take-paste, drop-paste}
 use Rattle.bus.proofs.PageWords.{lost_shift}
-use Rattle.bus.specs.Memory.{Memory, at, peek8, poke8, dropped8}
-use Rattle.bus.specs.Sized.{Sized}
-use Rattle.bus.proofs.Places.{dropped_at}
-use Rattle.bus.proofs.Pages.{shift, at_shift}
+use Rattle.bus.specs.Memory.{Memory, place, peek8, poke8, dropped8}
+use Rattle.bus.specs.Sized.{Power}
+use Rattle.bus.proofs.Pages.{shift, place_shift}
 use Rattle.transfer.specs.Transfer.{tabulate, bytes_in, bytes_from, received, written, data_addr, dropped_out}
 use Rattle.transfer.specs.Pages.{run_in, run_out}
 use Rattle.transfer.proofs.Laws.{length_tabulate, get_d_tabulate, length_from, get_or_from, from_first}
 use Rattle.transfer.proofs.Addresses.{addr_shift}
+use Rattle.transfer.proofs.Runs.{lost_at}
 
 -- how long a part is
-pub part_count : (l : List ℕ) (i n : ℕ) → i + n ≤ length l → length (take (i + n - i) (drop i l)) ≡ n
+part_count : (l : List ℕ) (i n : ℕ) → i + n ≤ length l → length (take (i + n - i) (drop i l)) ≡ n
 part_count l i n room = length-take-le (i + n - i) (drop i l) (omega (arith, length-drop i l)) ∙ count
   where
     count : i + n - i ≡ n
@@ -41,7 +41,7 @@ paste_part d at s i n hd hs =
         ∙ ap (λ (x : ℕ). drop x d) count
 
 -- a run within a page, as a part of the bytes from one on
-pub run_from : (m : Memory) (ps : List ℕ) (s total i n : ℕ) → i + n ≤ total → data_addr ps (s + i) % 4096 + n ≤ 4096
+run_from : (m : Memory) (ps : List ℕ) (s total i n : ℕ) → i + n ≤ total → data_addr ps (s + i) % 4096 + n ≤ 4096
     → run_in m (data_addr ps (s + i)) n ≡ take n (drop i (bytes_from m ps s total))
 unfolding run_in
 run_from m ps s total i n room h =
@@ -73,10 +73,10 @@ pub partly_none : (m : Memory) (ps : List ℕ) (s : ℕ) (out : List ℕ) → ou
 unfolding partly
 partly_none m ps s out = paste-zero out 0 (bytes_from m ps s (length out))
 
-pub partly_all : (m : Memory) (ps : List ℕ) (s : ℕ) (out : List ℕ) → partly m ps s out (length out) ≡ bytes_from m ps s (length out)
+pub partly_all : (m : Memory) (ps : List ℕ) (s : ℕ) (out l : List ℕ) (i : ℕ) → l ≡ partly m ps s out i → i ≡ length out → l ≡ bytes_from m ps s (length out)
 unfolding partly
-partly_all m ps s out =
-    ap (λ (x : ℕ). take 0 out ++ take (length out) b ++ drop x out) (zero-add (length out))
+partly_all m ps s out l i e all =
+    e ∙ ap (paste out 0 b) all ∙ ap (λ (x : ℕ). take 0 out ++ take (length out) b ++ drop x out) (zero-add (length out))
     ∙ ap (λ (x : List ℕ). take 0 out ++ take (length out) b ++ x) (drop-length out)
     ∙ append-nil (take (length out) b)
     ∙ take_all (length out) b (le_of_eq (length_from m ps s (length out)))
@@ -135,29 +135,27 @@ out_run m ps s i n m₁ m₂ a e room p h q =
     long : length part ≡ n
     long = part_count s i n room
 
-dropped_shift : (m : Memory) (a k : ℕ) → Sized m → a % 4096 + k < 4096 → dropped8 (a + k) ≡ dropped8 a
-dropped_shift m a k s h =
-    dropped_at m (a + k) (shift (at m a) k) (at_shift m a k s h) ∙ lost_shift (at m a) k ∙ sym (dropped_at m a (at m a) refl)
+dropped_shift : (a k : ℕ) → a % 4096 + k < 4096 → dropped8 (a + k) ≡ dropped8 a
+dropped_shift a k h =
+    lost_at 4096 (a + k) (shift (place 4096 a) k) (sym (place_shift a k power h)) ∙ lost_shift (place 4096 a) k ∙ sym (lost_at 4096 a (place 4096 a) refl)
+  where
+    power : Power 4096
+    power = record { exponent = 12; low = lit≤ tt; high = lit≤ tt; power = refl }
 
-run_dropped : (m : Memory) (ps : List ℕ) (i n : ℕ) → Sized m → data_addr ps i % 4096 + n ≤ 4096
-    → dropped_out ps i + n * dropped8 (data_addr ps i) ≡ dropped_out ps (i + n)
+run_dropped : (ps : List ℕ) (i n : ℕ) → data_addr ps i % 4096 + n ≤ 4096 → dropped_out ps i + n * dropped8 (data_addr ps i) ≡ dropped_out ps (i + n)
 unfolding dropped_out
-run_dropped m ps i zero s h = omega (arith, ap (dropped_out ps) (add-zero i))
-run_dropped m ps i (suc k) s h =
+run_dropped ps i zero h = omega (arith, ap (dropped_out ps) (add-zero i))
+run_dropped ps i (suc k) h =
     omega
-    (arith, run_dropped m ps i k s (omega arith), dropped_shift m (data_addr ps i) k s (omega arith), ap dropped8 (addr_shift ps i k (omega arith)), ap (dropped_out ps) (add-suc i k))
+    (arith, run_dropped ps i k (omega arith), dropped_shift (data_addr ps i) k (omega arith), ap dropped8 (addr_shift ps i k (omega arith)), ap (dropped_out ps) (add-suc i k))
 
 -- what a turn of the copy out drops
-pub dropped_run : (m : Memory) (ps s : List ℕ) (i n : ℕ) (t d a : ℕ) → Sized m → t ≡ dropped_out ps i → i + n ≤ length s → a ≡ data_addr ps i
+pub dropped_run : (ps s : List ℕ) (i n : ℕ) (t d a : ℕ) → t ≡ dropped_out ps i → i + n ≤ length s → a ≡ data_addr ps i
     → a % 4096 + n ≤ 4096 → d ≡ length (take (i + n - i) (drop i s)) * dropped8 a → t + d ≡ dropped_out ps (i + n)
-dropped_run m ps s i n t d a z e room p h q =
+dropped_run ps s i n t d a e room p h q =
     ap (λ (x : ℕ). x + d) e
     ∙ ap (λ (x : ℕ). dropped_out ps i + x) (q ∙ ap (λ (x : ℕ). x * dropped8 a) long ∙ ap (λ (x : ℕ). n * dropped8 x) p)
-    ∙ run_dropped m ps i n z (subst (λ (x : ℕ). x % 4096 + n ≤ 4096) p h)
+    ∙ run_dropped ps i n (subst (λ (x : ℕ). x % 4096 + n ≤ 4096) p h)
   where
     long : length (take (i + n - i) (drop i s)) ≡ n
     long = part_count s i n room
-
--- a part of n elements lies in the page if n bytes do
-pub part_length : (l : List ℕ) (i n a : ℕ) → a % 4096 + n ≤ 4096 → i + n ≤ length l → a % 4096 + length (take (i + n - i) (drop i l)) ≤ 4096
-part_length l i n a h room = subst (λ (x : ℕ). a % 4096 + x ≤ 4096) (sym (part_count l i n room)) h

@@ -1,13 +1,17 @@
 -- A run of bytes within a page is a part of one window.
-use Rattle.std.proofs.Common.{◌≡◌, ℕ, zero, suc, ◌+◌, ◌-◌, ◌*◌, ◌%◌, ◌<◌, ◌≤◌, List, ◌++◌, length, get_or, take, drop, replicate, sym, refl, ap, ◌∙◌, subst, append_assoc, mul-zero, mul-one, arith, length-drop, length-take-le, get_or-drop, get_or-take, ext_get_or}
+use Rattle.std.proofs.Common.{◌≡◌, ℕ, zero, suc, ◌+◌, ◌-◌, ◌%◌, ◌<◌, ◌≤◌, List, [], ◌++◌, length, get_or, take, drop, replicate, le_refl, sym, refl, ap, ◌∙◌, subst, append_assoc, arith, length-drop, length-take-le, get_or-drop, get_or-take, ext_get_or}
 use Rattle.std.proofs.lemmas.List.{length-replicate, get_or-replicate}
 use lib.Seq.{paste, paste-zero, paste-suc, take-length}
 use borrow.Rule.Slice.PartMut.{put_mid, Post-is}
 use Rattle.bus.specs.declared.Place.{Place}
 use Rattle.bus.specs.declared.Place.TheVariants.{Dynamic, Static, Page, Nowhere}
-use Rattle.bus.specs.Memory.{Memory, memory, read, write, at, peek8}
+use Rattle.bus.specs.Memory.{Memory, memory, place, read, write, lost, at, peek8, dropped8}
 use Rattle.bus.specs.Sized.{Sized}
-use Rattle.bus.proofs.Places.{Inside, inside, peek_at, poke_at, Kept, kept_refl, kept_trans, kept_poke8}
+use Rattle.bus.specs.Windows.{viewed, contents}
+use Rattle.bus.specs.declared.windows.Windows.{Windows}
+use Rattle.bus.specs.declared.windows.View.{View}
+use Rattle.bus.proofs.Lengths.{sized_of, sized_view}
+use Rattle.bus.proofs.Places.{Inside, inside, peek_at, poke_at, Kept, kept_refl, kept_trans, kept_poke8, dropped_at}
 use Rattle.bus.proofs.Laws.{at_kept}
 use Rattle.transfer.specs.Transfer.{tabulate}
 use Rattle.transfer.proofs.Laws.{length_tabulate, get_d_tabulate}
@@ -17,7 +21,7 @@ use Rattle.bus.proofs.Pages.{shift, at_shift, Ends, ends}
 -- ---- reading
 
 -- the n bytes from a place on, as a part of its window
-abbrev pub part : Memory → Place → ℕ → List ℕ
+abbrev part : Memory → Place → ℕ → List ℕ
 part m (Dynamic i) n = take (i + n - i) (drop i m.dynamic)
 part m (Static i) n = take (i + n - i) (drop i m.sram)
 part m (Page i) n = take (i + n - i) (drop i m.page)
@@ -47,7 +51,7 @@ part_run m Nowhere n f h g =
     ext_get_or 0 (replicate n 0) (tabulate n f) (length-replicate n 0 ∙ sym (length_tabulate n f))
     (λ k b. let b' : k < n = subst (λ (x : ℕ). k < x) (length-replicate n 0) b in get_or-replicate n k 0 0 b' ∙ sym (g k b') ∙ sym (get_d_tabulate n f k 0 b'))
 
-pub run_part : (m : Memory) (a n : ℕ) (q : Place) → at m a ≡ q → Sized m → a % 4096 + n ≤ 4096 → part m q n ≡ run_in m a n
+run_part : (m : Memory) (a n : ℕ) (q : Place) → at m a ≡ q → Sized m → a % 4096 + n ≤ 4096 → part m q n ≡ run_in m a n
 unfolding run_in
 run_part m a n q e s h =
     part_run m q n (λ k. peek8 m (a + k)) (ends m a n q e s h)
@@ -55,13 +59,13 @@ run_part m a n q e s h =
 
 -- ---- writing
 
-pub kept_run_out : (m : Memory) (a : ℕ) (s : List ℕ) (n : ℕ) → Kept m (run_out m a s n)
+kept_run_out : (m : Memory) (a : ℕ) (s : List ℕ) (n : ℕ) → Kept m (run_out m a s n)
 unfolding run_out
 kept_run_out m a s zero = kept_refl m
 kept_run_out m a s (suc n) = kept_trans (kept_run_out m a s n) (kept_poke8 _ _ _)
 
 -- the memory with the first n elements of s in place of the n bytes from a place on
-abbrev pub pasted : Memory → Place → List ℕ → ℕ → Memory
+abbrev pasted : Memory → Place → List ℕ → ℕ → Memory
 pasted m (Dynamic i) s n = memory (paste m.dynamic i s n) m.sram m.page
 pasted m (Static i) s n = memory m.dynamic (paste m.sram i s n) m.page
 pasted m (Page i) s n = memory m.dynamic m.sram (paste m.page i s n)
@@ -81,7 +85,7 @@ pasted_turn m (Static i) s k h b = ap (λ (l : List ℕ). memory m.dynamic l m.p
 pasted_turn m (Page i) s k h b = ap (λ (l : List ℕ). memory m.dynamic m.sram l) (paste-suc m.page i s k 0 h b)
 pasted_turn m Nowhere s k h b = refl
 
-pub run_pasted : (m : Memory) (a : ℕ) (s : List ℕ) (n : ℕ) (q : Place) → at m a ≡ q → Sized m → a % 4096 + n ≤ 4096 → n ≤ length s
+run_pasted : (m : Memory) (a : ℕ) (s : List ℕ) (n : ℕ) (q : Place) → at m a ≡ q → Sized m → a % 4096 + n ≤ 4096 → n ≤ length s
     → run_out m a s n ≡ pasted m q s n
 unfolding run_out
 run_pasted m a s zero q e z h b = pasted_none m q s
@@ -101,8 +105,20 @@ put_paste d s l i e =
     ∙ sym (append_assoc (take i d) s (drop (i + length s) d))
     ∙ ap (λ (x : List ℕ). take i d ++ x ++ drop (i + length s) d) (sym (take-length s))
 
-pub none_lost : (n d : ℕ) → d ≡ 0 → 0 ≡ n * d
-none_lost n d e = sym (ap (λ (x : ℕ). n * x) e ∙ mul-zero n)
+-- ---- what the arms of page_in and page_out know: the place of an address, and that windows which are a value are sized
 
-pub all_lost : (n d : ℕ) → d ≡ 1 → n ≡ n * d
-all_lost n d e = sym (ap (λ (x : ℕ). n * x) e ∙ mul-one n)
+pub page_read : (v : View) (a n : ℕ) (q : Place) → q ≡ place (length v.dynamic.now) a → a % 4096 + n ≤ 4096
+    → run_in (viewed v) a n ≡ part (viewed v) q n
+unfolding at
+page_read v a n q e h = sym (run_part (viewed v) a n q (sym e) (sized_view v) h)
+
+pub page_written : (w : Windows) (a : ℕ) (s : List ℕ) (q : Place) → q ≡ place (length w.dynamic.now) a → a % 4096 + length s ≤ 4096
+    → run_out (contents w) a s (length s) ≡ pasted (contents w) q s (length s)
+unfolding at
+page_written w a s q e h = run_pasted (contents w) a s (length s) q (sym e) (sized_of w) h (le_refl _)
+
+-- whether a byte is dropped does not depend on the length of dynamic memory
+pub lost_at : (n a : ℕ) (q : Place) → q ≡ place n a → dropped8 a ≡ lost q
+unfolding at
+lost_at n a q e =
+    dropped_at (memory (replicate n 0) [] []) a q (ap (λ (x : ℕ). place x a) (length-replicate {A = ℕ} n 0) ∙ sym e)

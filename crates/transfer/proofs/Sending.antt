@@ -1,7 +1,7 @@
 -- What sending does: the replay of its stores is `written`, the line's flag stays, and the bytes dropped are `dropped_out`.
 use Rattle.std.proofs.Common.{◌≡◌, ℕ, zero, suc, ◌+◌, Bool, List, [], ◌∷◌, ◌++◌, get_or, sym, refl, ap, ◌∙◌, add-zero, zero-add, arith}
 use Rattle.bus.specs.Memory.{Memory}
-use Rattle.bus.specs.Sized.{Left}
+use Rattle.bus.specs.Sized.{Sized}
 use Rattle.bus.specs.Steps.{exec}
 use Rattle.bus.specs.Stores.{Bus, bus, Store, byte, store, stored, stored_append, dropped, dropped_by, dropped_append, Does}
 use Rattle.transfer.specs.Transfer.{data_addr, stores, sending, written, dropped_out}
@@ -40,22 +40,16 @@ pub sending_is : (ps s : List ℕ) (n : ℕ) (b : Bus) → exec store (sending p
 unfolding sending
 sending_is ps s n b = stores_is ps s n b
 
-pub sending_memory : (ps s : List ℕ) (n : ℕ) (b : Bus) → (exec store (sending ps s n) b).memory ≡ written b.memory ps s n
-sending_memory ps s n b = ap (λ (x : Bus). x.memory) (sending_is ps s n b)
-
-pub sending_line : (ps s : List ℕ) (n : ℕ) (b : Bus) → (exec store (sending ps s n) b).line ≡ b.line
-sending_line ps s n b = ap (λ (x : Bus). x.line) (sending_is ps s n b)
-
 pub sending_dropped : (ps s : List ℕ) (n : ℕ) (b : Bus) → dropped_by (sending ps s n b) ≡ dropped_out ps n
 unfolding sending
 sending_dropped ps s n b = stores_dropped ps s n
 
 -- a function that leaves what was written and counts what was dropped does what sending says
-pub does_sending : {m m' : Memory} {d : ℕ} (ps s : List ℕ) (n : ℕ) (l : Bool) → Left m' (written m ps s n) → d ≡ dropped_out ps n
+pub does_sending : {m m' : Memory} {d : ℕ} (ps s : List ℕ) (n : ℕ) (l : Bool) → m' ≡ written m ps s n → Sized m' → d ≡ dropped_out ps n
     → Does (sending ps s n) (bus m l) (bus m' l) d
-does_sending {m} {m'} {d} ps s n l p e =
+does_sending {m} {m'} {d} ps s n l p z e =
     record {
-      is = ap (λ (x : Memory). bus x l) p.is ∙ sym (sending_is ps s n (bus m l));
-      sized = p.sized;
+      is = ap (λ (x : Memory). bus x l) p ∙ sym (sending_is ps s n (bus m l));
+      sized = z;
       counted = e ∙ sym (sending_dropped ps s n (bus m l));
     }

@@ -36,6 +36,7 @@ pub fn pointers(view: View<'_>, td: u32) -> [u32; 9]
 }
 
 // The page pointers that the first total bytes of the dTD at td use; an entry that is not read is 0.
+#[tactic(auto, using(crate::proofs::PointerLoop::partial_first, crate::proofs::PointerLoop::partial_turn, crate::proofs::PointerLoop::partial_all), unfolding(bus::specs::Memory::after))]
 pub fn pointers_for(view: View<'_>, td: u32, total: usize) -> [u32; 9]
     requires { total ≤ 32767 }
     ensures { result ≡ T.pointers_for (viewed view.entry) td total }
@@ -68,6 +69,7 @@ pub fn data_addr(pointers: &[u32; 9], k: usize) -> u32
 }
 
 // Fills target with the bytes of memory from address a on, which lie in one page: no window ends inside one, so one test serves them all.
+#[tactic(auto, using(crate::proofs::Runs::page_read, bus::proofs::Sizes::is_power_lem))]
 fn page_in(view: View<'_>, a: u32, target: &mut [u8])
     requires { a % 4096 + length target.old ≤ 4096 }
     ensures { target.new ≡ P.run_in (viewed view.entry) a (length target.old) }
@@ -87,6 +89,7 @@ fn page_in(view: View<'_>, a: u32, target: &mut [u8])
 }
 
 // Writes source to memory from address a on, in one page, and answers how many bytes were dropped.
+#[tactic(auto, using(crate::proofs::Runs::page_written, crate::proofs::Runs::put_paste, crate::proofs::Runs::lost_at, bus::proofs::Sizes::is_power_lem), unfolding(bus::specs::Memory::lost))]
 fn page_out(windows: &mut Windows<'_>, a: u32, source: &[u8]) -> u32
     requires { a % 4096 + length source.now ≤ 4096 }
     ensures left { contents windows.new ≡ P.run_out (contents windows.old) a source.now (length source.now) }
@@ -123,6 +126,7 @@ fn run_of(a: u32, left: usize) -> usize
 }
 
 // Fills out with the bytes of a transfer from byte start on.
+#[tactic(auto, using(crate::proofs::Loops::partly_none, crate::proofs::Loops::from_run, crate::proofs::Loops::partly_length))]
 pub fn copy_part(view: View<'_>, pointers: &[u32; 9], start: usize, out: &mut [u8])
     requires { start + length out.old ≤ 32767 }
     ensures { out.new ≡ T.bytes_from (viewed view.entry) pointers.now start (length out.old) }
@@ -148,6 +152,7 @@ pub fn copy_in(view: View<'_>, pointers: &[u32; 9], n: usize, out: &mut [u8], at
 }
 
 // Writes the first n bytes of source to memory, and answers how many were dropped.
+#[tactic(auto, using(crate::proofs::Loops::out_run, crate::proofs::Loops::dropped_run, crate::proofs::Laws::dropped_le), unfolding(crate::specs::Transfer::written, crate::specs::Transfer::dropped_out))]
 pub fn copy_out(windows: &mut Windows<'_>, pointers: &[u32; 9], source: &[u8], n: usize) -> u32
     requires n_bound { n ≤ 32767 }
     requires n_in_bounds { n ≤ length source.now }
@@ -236,7 +241,7 @@ pub fn checked_copy_part(
 }
 
 // Writes the first n bytes of source to windows of any lengths, and answers how many were dropped. A refusal leaves the windows as they were.
-#[tactic(auto, unfolding(crate::specs::Checked::checked_sending, crate::specs::Checked::sent, bus::specs::Stores::when, crate::specs::Transfer::sending))]
+#[tactic(auto, unfolding(crate::specs::Checked::checked_sending, crate::specs::Checked::sent, bus::specs::Stores::when))]
 pub fn checked_copy_out(
     dynamic: &mut [u8],
     sram: &mut [u8],

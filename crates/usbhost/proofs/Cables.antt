@@ -50,7 +50,7 @@ refused_cable h cable bs e =
 
 module _ (h : Host) (cable : ℕ) (bs : List ℕ) where
   abbrev next : Host
-  next = (midi_sent h cable bs).host
+  next = (midi_sent h cable bs).next
 
   -- every packer but its own
   pub send_others : (k : ℕ) → k ≢ cable → packer_at next.packers k ≡ packer_at h.packers k
@@ -71,9 +71,9 @@ module _ (h : Host) (cable : ℕ) (bs : List ℕ) where
 -- what one packer's definitions say of a send on a cable: its number, the queue, the bytes held, and the cable's packer
 pub record Packed (h : Host) (cable : ℕ) (bs : List ℕ) (p : Packer) : Type 0 where
   pub number : (midi_sent h cable bs).refusal ≡ (sent_of p bs h.lengths.midi).refusal
-  pub queue : (midi_sent h cable bs).host.midi ≡ queue_after cable p bs h.lengths.midi h.midi
-  pub held : (midi_sent h cable bs).host.lengths.midi ≡ (sent_of p bs h.lengths.midi).held
-  pub packer : packer_at (midi_sent h cable bs).host.packers cable ≡ (sent_of p bs h.lengths.midi).packer
+  pub queue : (midi_sent h cable bs).next.midi ≡ queue_after cable p bs h.lengths.midi h.midi
+  pub held : (midi_sent h cable bs).next.lengths.midi ≡ (sent_of p bs h.lengths.midi).held
+  pub packer : packer_at (midi_sent h cable bs).next.packers cable ≡ (sent_of p bs h.lengths.midi).packer
 
 module _ (h : Host) (few : few_spans h ≡ true) (ok : bounded h ≡ true) (whole : length h.packers ≡ CABLES) (cable : ℕ) (there : cable < 16) (bs : List ℕ) where
   abbrev own : Packer
@@ -108,9 +108,9 @@ cable_zero h few ok whole bs = cable_packed h few ok whole 0 (omega arith) bs
 -- what two sends of the same bytes on a cable have alike
 pub record Alike (g h : Host) (cable : ℕ) (bs : List ℕ) : Type 0 where
   pub number : (midi_sent g cable bs).refusal ≡ (midi_sent h cable bs).refusal
-  pub queue : (midi_sent g cable bs).host.midi ≡ (midi_sent h cable bs).host.midi
-  pub held : (midi_sent g cable bs).host.lengths.midi ≡ (midi_sent h cable bs).host.lengths.midi
-  pub packer : packer_at (midi_sent g cable bs).host.packers cable ≡ packer_at (midi_sent h cable bs).host.packers cable
+  pub queue : (midi_sent g cable bs).next.midi ≡ (midi_sent h cable bs).next.midi
+  pub held : (midi_sent g cable bs).next.lengths.midi ≡ (midi_sent h cable bs).next.lengths.midi
+  pub packer : packer_at (midi_sent g cable bs).next.packers cable ≡ packer_at (midi_sent h cable bs).next.packers cable
 
 -- other packers for other cables, where neither record meets 5
 pub send_alone : (h : Host) (packers : List Packer) (cable : ℕ) (bs : List ℕ) → length h.packers ≡ CABLES → length packers ≡ CABLES

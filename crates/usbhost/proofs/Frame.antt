@@ -23,7 +23,7 @@ use Rattle.frames.specs.Promises.{Fit, Frame}
 use Rattle.frames.proofs.Fit.{fit_of}
 use Rattle.record.specs.World.{Own, Lent, World, world}
 use Rattle.usbhost.specs.declared.Host.{Host}
-use Rattle.usbhost.specs.Answers.{Stored, Framed}
+use Rattle.usbhost.specs.Answers.{Sent, sent, Framed}
 use Rattle.usbhost.specs.Host.{state_of, host_of, own_of, host_with}
 use Rattle.usbhost.specs.Calls.{unless, bounded, few_spans, sending_length}
 use Rattle.usbhost.specs.Frame.{world_of, lengths_ok, Long, area_lengths, bounds_ok, frame_bounds, frame_number, framed, frame_answer}
@@ -115,12 +115,12 @@ module _ (f : State) (spans : ℕ) (packers : List Packer) (setups : List ℕ) (
   frame_tests e = rw e refl
 
 module _ (t : ℕ) (h : Host) (l : Lent) {n : ℕ} (e : n ≡ frame_number h l) where
-  pub frame_stops : (n ≡ 0 → ⊥) → FramePromise t h l (record { refusal = n; state = state_of h }) (own_of h) l
+  pub frame_stops : (n ≡ 0 → ⊥) → FramePromise t h l (sent n (state_of h)) (own_of h) l
   unfolding framed
   frame_stops m = record { number = e; outcome = simp (sym e, ne_eqb n 0 m) }
 
   pub frame_goes : n ≡ 0 → (s : State) (o : Own) (l' : Lent) → Leads (M.microframe t) (world_of h l) (world h.settings h.packers s o l')
-      → FramePromise t h l (record { refusal = 0; state = s }) o l'
+      → FramePromise t h l (sent 0 s) o l'
   unfolding framed
   frame_goes z s o l' d =
       let none : frame_number h l ≡ 0 = sym e ∙ z in
@@ -135,7 +135,7 @@ module _ (t : ℕ) (s : State) (c : Settings) (packers : List Packer) (o : Own) 
   number_of : n ≡ frame_number whole l
   number_of = rw u at e ∙ bare_number s c packers o l
 
-  pub parts_stop : (n ≡ 0 → ⊥) → FramePromise t whole l (record { refusal = n; state = f }) o l
+  pub parts_stop : (n ≡ 0 → ⊥) → FramePromise t whole l (sent n f) o l
   parts_stop m = rw u (frame_stops t whole l number_of m)
 
   pub parts_fit : n ≡ 0 → Fit f (length l.sending) × (c.spans ≤ 16)
@@ -145,16 +145,16 @@ module _ (t : ℕ) (s : State) (c : Settings) (packers : List Packer) (o : Own) 
 
   -- the windows and the areas as two values hold what was lent, and what is left is what they hold
   pub parts_go : n ≡ 0 → {o₁ o₂ o₃ : Own} {l₁ l₂ l₃ : Lent} (s' : State) → Frame t c f o₁ l₁ s' o₂ l₂
-      → o₁ ≡ o → l₁ ≡ l → o₃ ≡ o₂ → l₃ ≡ l₂ → FramePromise t whole l (record { refusal = 0; state = s' }) o₃ l₃
+      → o₁ ≡ o → l₁ ≡ l → o₃ ≡ o₂ → l₃ ≡ l₂ → FramePromise t whole l (sent 0 s') o₃ l₃
   parts_go z s' d p q p' q' =
       rw (p', q') (frame_goes t whole l number_of z s' _ _ ((rw (u, p, q) at d).leads packers))
 
 -- ---- the call by value
 
-pub frame_entry : (t : ℕ) (h : Host) (l : Lent) {s : State} → s ≡ state_of h → (r : Stored) (o : Own) (l' : Lent)
+pub frame_entry : (t : ℕ) (h : Host) (l : Lent) {s : State} → s ≡ state_of h → (r : Sent State) (o : Own) (l' : Lent)
     → FramePromise t (host_with h s) l r o l'
-    → {g : Host} → g ≡ host_of r.state h.settings h.packers o
-    → ◌≡◌ {A = Framed} (record { refusal = r.refusal; received = r.state.answer.received; dropped = r.state.answer.dropped; retired = r.state.answer.retired; host = g }) (frame_answer t h l) × (l' ≡ (framed t h l).lent)
+    → {g : Host} → g ≡ host_of r.next h.settings h.packers o
+    → ◌≡◌ {A = Framed} (record { refusal = r.refusal; received = r.next.answer.received; dropped = r.next.answer.dropped; retired = r.next.answer.retired; host = g }) (frame_answer t h l) × (l' ≡ (framed t h l).lent)
 unfolding frame_answer
 frame_entry t h l e r o l' d f =
     let p = rw e at d in
@@ -176,11 +176,8 @@ module _ (t : ℕ) (h : Host) (l : Lent) (m : frame_number h l ≡ 0 → ⊥) wh
 
 -- the call by value, where it is refused
 pub frame_entry_refused : (t : ℕ) (h : Host) (l : Lent) {s : State} → s ≡ state_of h → (r : Refusal) (o : Own) (l' : Lent)
-    → FramePromise t (host_with h s) l (record { refusal = number r; state = unanswered s }) o l'
+    → FramePromise t (host_with h s) l (sent (number r) (unanswered s)) o l'
     → ◌≡◌ {A = Framed} (record { refusal = number r; received = 0; dropped = 0; retired = 0; host = h }) (frame_answer t h l) × (l' ≡ (framed t h l).lent)
 frame_entry_refused t h l e r o l' d =
-    let p = rw e at d in (
-      ap (λ (n : ℕ). record { refusal = n; received = 0; dropped = 0; retired = 0; host = h }) p.number
-          ∙ sym (frame_refused t h l (λ z. refused r (p.number ∙ z))),
-      ap (λ (w : World). w.lent) p.outcome,
-    )
+    let p = rw e at d in
+    (rw (frame_refused t h l (λ z. refused r (p.number ∙ z)), p.number) refl, ap (λ (w : World). w.lent) p.outcome)

@@ -91,7 +91,7 @@ fed_packers packers cable bs there ok =
     (packer_ok_lem (fed_all p bs) (fed_all_bound p bs (packer_bound p (each_one packer_ok packers 16 ok cable there))))
 
 -- and so under any send, refused or not
-pub packers_kept : (h : Host) (cable : ℕ) (bs : List ℕ) → packers_ok h.packers ≡ true → packers_ok (midi_sent h cable bs).host.packers ≡ true
+pub packers_kept : (h : Host) (cable : ℕ) (bs : List ℕ) → packers_ok h.packers ≡ true → packers_ok (midi_sent h cable bs).next.packers ≡ true
 unfolding midi_sent midi_queued
 packers_kept h cable bs ok =
     by_test (eqb (midi_number h cable bs) 0)
@@ -117,7 +117,7 @@ midi_queued_lem n h cable bs there room =
       sending = λ e. e;
     }
 
-pub midi_kept : (n : ℕ) (h : Host) (cable : ℕ) (bs : List ℕ) → Kept n h (midi_sent h cable bs).host
+pub midi_kept : (n : ℕ) (h : Host) (cable : ℕ) (bs : List ℕ) → Kept n h (midi_sent h cable bs).next
 unfolding midi_sent
 midi_kept n h cable bs =
     either n h (midi_queued h cable bs) (eqb (midi_number h cable bs) 0)
@@ -159,7 +159,7 @@ serial_queued_lem n h bs room =
       sending = λ e. e;
     }
 
-pub serial_kept : (n : ℕ) (h : Host) (bs : List ℕ) → Kept n h (serial_sent h bs).host
+pub serial_kept : (n : ℕ) (h : Host) (bs : List ℕ) → Kept n h (serial_sent h bs).next
 unfolding serial_sent
 serial_kept n h bs =
     either n h (serial_queued h bs) (eqb (serial_number h bs) 0) (λ t. serial_queued_lem n h bs (serial_room h bs (eqb-true (serial_number h bs) 0 t)))
@@ -188,7 +188,7 @@ unfolding frame_given in_bounds enumerating_ok counts_ok audio_ok
 frame_given_lem n h room =
     record { settings = refl; bounds = λ e. e; received = λ e. e; sending = longer h.audio.sending (n / 12) room }
 
-pub give_kept : (h : Host) (frame sending : List ℕ) → Kept (length sending) h (given h frame sending).host
+pub give_kept : (h : Host) (frame sending : List ℕ) → Kept (length sending) h (given h frame sending).next
 unfolding given
 give_kept h frame sending =
     either (length sending) h (frame_given h) (eqb (give_number h frame sending) 0)
@@ -215,7 +215,7 @@ frame_taken_lem : (n : ℕ) (h : Host) → Kept n h (frame_taken h)
 unfolding frame_taken in_bounds enumerating_ok counts_ok audio_ok
 frame_taken_lem n h = record { settings = refl; bounds = λ e. e; received = shorter h.audio.received 48000; sending = λ e. e }
 
-pub take_kept : (n : ℕ) (h : Host) (received : List ℕ) → Kept n h (taken_frame h received).host
+pub take_kept : (n : ℕ) (h : Host) (received : List ℕ) → Kept n h (taken_frame h received).next
 unfolding taken_frame
 take_kept n h received = either n h (frame_taken h) (holds_frame h received) (λ t. frame_taken_lem n h)
 
@@ -229,7 +229,7 @@ pub read_kept : (n : ℕ) (h : Host) (page : List ℕ) (off size : ℕ) → Kept
 unfolding device_read
 read_kept n h page off size = same n h
 
-pub write_kept : (n : ℕ) (h : Host) (page : List ℕ) (off size v : ℕ) → Kept n h (device_written h page off size v).host
+pub write_kept : (n : ℕ) (h : Host) (page : List ℕ) (off size v : ℕ) → Kept n h (device_written h page off size v).next
 unfolding device_written
 write_kept n h page off size v =
     let line = (write_sized (registers_of h page) off size v).line in
@@ -273,16 +273,16 @@ new_few c = by_test (leb c.spans 16) (λ few. simp few) (λ many. simp many)
 other : {A : Type 0} (n : ℕ) (next a : A) → (n ≡ 0 → ⊥) → pick (eqb n 0) next a ≡ a
 other n next a m = simp (ne_eqb n 0 m)
 
-pub midi_refused : (h : Host) (cable : ℕ) (bs : List ℕ) → ((midi_sent h cable bs).refusal ≡ 0 → ⊥) → (midi_sent h cable bs).host ≡ h
+pub midi_refused : (h : Host) (cable : ℕ) (bs : List ℕ) → ((midi_sent h cable bs).refusal ≡ 0 → ⊥) → (midi_sent h cable bs).next ≡ h
 unfolding midi_sent
 midi_refused h cable bs m = other (midi_number h cable bs) (midi_queued h cable bs) h m
 
-pub serial_refused : (h : Host) (bs : List ℕ) → ((serial_sent h bs).refusal ≡ 0 → ⊥) → (serial_sent h bs).host ≡ h
+pub serial_refused : (h : Host) (bs : List ℕ) → ((serial_sent h bs).refusal ≡ 0 → ⊥) → (serial_sent h bs).next ≡ h
 unfolding serial_sent
 serial_refused h bs m = other (serial_number h bs) (serial_queued h bs) h m
 
 module _ (h : Host) (frame sending : List ℕ) (m : (given h frame sending).refusal ≡ 0 → ⊥) where
-  pub give_refused : (given h frame sending).host ≡ h
+  pub give_refused : (given h frame sending).next ≡ h
   unfolding given
   give_refused = other (give_number h frame sending) (frame_given h) h m
 
@@ -291,13 +291,13 @@ module _ (h : Host) (frame sending : List ℕ) (m : (given h frame sending).refu
   ring_refused = other (give_number h frame sending) (frame_put h frame sending) sending m
 
 pub take_refused : (h : Host) (received : List ℕ) → ((taken_frame h received).refusal ≡ 0 → ⊥)
-    → taken_frame h received ≡ record { refusal = take_number h received; empty = false; frame = replicate 12 0; host = h }
+    → taken_frame h received ≡ record { refusal = take_number h received; empty = false; frame = replicate 12 0; next = h }
 unfolding taken_frame holds_frame
 take_refused h received m = simp (ne_eqb (take_number h received) 0 m)
 
 -- an empty ring answers so, and all stays as it was
 pub take_empty : (h : Host) (received : List ℕ) → take_number h received ≡ 0 → h.audio.received.len ≡ 0
-    → taken_frame h received ≡ record { refusal = 0; empty = true; frame = replicate 12 0; host = h }
+    → taken_frame h received ≡ record { refusal = 0; empty = true; frame = replicate 12 0; next = h }
 unfolding taken_frame holds_frame
 take_empty h received e z = simp (e, eq-eqb h.audio.received.len 0 z)
 
@@ -306,7 +306,7 @@ unfolding device_read
 read_refused h page off size m = other (access_number h (length page) off size) (read_sized page off size) 0 m
 
 module _ (h : Host) (page : List ℕ) (off size v : ℕ) (m : (device_written h page off size v).refusal ≡ 0 → ⊥) where
-  pub write_refused : (device_written h page off size v).host ≡ h
+  pub write_refused : (device_written h page off size v).next ≡ h
   unfolding device_written
   write_refused = other (access_number h (length page) off size) (with_flag h (write_sized (registers_of h page) off size v).line) h m
 

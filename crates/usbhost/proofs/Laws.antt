@@ -19,8 +19,7 @@ use Rattle.usbhost.specs.declared.Host.{Host}
 use Rattle.usbhost.specs.Host.{host_of}
 use Rattle.usbhost.specs.Calls.{unless, answered, bounded}
 use Rattle.usbhost.specs.Frame.{bounds_ok}
-use Rattle.usbhost.specs.Answers.{Sent}
-use Rattle.usbhost.specs.Promises.{sent}
+use Rattle.usbhost.specs.Answers.{Sent, sent}
 
 -- ---- numbers of refusal
 
@@ -64,7 +63,7 @@ stops number n next h e m = simp (e, ne_eqb n 0 m)
 -- a call that is refused leaves the record
 pub sent_refused : (r : Refusal) (g next : Host) {n : ℕ} {h : Host} → sent (number r) g ≡ answered n next h → sent (number r) h ≡ answered n next h
 sent_refused r g next {n} {h} e =
-    sym (stops n (number r) next h (sym (ap (λ (x : Sent). x.refusal) e)) (refused r))
+    sym (stops n (number r) next h (sym (ap (λ (x : Sent Host). x.refusal) e)) (refused r))
 
 -- a test by what it gave
 pub failed : (t : Bool) (r e : Refusal) → ◌≡◌ {A = Result (Unit {0}) Refusal} (Err e) (pick t (Ok tt) (Err r)) → (t ≡ false) × (e ≡ r)

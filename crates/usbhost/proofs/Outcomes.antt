@@ -28,6 +28,7 @@ use Rattle.record.specs.Change.{taken_from}
 use Rattle.bounds.specs.Bounds.{in_bounds, asked_ok, held_ok, counted_ok, audio_ok, queues_ok, packers_ok, received_ok, sending_ok}
 use Rattle.record.specs.World.{Own, own_setups, own_midi, own_serial}
 use Rattle.usbhost.specs.declared.Host.{Host}
+use Rattle.usbhost.specs.Answers.{sent}
 use Rattle.usbhost.specs.Host.{host_of, state_of}
 use Rattle.usbhost.specs.Calls.{unless, few_spans, bounded, midi_number, midi_queued, midi_sent, serial_number, serial_queued, serial_sent, sending_length, give_number, frame_put, frame_given, given, given_ring, take_number, frame_taken, oldest, holds_frame, taken_frame, access_number, device_read, with_flag, device_written, written_page}
 use Rattle.usbhost.specs.Promises.{with_spans, bare, MidiPromise, SerialPromise, GivePromise, TakePromise, ReadPromise, WritePromise}
@@ -113,7 +114,7 @@ module _ (s : State) (spans : ℕ) (packers : List Packer) (bs setups serial : L
       let five = (met 3 (leb spans 16) (unless 5 (in_bounds s packers setups) 0) (omega arith) (sym e ∙ z)).1 in
       queues_serial s.lengths (bounded_queues s packers setups (met 5 (in_bounds s packers setups) 0 (omega arith) five).0)
 
-  pub serial_stops : (n ≡ 0 → ⊥) → SerialPromise s spans packers bs setups serial (record { refusal = n; state = s }) serial
+  pub serial_stops : (n ≡ 0 → ⊥) → SerialPromise s spans packers bs setups serial (sent n s) serial
   unfolding serial_sent serial_number
   serial_stops m =
       record {
@@ -123,7 +124,7 @@ module _ (s : State) (spans : ℕ) (packers : List Packer) (bs setups serial : L
             sym (stops (serial_number h bs) n (serial_queued h bs) h (stays s (with_spans k spans) packers (own_serial (own_setups o setups) serial) true _ e m) m);
       }
 
-  pub serial_full : n ≡ 0 → 4096 < s.lengths.serial + length bs → SerialPromise s spans packers bs setups serial (record { refusal = 7; state = s }) serial
+  pub serial_full : n ≡ 0 → 4096 < s.lengths.serial + length bs → SerialPromise s spans packers bs setups serial (sent 7 s) serial
   unfolding serial_sent serial_number
   serial_full z m =
       let full = lt-leb (s.lengths.serial + length bs) 4096 m in
@@ -136,7 +137,7 @@ module _ (s : State) (spans : ℕ) (packers : List Packer) (bs setups serial : L
       }
 
   pub serial_goes : n ≡ 0 → s.lengths.serial + length bs ≤ 4096 → (serial' : List ℕ) → serial' ≡ sets serial s.lengths.serial bs
-      → SerialPromise s spans packers bs setups serial (record { refusal = 0; state = with_lengths s (with_serial s.lengths (s.lengths.serial + length bs)) }) serial'
+      → SerialPromise s spans packers bs setups serial (sent 0 (with_lengths s (with_serial s.lengths (s.lengths.serial + length bs)))) serial'
   unfolding serial_sent serial_number serial_queued
   serial_goes z m serial' d =
       let room = le-leb (s.lengths.serial + length bs) 4096 m in
@@ -202,7 +203,7 @@ module _ (s : State) (spans : ℕ) (packers : List Packer) (setups frame sending
   unfolding give_number
   given_number k o = sym e
 
-  pub give_stops : (n ≡ 0 → ⊥) → GivePromise s spans packers frame setups sending (record { refusal = n; state = s }) sending
+  pub give_stops : (n ≡ 0 → ⊥) → GivePromise s spans packers frame setups sending (sent n s) sending
   unfolding given given_ring
   give_stops m =
       record {
@@ -214,7 +215,7 @@ module _ (s : State) (spans : ℕ) (packers : List Packer) (setups frame sending
       }
 
   pub give_goes : n ≡ 0 → (sending' : List ℕ) → sending' ≡ sets sending (newest s (length sending) * 12) frame
-      → GivePromise s spans packers frame setups sending (record { refusal = 0; state = with_audio s (with_sending s.audio (record { start = s.audio.sending.start; len = s.audio.sending.len + 1 })) }) sending'
+      → GivePromise s spans packers frame setups sending (sent 0 (with_audio s (with_sending s.audio (record { start = s.audio.sending.start; len = s.audio.sending.len + 1 })))) sending'
   unfolding given given_ring frame_given frame_put
   give_goes z sending' d =
       record {
@@ -252,13 +253,13 @@ module _ (s : State) (spans : ℕ) (packers : List Packer) (setups received : Li
   unfolding take_number
   taken_number k o = sym e
 
-  pub take_stops : (n ≡ 0 → ⊥) → TakePromise s spans packers setups received (record { refusal = n; empty = false; frame = replicate 12 0; state = s })
+  pub take_stops : (n ≡ 0 → ⊥) → TakePromise s spans packers setups received (record { refusal = n; empty = false; frame = replicate 12 0; next = s })
   unfolding taken_frame holds_frame
   take_stops m =
       record { answer = refl; done = λ k o. simp (taken_number k o, ne_eqb n 0 m) }
 
   pub take_empty : n ≡ 0 → s.audio.received.len ≡ 0
-      → TakePromise s spans packers setups received (record { refusal = 0; empty = true; frame = replicate 12 0; state = s })
+      → TakePromise s spans packers setups received (record { refusal = 0; empty = true; frame = replicate 12 0; next = s })
   unfolding taken_frame holds_frame
   take_empty z l =
       record {
@@ -270,7 +271,7 @@ module _ (s : State) (spans : ℕ) (packers : List Packer) (setups received : Li
 
   pub take_goes : n ≡ 0 → (s.audio.received.len ≡ 0 → ⊥) → (frame : List ℕ) → frame ≡ take 12 (drop (s.audio.received.start * 12) received)
       → TakePromise s spans packers setups received
-      (record { refusal = 0; empty = false; frame = frame; state = with_audio s (with_received s.audio (taken_from 48000 1 s.audio.received)) })
+      (record { refusal = 0; empty = false; frame = frame; next = with_audio s (with_received s.audio (taken_from 48000 1 s.audio.received)) })
   unfolding taken_frame holds_frame oldest frame_taken
   take_goes z m frame d =
       record {
@@ -313,7 +314,7 @@ module _ (s : State) (spans : ℕ) (packers : List Packer) (setups page : List �
       }
 
   module _ (v : ℕ) where
-    pub write_stops : (n ≡ 0 → ⊥) → WritePromise s spans packers setups page off size v (record { refusal = n; state = s }) page
+    pub write_stops : (n ≡ 0 → ⊥) → WritePromise s spans packers setups page off size v (sent n s) page
     unfolding device_written written_page
     write_stops m =
         record {
@@ -324,7 +325,7 @@ module _ (s : State) (spans : ℕ) (packers : List Packer) (setups page : List �
 
     pub write_goes : n ≡ 0 → (w : Written) (page' : List ℕ)
         → (w ≡ writing (registers page s.port.line) off size v) × (page' ≡ written (registers page s.port.line) off size v)
-        → WritePromise s spans packers setups page off size v (record { refusal = 0; state = with_port s (with_line s.port w.line) }) page'
+        → WritePromise s spans packers setups page off size v (sent 0 (with_port s (with_line s.port w.line))) page'
     unfolding device_written written_page with_flag writing written
     write_goes z w page' d =
         let right = accepts z in

@@ -18,7 +18,7 @@ use Rattle.usbhost.proofs.Kept.{midi_room}
 
 module _ (h : Host) (cable : ℕ) (bs : List ℕ) where
   abbrev next : Host
-  next = (midi_sent h cable bs).host
+  next = (midi_sent h cable bs).next
 
   -- from the bytes held before to those held then, by the packer of its cable
   pub send_written : midi_number h cable bs ≡ 0 → length h.midi ≡ 4096

@@ -11,37 +11,42 @@ use Rattle.usbhost.specs.declared.Taken.{Taken as TakenOf}
 use Rattle.usbhost.specs.declared.Framed.{Framed as HostFramed}
 use Rattle.usbhost.specs.declared.MidiSent.{MidiSent as StateSent}
 
+-- ---- over a record or a state
+
+-- of a call that answers what is next alone
+pub record Sent (S : Type 0) : Type 0 where
+  pub refusal : ℕ
+  pub next : S
+
+abbrev pub sent : {S : Type 0} → ℕ → S → Sent S
+sent number next = record { refusal = number; next = next }
+
+abbrev pub sent_by : {S : Type 0} → S → Result S Refusal → Sent S
+sent_by s (Ok next) = sent 0 next
+sent_by s (Err r) = sent (number r) s
+
+-- of a frame taken: whether the ring was empty, the frame, and what is next
+pub record Taken (S : Type 0) : Type 0 where
+  pub refusal : ℕ
+  pub empty : Bool
+  pub frame : List ℕ
+  pub next : S
+
+-- a frame, or none from an empty ring
+abbrev pub taken_from_ring : {S : Type 0} → Option (List ℕ) → S → Taken S
+taken_from_ring (Some frame) next = record { refusal = 0; empty = false; frame = frame; next = next }
+taken_from_ring None next = record { refusal = 0; empty = true; frame = replicate WORDS 0; next = next }
+
+abbrev pub taken_by : {S : Type 0} → S → Result (TakenOf S) Refusal → Taken S
+taken_by s (Ok t) = taken_from_ring t.frame t.next
+taken_by s (Err r) = record { refusal = number r; empty = false; frame = replicate WORDS 0; next = s }
+
 -- ---- by value
 
 -- of `new`: 0 or 3, and the host
 pub record Created : Type 0 where
   pub refusal : ℕ
   pub host : Host
-
--- of a call that answers the next record alone
-pub record Sent : Type 0 where
-  pub refusal : ℕ
-  pub host : Host
-
-abbrev pub sent_by : Host → Result Host Refusal → Sent
-sent_by h (Ok next) = record { refusal = 0; host = next }
-sent_by h (Err r) = record { refusal = number r; host = h }
-
--- of a frame taken: whether the ring was empty, the frame, and the next record
-pub record Taken : Type 0 where
-  pub refusal : ℕ
-  pub empty : Bool
-  pub frame : List ℕ
-  pub host : Host
-
--- a frame, or none from an empty ring
-abbrev pub taken_from_ring : Option (List ℕ) → Host → Taken
-taken_from_ring (Some frame) next = record { refusal = 0; empty = false; frame = frame; host = next }
-taken_from_ring None next = record { refusal = 0; empty = true; frame = replicate WORDS 0; host = next }
-
-abbrev pub taken_by : Host → Result (TakenOf Host) Refusal → Taken
-taken_by h (Ok t) = taken_from_ring t.frame t.next
-taken_by h (Err r) = record { refusal = number r; empty = false; frame = replicate WORDS 0; host = h }
 
 -- of a device read: the value, and the record
 pub record Read : Type 0 where
@@ -77,27 +82,3 @@ pub record MidiSent : Type 0 where
 abbrev pub midi_sent_by : State → List Packer → Result StateSent Refusal → MidiSent
 midi_sent_by s packers (Ok m) = record { refusal = 0; state = m.state; packers = m.packers }
 midi_sent_by s packers (Err r) = record { refusal = number r; state = s; packers = packers }
-
--- of a call that changes the state alone
-pub record Stored : Type 0 where
-  pub refusal : ℕ
-  pub state : State
-
-abbrev pub stored_by : State → Result State Refusal → Stored
-stored_by s (Ok next) = record { refusal = 0; state = next }
-stored_by s (Err r) = record { refusal = number r; state = s }
-
--- of a frame taken
-pub record TakenFrame : Type 0 where
-  pub refusal : ℕ
-  pub empty : Bool
-  pub frame : List ℕ
-  pub state : State
-
-abbrev pub taken_state : Option (List ℕ) → State → TakenFrame
-taken_state (Some frame) next = record { refusal = 0; empty = false; frame = frame; state = next }
-taken_state None next = record { refusal = 0; empty = true; frame = replicate WORDS 0; state = next }
-
-abbrev pub taken_frame_by : State → Result (TakenOf State) Refusal → TakenFrame
-taken_frame_by s (Ok t) = taken_state t.frame t.next
-taken_frame_by s (Err r) = record { refusal = number r; empty = false; frame = replicate WORDS 0; state = s }

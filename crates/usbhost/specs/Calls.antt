@@ -13,7 +13,7 @@ use Rattle.record.specs.Sizes.{QUEUE, FRAMES, WORDS, RING}
 use Rattle.record.specs.Change.{taken_from}
 use Rattle.bounds.specs.Bounds.{in_bounds, received_ok, sending_ok}
 use Rattle.usbhost.specs.declared.Host.{Host}
-use Rattle.usbhost.specs.Answers.{Sent, Taken, Read}
+use Rattle.usbhost.specs.Answers.{Sent, sent, Taken, Read}
 use Rattle.usbhost.specs.Host.{state_of, host_of, own_of, host_with}
 
 -- ---- numbers 3 and 5 of a record
@@ -31,8 +31,8 @@ abbrev pub unless : ℕ → Bool → ℕ → ℕ
 unless number test next = pick test next number
 
 -- an answer: refused, the record is as it was
-abbrev pub answered : ℕ → Host → Host → Sent
-answered number next h = record { refusal = number; host = pick (eqb number 0) next h }
+abbrev pub answered : ℕ → Host → Host → Sent Host
+answered number next h = sent number (pick (eqb number 0) next h)
 
 -- the accepted area, or as it was
 abbrev pub kept : ℕ → List ℕ → List ℕ → List ℕ
@@ -53,7 +53,7 @@ midi_queued r cable bs =
     host_of (with_lengths (state_of r) (with_midi r.lengths (r.lengths.midi + 4 * packet_count p bs))) r.settings (set r.packers cable (fed_all p bs))
     (own_midi (own_of r) (sets r.midi r.lengths.midi (packets_of cable p bs)))
 
-unfoldable pub midi_sent : Host → ℕ → List ℕ → Sent
+unfoldable pub midi_sent : Host → ℕ → List ℕ → Sent Host
 midi_sent h cable bs = answered (midi_number h cable bs) (midi_queued h cable bs) h
 
 -- ---- serial send: 3, 5, 7
@@ -67,7 +67,7 @@ serial_queued r bs =
     host_of (with_lengths (state_of r) (with_serial r.lengths (r.lengths.serial + length bs))) r.settings r.packers
     (own_serial (own_of r) (sets r.serial r.lengths.serial bs))
 
-unfoldable pub serial_sent : Host → List ℕ → Sent
+unfoldable pub serial_sent : Host → List ℕ → Sent Host
 serial_sent h bs = answered (serial_number h bs) (serial_queued h bs) h
 
 -- ---- frame given: 2, 3, 5, 7
@@ -92,7 +92,7 @@ unfoldable pub frame_given : Host → Host
 frame_given r =
     host_with r (with_audio (state_of r) (with_sending r.audio (record { start = r.audio.sending.start; len = r.audio.sending.len + 1 })))
 
-unfoldable pub given : Host → List ℕ → List ℕ → Sent
+unfoldable pub given : Host → List ℕ → List ℕ → Sent Host
 given h frame sending = answered (give_number h frame sending) (frame_given h) h
 
 unfoldable pub given_ring : Host → List ℕ → List ℕ → List ℕ
@@ -118,13 +118,13 @@ unfoldable pub holds_frame : Host → List ℕ → Bool
 holds_frame h received = eqb (take_number h received) 0 && not (eqb h.audio.received.len 0)
 
 -- "empty" exactly from an empty ring; where refused or empty the frame is zeros and the record as it was
-unfoldable pub taken_frame : Host → List ℕ → Taken
+unfoldable pub taken_frame : Host → List ℕ → Taken Host
 taken_frame h received =
     record {
       refusal = take_number h received;
       empty = eqb (take_number h received) 0 && eqb h.audio.received.len 0;
       frame = pick (holds_frame h received) (oldest h received) (replicate WORDS 0);
-      host = pick (holds_frame h received) (frame_taken h) h;
+      next = pick (holds_frame h received) (frame_taken h) h;
     }
 
 -- ---- device access: 1 (page only), 3, 4, 5
@@ -152,7 +152,7 @@ with_flag r x =
     host_with r (with_port (state_of r) (with_line r.port x))
 
 -- a write: the record with the flag that it leaves, and the page (bus.rs 963-973)
-unfoldable pub device_written : Host → List ℕ → ℕ → ℕ → ℕ → Sent
+unfoldable pub device_written : Host → List ℕ → ℕ → ℕ → ℕ → Sent Host
 device_written h page off size v =
     answered (access_number h (length page) off size) (with_flag h (write_sized (registers_of h page) off size v).line) h
 

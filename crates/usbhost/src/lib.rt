@@ -9,7 +9,7 @@ ghost use Rattle.usbdev.specs.Answers.{value_of};
 ghost use Rattle.midi.specs.Packer.{is_cable};
 ghost use Rattle.bounds.specs.Bounds.{MOST, in_bounds, areas_ok, received_ok, sending_ok};
 ghost use Rattle.model.specs.Microframe.{streaming as Microframe·streaming};
-ghost use Rattle.usbhost.specs.Answers.{sent_by, taken_by, read_by, framed_by, midi_sent_by, stored_by, taken_frame_by};
+ghost use Rattle.usbhost.specs.Answers.{sent_by, taken_by, read_by, framed_by, midi_sent_by};
 ghost use Rattle.usbhost.specs.Calls.{unless, sending_length, midi_sent, serial_sent, given, given_ring, give_number, taken_frame, take_number, device_read, device_written, written_page};
 ghost use Rattle.usbhost.specs.Promises.{bare, unanswered, MidiPromise, SerialPromise, GivePromise, TakePromise, ReadPromise, WritePromise, FramePromise};
 ghost use Rattle.usbhost.specs.Frame.{lengths_ok, Long, framed, frame_answer};
@@ -269,7 +269,7 @@ pub fn send_serial(
     setups: &[u8; SETUP_BYTES],
     serial: &mut [u8; QUEUE],
 ) -> Result<State, Refusal>
-    ensures { SerialPromise s spans packers bytes.now setups.now serial.old (stored_by s result) serial.new }
+    ensures { SerialPromise s spans packers bytes.now setups.now serial.old (sent_by s result) serial.new }
 {
     record_passes(s, spans, packers, setups)?;
     let held = s.lengths.serial;
@@ -320,7 +320,7 @@ pub fn give_frame(
     setups: &[u8; SETUP_BYTES],
     sending: &mut [u32],
 ) -> Result<State, Refusal>
-    ensures { GivePromise s spans packers frame.now setups.now sending.old (stored_by s result) sending.new }
+    ensures { GivePromise s spans packers frame.now setups.now sending.old (sent_by s result) sending.new }
 {
     give_passes(s, spans, packers, frame, setups, &*sending)?;
     let capacity = sending.len() / Host::CHANNELS;
@@ -439,7 +439,7 @@ pub fn run_microframe(
     sending: &[u32],
     time: u64,
 ) -> Result<State, Refusal>
-    ensures { FramePromise time (host_of s c packers (own setups.old midi.old serial.old device.old)) (lent (shown dynamic.old sram.old page.old) reply.old config.old receive.old cables.old received.old sending.now) (stored_by (unanswered s) result) (own setups.new midi.new serial.new device.new) (lent (shown dynamic.new sram.new page.new) reply.new config.new receive.new cables.new received.new sending.now) }
+    ensures { FramePromise time (host_of s c packers (own setups.old midi.old serial.old device.old)) (lent (shown dynamic.old sram.old page.old) reply.old config.old receive.old cables.old received.old sending.now) (sent_by (unanswered s) result) (own setups.new midi.new serial.new device.new) (lent (shown dynamic.new sram.new page.new) reply.new config.new receive.new cables.new received.new sending.now) }
 {
     let fresh = unanswered(s);
     bus::accept(&*dynamic, &*sram, &*page)?;
@@ -483,7 +483,7 @@ pub fn take_frame(
     setups: &[u8; SETUP_BYTES],
     received: &[u32],
 ) -> Result<Taken<State>, Refusal>
-    ensures { TakePromise s spans packers setups.now received.now (taken_frame_by s result) }
+    ensures { TakePromise s spans packers setups.now received.now (taken_by s result) }
 {
     take_passes(s, spans, packers, setups, received)?;
     let start = s.audio.received.start;
@@ -553,7 +553,7 @@ pub fn write_device(
     size: u32,
     v: u32,
 ) -> Result<State, Refusal>
-    ensures { WritePromise s spans packers setups.now page.old off size v (stored_by s result) page.new }
+    ensures { WritePromise s spans packers setups.now page.old off size v (sent_by s result) page.new }
 {
     access(s, spans, packers, setups, &*page, off, size)?;
     let line = usbdev::write(page, off, size, v, s.port.line)?;
