@@ -53,7 +53,7 @@ impl<P: Part> Bench<P> {
     }
 }
 
-// The answers of a part to all lines of standard input, up to one that is too long, and to a read or a write that fails.
+// The answers of a part to all lines of standard input, up to one that is too long, and to a read or a write that fails. No clause says what is written: only that it ends.
 pub fn run<P: Part + Drop>(rt: HostRuntime, part: P, program: &str) {
     let mut bench = Bench {
         part,

@@ -1,5 +1,7 @@
 // The memory of a run: three windows.
-ghost use Rattle.std.specs.Prelude.{◌≤◌};
+ghost use Rattle.std.specs.Prelude.{◌≡◌, ◌≤◌, ◌⊎◌, ◌↔◌, true, IsSome, IfSome, IfNone};
+ghost use Rattle.bus.specs.Sized.{is_power};
+ghost use Rattle.bench.specs.Zeros.{Zeros};
 
 use script::memory;
 use stdio::Output;
@@ -14,7 +16,10 @@ pub struct Memory {
 }
 
 impl Memory {
-    pub fn new() -> Self {
+    // Memory of zeros, and the shortest length.
+    pub fn new() -> Self
+        ensures { Zeros 4096 result }
+    {
         Memory {
             dynamic: [0; 65536],
             sram: [0; bus::SRAM],
@@ -31,19 +36,26 @@ impl Memory {
     }
 
     // Memory of zeros; a length that no run has, or above that of dynamic memory's array, leaves it as it is.
-    pub fn restart(&mut self, length: usize) -> Option<()> {
+    pub fn restart(&mut self, length: usize) -> Option<()>
+        ensures begun { IsSome result ↔ ((is_power length ≡ true) × (length ≤ 65536)) }
+        ensures zeros { IfSome result (λ u. Zeros length self.new) }
+        ensures kept { IfNone result (self.new ≡ self.old) }
+    {
         if self.dynamic.len() < length || !bus::power(length) {
             return None;
         }
-        self.dynamic.fill(0);
-        self.sram.fill(0);
-        self.page.fill(0);
+        self.dynamic = [0; 65536];
+        self.sram = [0; bus::SRAM];
+        self.page = [0; bus::PAGE];
         self.length = length;
         Some(())
     }
 
     // A line that goes through the windows, or a bad one.
-    pub fn line(&mut self, letter: u8, line: &[u8], out: &mut Output) -> Option<()> {
+    pub fn line(&mut self, letter: u8, line: &[u8], out: &mut Output) -> Option<()>
+        ensures letters { IsSome result → (letter ≡ 119) ⊎ ((letter ≡ 102) ⊎ (letter ≡ 112)) }
+        ensures kept { self.new.length ≡ self.old.length }
+    {
         let length = self.length();
         let Memory {
             dynamic,

@@ -1,11 +1,9 @@
 // Queue heads and transfer descriptors (dTDs): finding the next one, retiring it, and runs over an endpoint's list.
 #![tactic(auto)]
 
-ghost use Rattle.std.specs.Prelude.{◌≡◌, ℕ, ◌<◌, ◌≤◌, Bool, true, false, [], length};
+ghost use Rattle.std.specs.Prelude.{◌≡◌, ◌<◌, ◌≤◌, Bool, true, false, []};
 ghost use Rattle.bus.specs.Windows.{viewed, contents, SameWindows};
-ghost use Rattle.bus.specs.Memory.{peek32 as Memory·peek32};
 ghost use Rattle.bus.specs.Stores.{bus as Stores·bus, Does};
-ghost use Rattle.bus.specs.Steps.{exec};
 ghost use Rattle.usbdev.specs.Registers.{registers, done};
 ghost use Rattle.dtd.specs.Dtd as D;
 ghost use Rattle.dtd.specs.Promises as P;

@@ -14,6 +14,7 @@ use Rattle.usbdev.specs.Access.{fits}
 use Rattle.record.specs.Sizes.{FRAMES, WORDS}
 use Rattle.usbhost.specs.Calls.{unless, sending_length}
 use Rattle.usbhost.specs.Frame.{lengths_ok, area_lengths}
+use Rattle.usbhost.proofs.Frame.{lengths_long}
 use Rattle.record.specs.World.{Lent}
 use Rattle.usbhost.proofs.Laws.{met}
 use Rattle.history.specs.Calls.{Call, microframe, midi_send, serial_send, frame_give, frame_take, device_read, device_write}
@@ -34,20 +35,16 @@ unfolding sending_length
 right_ring n r = and_both _ _ (le-leb 84 n r.least) (and_both _ _ (le-leb n 576000 r.most) (eq-eqb (n % WORDS) 0 r.frames))
 
 pub areas_right : (l : Lent) → is_sized l.memory ≡ true → area_lengths l ≡ true → RightAreas l
-unfolding lengths_ok
 areas_right l w e =
-    let e₁ = and_second (leb 65535 (length l.reply)) _ e in
-    let e₂ = and_second (leb 65535 (length l.config)) _ e₁ in
-    let e₃ = and_second (leb 196608 (length l.receive)) _ e₂ in
-    let e₄ = and_second (leb 196608 (length l.cables)) _ e₃ in
+    let k = lengths_long _ _ _ _ _ _ e in
     record {
       windows = is_sized_lem l.memory w;
-      reply = leb-true 65535 (length l.reply) (and_first (leb 65535 (length l.reply)) _ e);
-      config = leb-true 65535 (length l.config) (and_first (leb 65535 (length l.config)) _ e₁);
-      receive = leb-true 196608 (length l.receive) (and_first (leb 196608 (length l.receive)) _ e₂);
-      cables = leb-true 196608 (length l.cables) (and_first (leb 196608 (length l.cables)) _ e₃);
-      received = eqb-true (length l.received) (FRAMES * WORDS) (and_first (eqb (length l.received) (FRAMES * WORDS)) _ e₄);
-      sending = ring_right (length l.sending) (and_second (eqb (length l.received) (FRAMES * WORDS)) _ e₄);
+      reply = k.reply_long;
+      config = k.config_long;
+      receive = k.receive_long;
+      cables = k.cables_long;
+      received = k.received_whole;
+      sending = ring_right (length l.sending) k.sending_right;
     }
 
 right_areas : (l : Lent) → RightAreas l → area_lengths l ≡ true

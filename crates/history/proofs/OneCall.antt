@@ -5,7 +5,7 @@ use mathlib.Core.Bool.{Bool, true, false, ◌&&◌}
 use mathlib.Core.List.{List, [], ◌++◌}
 use mathlib.Core.Logic.{◌⊎◌}
 use native.Mathlib.Omega.{arith}
-use lib.Dec.{eqb, leb, ltb}
+use lib.Dec.{eqb, ltb}
 use lib.ListN.{length}
 use borrow.Author.Tests.{leb-true, ltb-true, eqb-true}
 use Rattle.bits.specs.Pick.{pick, pick_map}
@@ -31,8 +31,8 @@ use Rattle.usbhost.specs.declared.Host.{Host}
 use Rattle.usbhost.specs.Answers.{Framed}
 use Rattle.usbhost.specs.Host.{state_of}
 use Rattle.usbhost.specs.Calls.{bounded}
-use Rattle.usbhost.specs.Frame.{world_of, host_in, lengths_ok, bounds_ok, frame_number, framed, frame_answer}
-use Rattle.usbhost.proofs.Frame.{accepted_tests, frame_refused}
+use Rattle.usbhost.specs.Frame.{world_of, host_in, bounds_ok, frame_number, framed, frame_answer}
+use Rattle.usbhost.proofs.Frame.{accepted_tests, accepted_long, frame_refused}
 use Rattle.usbhost.proofs.Descriptors.{frame_retired, frame_few, frame_dropped}
 use Rattle.history.specs.Calls.{microframe, step}
 use Rattle.history.specs.Rings.{to_take}
@@ -59,17 +59,14 @@ step_changes t h l = ap host_in (call_changes t h l)
 
 -- the received ring that it is lent has its length, and the record's place lies in it
 pub accepted_ring : (h : Host) (l : Lent) → frame_number h l ≡ 0 → RingInOrder (world_of h l)
-unfolding bounds_ok ring_ok lengths_ok
+unfolding bounds_ok ring_ok
 accepted_ring h l e =
     let a = accepted_tests h l e in
     let b₁ = and_second (bounded h) _ a.bounds in
     let b₂ = and_second (areas_ok (state_of h) (length l.reply) (length l.config)) _ b₁ in
     let r = and_first (received_ok (state_of h)) _ b₂ in
-    let l₁ = and_second (leb 65535 (length l.reply)) _ a.lengths in
-    let l₂ = and_second (leb 65535 (length l.config)) _ l₁ in
-    let l₃ = and_second (leb 196608 (length l.cables)) _ (and_second (leb 196608 (length l.receive)) _ l₂) in
     record {
-      room = eqb-true (length l.received) 576000 (and_first (eqb (length l.received) 576000) _ l₃);
+      room = (accepted_long h l e).received_whole;
       starts = ltb-true h.audio.received.start 48000 (and_first (ltb h.audio.received.start 48000) _ r);
       holds = leb-true h.audio.received.len 48000 (and_second (ltb h.audio.received.start 48000) _ r);
     }

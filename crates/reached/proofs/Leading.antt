@@ -23,7 +23,8 @@ use Rattle.kept.proofs.Whole.{Bounded, bounds_kept}
 use Rattle.usbhost.specs.declared.Host.{Host}
 use Rattle.usbhost.specs.Host.{state_of}
 use Rattle.usbhost.specs.Calls.{few_spans}
-use Rattle.usbhost.specs.Frame.{world_of, host_in, lengths_ok, area_lengths, bounds_ok, frame_number, framed}
+use Rattle.usbhost.specs.Frame.{world_of, host_in, area_lengths, bounds_ok, frame_number, framed}
+use Rattle.usbhost.proofs.Frame.{lengths_long}
 use Rattle.history.specs.Calls.{Call, microframe, step, after}
 use Rattle.history.specs.Sums.{Tally, summed, tallied, tally}
 use Rattle.history.specs.Accepts.{number_of, AtEach}
@@ -141,14 +142,13 @@ module _ (c : Settings) (a : Areas) (long : Long a) (few : leb c.spans 16 ≡ tr
         }
 
     entry : Entry w
-    unfolding lengths_ok
     entry =
-        let l₁ = and_second (leb 65535 (length a.reply)) _ long.lengths in
+        let k = lengths_long _ _ _ _ _ _ long.lengths in
         record {
           uf = before_h;
           setups_length = o.queue.long;
-          reply_length = leb-true 65535 (length a.reply) (and_first _ _ long.lengths);
-          config_length = leb-true 65535 (length a.config) (and_first _ _ l₁);
+          reply_length = k.reply_long;
+          config_length = k.config_long;
           memory_bytes = fit.bytes;
           setups_bytes = o.queue.bytes;
           reply_bytes = long.bytes;

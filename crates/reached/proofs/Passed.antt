@@ -8,7 +8,7 @@ use native.Mathlib.Omega.{arith}
 use lib.Dec.{eqb, leb, ltb}
 use lib.ListN.{length, get_or, take, drop, replicate}
 use lib.Seq.{sets, length-sets, length-take-le, sets-eq, take_at, drop_at}
-use borrow.Author.Tests.{leb-true, lt-ltb}
+use borrow.Author.Tests.{eq-eqb, leb-true, lt-ltb}
 use Rattle.bits.specs.Pick.{pick}
 use Rattle.bits.proofs.Tests.{and_first, and_second}
 use Rattle.bus.specs.Memory.{Memory}
@@ -33,7 +33,8 @@ use Rattle.kept.proofs.Shape.{Shape, shape_kept}
 use Rattle.usbhost.specs.declared.Host.{Host}
 use Rattle.usbhost.specs.Host.{state_of}
 use Rattle.usbhost.specs.Calls.{few_spans, sending_length, give_number, frame_put, frame_given, given, given_ring, take_number, frame_taken, oldest, holds_frame, taken_frame}
-use Rattle.usbhost.specs.Frame.{world_of, lengths_ok, framed}
+use Rattle.usbhost.specs.Frame.{Long as Lengths·Long, world_of, lengths_ok, framed}
+use Rattle.usbhost.proofs.Frame.{lengths_long}
 use Rattle.usbhost.proofs.Kept.{Kept, give_kept, ring_kept}
 use Rattle.history.specs.Calls.{microframe, step, after}
 use Rattle.history.specs.Sums.{Tally, tallied, tally}
@@ -139,17 +140,12 @@ module _ (a : Areas) (f : List ℕ) (long : Long a) (static_length : length f �
   abbrev ring : List ℕ
   ring = a.sending
 
-  right : sending_length (length ring) ≡ true
-  unfolding lengths_ok
-  right =
-      let l₁ = and_second (leb 65535 (length a.reply)) _ long.lengths in
-      let l₂ = and_second (leb 65535 (length a.config)) _ l₁ in
-      let l₃ = and_second (leb 196608 (length a.cables)) _ (and_second (leb 196608 (length a.receive)) _ l₂) in
-      and_second (eqb (length a.received) 576000) _ l₃
+  lengths : Lengths·Long (length a.reply) (length a.config) (length a.receive) (length a.cables) (length a.received) (length ring)
+  lengths = lengths_long _ _ _ _ _ _ long.lengths
 
   most : 84 ≤ length ring
   unfolding sending_length
-  most = leb-true 84 (length ring) (and_first _ _ right)
+  most = leb-true 84 (length ring) (and_first _ _ lengths.sending_right)
 
   few_spans_lem : few_spans h ≡ true
   few_spans_lem = ap (λ (c : Settings). leb c.spans 16) o.settings
@@ -157,7 +153,7 @@ module _ (a : Areas) (f : List ℕ) (long : Long a) (static_length : length f �
   pub give_number_lem : give_number h x ring ≡ 0
   unfolding give_number
   give_number_lem =
-      simp (right, twelve, few_spans_lem, o.bounds.record_bounds, o.bounds.sending, lt-ltb h.audio.sending.len (length ring / 12) (omega (arith, none_out, most)))
+      simp (lengths.sending_right, twelve, few_spans_lem, o.bounds.record_bounds, o.bounds.sending, lt-ltb h.audio.sending.len (length ring / 12) (omega (arith, none_out, most)))
 
   given_is : (given h x ring).next ≡ frame_given h
   unfolding given
@@ -405,14 +401,10 @@ module _ (a : Areas) (f : List ℕ) (long : Long a) (static_length : length f �
       sym (ring_length 48000 ring₃ (framed 0 h₂ (lend areas₂ m₃)).state.audio.received.start (framed 0 h₂ (lend areas₂ m₃)).state.audio.received.len) ∙ ap length frames₃
 
   pub take_number_lem : take_number h₃ ring₃ ≡ 0
-  unfolding take_number lengths_ok
+  unfolding take_number
   take_number_lem =
-      let l₁ = and_second (leb 65535 (length a.reply)) _ long.lengths in
-      let l₂ = and_second (leb 65535 (length a.config)) _ l₁ in
-      let l₃ = and_second (leb 196608 (length a.cables)) _ (and_second (leb 196608 (length a.receive)) _ l₂) in
-      let whole : eqb (length ring₃) 576000 ≡ true =
-      ap (λ (n : ℕ). eqb n 576000) (ap (λ (v : World). length v.lent.received) framed₃ ∙ ap (λ (z : Shape). z.received) (shape_kept 0 w₃) ∙ same_length)
-      ∙ and_first (eqb (length a.received) 576000) _ l₃ in
+      let kept : length ring₃ ≡ length a.received = ap (λ (v : World). length v.lent.received) framed₃ ∙ ap (λ (z : Shape). z.received) (shape_kept 0 w₃) ∙ same_length in
+      let whole = eq-eqb (length ring₃) 576000 (kept ∙ lengths.received_whole) in
       let spans : few_spans h₃ ≡ true = ap (λ (c : Settings). leb c.spans 16) on₃.settings in
       simp (whole, spans, on₃.bounds.record_bounds, on₃.bounds.received)
 

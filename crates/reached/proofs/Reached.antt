@@ -4,7 +4,7 @@ use mathlib.Core.Path.{◌≡◌, refl, ap, ap₂, sym, subst, ◌∙◌}
 use mathlib.Core.Bool.{Bool, true, false, ◌&&◌}
 use mathlib.Core.List.{List, [], ◌∷◌, ◌++◌, append_assoc}
 use native.Mathlib.Omega.{arith}
-use lib.Dec.{eqb, leb, leb-zero}
+use lib.Dec.{eqb, leb-zero}
 use lib.ListN.{length, take, drop, replicate, length-replicate}
 use borrow.Author.Tests.{leb-true}
 use Rattle.bits.specs.Word.{any}
@@ -17,12 +17,13 @@ use Rattle.record.specs.Setups.{little}
 use Rattle.model.specs.Phases.{within, any_span, first_setups}
 use Rattle.model.specs.Control.{fixed_setups}
 use Rattle.model.specs.Audio.{blocks_of}
-use Rattle.bits.proofs.Tests.{and_first, and_second}
+use Rattle.bits.proofs.Tests.{and_first}
 use Rattle.bounds.specs.Bounds.{MOST, areas_ok}
 use Rattle.usbhost.specs.declared.Host.{Host}
 use Rattle.usbhost.specs.Host.{new_host, settled, created}
 use Rattle.usbhost.specs.Calls.{sending_length}
 use Rattle.usbhost.specs.Frame.{world_of, lengths_ok}
+use Rattle.usbhost.proofs.Frame.{lengths_long}
 use Rattle.usbhost.proofs.Kept.{new_bounded, new_received, new_sending}
 use Rattle.history.specs.Calls.{Call, microframe, midi_send, serial_send, frame_give, frame_take, device_read, device_write, step, after}
 use Rattle.history.specs.Sums.{Sums, Tally, none, summed, sums, tallied, tally}
@@ -81,13 +82,8 @@ module _ (a : Areas) (f : List ℕ) (l : Lendable a f) where
   long = record { lengths = l.lengths; bytes = l.reply_bytes }
 
   twelve : 12 ≤ length a.sending
-  unfolding lengths_ok sending_length
-  twelve =
-      let l₁ = and_second (leb 65535 (length a.reply)) _ l.lengths in
-      let l₂ = and_second (leb 65535 (length a.config)) _ l₁ in
-      let l₃ = and_second (leb 196608 (length a.cables)) _ (and_second (leb 196608 (length a.receive)) _ l₂) in
-      let l₄ = and_second (eqb (length a.received) 576000) _ l₃ in
-      omega (arith, leb-true 84 (length a.sending) (and_first _ _ l₄))
+  unfolding sending_length
+  twelve = omega (arith, leb-true 84 (length a.sending) (and_first _ _ (lengths_long _ _ _ _ _ _ l.lengths).sending_right))
 
   on_new : (c : Settings) → On c a start (new_host c)
   unfolding new_host areas_ok

@@ -60,21 +60,20 @@ accepted_tests h l e =
 
 -- the lengths that number 2 tests
 pub lengths_long : (reply config receive cables received sending : ℕ) → lengths_ok reply config receive cables received sending ≡ true → Long reply config receive cables received sending
-unfolding lengths_ok sending_length
+unfolding lengths_ok
 lengths_long reply config receive cables received sending e =
     let a = and_true (leb 65535 reply) _ e in
     let b = and_true (leb 65535 config) _ a.1 in
     let d = and_true (leb 196608 receive) _ b.1 in
     let k = and_true (leb 196608 cables) _ d.1 in
     let f = and_true (eqb received 576000) _ k.1 in
-    let g = and_true (leb 84 sending) _ f.1 in
     record {
       reply_long = leb-true 65535 reply a.0;
       config_long = leb-true 65535 config b.0;
       receive_long = leb-true 196608 receive d.0;
       cables_long = leb-true 196608 cables k.0;
       received_whole = eqb-true received 576000 f.0;
-      sending_most = leb-true sending 576000 (and_true (leb sending 576000) _ g.1).0;
+      sending_right = f.1;
     }
 
 module _ (h : Host) (l : Lent) (e : frame_number h l ≡ 0) where
@@ -82,12 +81,14 @@ module _ (h : Host) (l : Lent) (e : frame_number h l ≡ 0) where
   accepted_long = lengths_long _ _ _ _ _ _ (accepted_tests h l e).lengths
 
   pub accepted_fit : Fit (state_of h) (length l.sending)
-  unfolding bounds_ok
+  unfolding bounds_ok sending_length
   accepted_fit =
+      let n = length l.sending in
+      let most = and_true (leb n 576000) _ (and_true (leb 84 n) _ accepted_long.sending_right).1 in
       let a = and_true (bounded h) _ (accepted_tests h l e).bounds in
       let b = and_true (areas_ok (state_of h) (length l.reply) (length l.config)) _ a.1 in
       let d = and_true (received_ok (state_of h)) (sending_ok (state_of h) (length l.sending)) b.1 in
-      fit_of (state_of h) h.packers h.setups (length l.sending) a.0 d.0 d.1 accepted_long.sending_most refl
+      fit_of (state_of h) h.packers h.setups (length l.sending) a.0 d.0 d.1 (leb-true n 576000 most.0) refl
 
   pub accepted_spans : h.settings.spans ≤ 16
   accepted_spans = leb-true h.settings.spans 16 (accepted_tests h l e).spans

@@ -1,6 +1,6 @@
 -- The call `microframe`: its numbers of refusal, and what an accepted one leaves of the record, the areas and memory
 -- (document 01, "Host record" and "Numbers of refusal").
-use Rattle.std.specs.Prelude.{◌≡◌, ℕ, ◌≤◌, Bool, ◌&&◌, eqb, leb, ltb, length}
+use Rattle.std.specs.Prelude.{◌≡◌, ℕ, ◌≤◌, Bool, true, ◌&&◌, eqb, leb, ltb, length}
 use Rattle.bits.specs.Pick.{pick}
 use Rattle.bus.specs.Sized.{is_sized}
 use Rattle.record.specs.World.{Lent, World, world}
@@ -27,14 +27,14 @@ lengths_ok reply config receive cables received sending =
     leb REPLY reply
     && (leb REPLY config && (leb RECEIVE receive && (leb RECEIVE cables && (eqb received RING && sending_length sending))))
 
--- what it gives of them
+-- each test of it
 pub record Long (reply config receive cables received sending : ℕ) : Type 0 where
   pub reply_long : REPLY ≤ reply
   pub config_long : REPLY ≤ config
   pub receive_long : RECEIVE ≤ receive
   pub cables_long : RECEIVE ≤ cables
   pub received_whole : received ≡ RING
-  pub sending_most : sending ≤ RING
+  pub sending_right : sending_length sending ≡ true
 
 abbrev pub area_lengths : Lent → Bool
 area_lengths l =
