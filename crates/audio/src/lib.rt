@@ -2,7 +2,7 @@
 #![tactic(auto)]
 
 ghost use Rattle.std.specs.Prelude.{◌≡◌, ◌≤◌};
-ghost use Rattle.bus.specs.Windows.{viewed, contents, SameWindows};
+ghost use Rattle.bus.specs.Windows.{viewed, memory_of, SameWindows};
 ghost use Rattle.dtd.specs.Dtd as D;
 ghost use Rattle.dtd.specs.declared.Found.TheVariants.{Active};
 ghost use Rattle.model.specs.Audio as Steps;
@@ -106,8 +106,8 @@ fn take_blocks(
     descriptor: Descriptor,
 ) -> State
     requires in_ring { InRing s.audio.received }
-    requires page_value { D.found Steps.audio_in (contents windows.old) ≡ Active descriptor }
-    ensures left { P.Hears Steps.inputs s (contents windows.old) received.old result (contents windows.new) received.new }
+    requires page_value { D.found Steps.audio_in (memory_of windows.old) ≡ Active descriptor }
+    ensures left { P.Hears Steps.inputs s (memory_of windows.old) received.old result (memory_of windows.new) received.new }
     ensures same { SameWindows windows.old windows.new }
 {
     let total = usbdev::total(descriptor.token) as usize;
@@ -122,7 +122,7 @@ fn take_blocks(
 // Input that the budget allows.
 fn take_input(s: State, windows: &mut Windows<'_>, received: &mut [u32; RING]) -> State
     requires { InRing s.audio.received }
-    ensures left { P.Hears Steps.inputs s (contents windows.old) received.old result (contents windows.new) received.new }
+    ensures left { P.Hears Steps.inputs s (memory_of windows.old) received.old result (memory_of windows.new) received.new }
     ensures same { SameWindows windows.old windows.new }
 {
     match dtd::begin(windows, 3, true, s.port.line) {
@@ -134,7 +134,7 @@ fn take_input(s: State, windows: &mut Windows<'_>, received: &mut [u32; RING]) -
 // The input step.
 pub fn stream_in(s: State, windows: &mut Windows<'_>, received: &mut [u32; RING]) -> State
     requires { InRing s.audio.received }
-    ensures left { P.Hears Steps.stream_in s (contents windows.old) received.old result (contents windows.new) received.new }
+    ensures left { P.Hears Steps.stream_in s (memory_of windows.old) received.old result (memory_of windows.new) received.new }
     ensures same { SameWindows windows.old windows.new }
 {
     let paced = pace(windows.view(), s.audio.budget);
@@ -174,8 +174,8 @@ fn after_block(s: State, capacity: usize) -> State
 // One block into an active descriptor.
 fn send_block(s: State, windows: &mut Windows<'_>, sending: &[u32], descriptor: Descriptor) -> State
     requires can_send { P.CanSend s sending.now × (7 ≤ s.audio.credit) }
-    requires page_value { D.found Steps.audio_out (contents windows.old) ≡ Active descriptor }
-    ensures left { P.Outputs Steps.stream_out s (contents windows.old) sending.now result (contents windows.new) }
+    requires page_value { D.found Steps.audio_out (memory_of windows.old) ≡ Active descriptor }
+    ensures left { P.Outputs Steps.stream_out s (memory_of windows.old) sending.now result (memory_of windows.new) }
     ensures same { SameWindows windows.old windows.new }
 {
     let mut block = [0u8; 2048];
@@ -197,7 +197,7 @@ fn send_block(s: State, windows: &mut Windows<'_>, sending: &[u32], descriptor: 
 
 // A list that has ended is un-primed.
 fn unprime(s: State, windows: &mut Windows<'_>) -> State
-    ensures left { P.Unprimes s (contents windows.old) result (contents windows.new) }
+    ensures left { P.Unprimes s (memory_of windows.old) result (memory_of windows.new) }
     ensures same { SameWindows windows.old windows.new }
 {
     let line = dtd::settle(windows, AUDIO_OUT, 1, false, s.port.line);
@@ -209,7 +209,7 @@ fn unprime(s: State, windows: &mut Windows<'_>) -> State
 // The output step: one block, where a descriptor is primed and seven frames of credit are left; a list that has ended is un-primed.
 pub fn stream_out(s: State, windows: &mut Windows<'_>, sending: &[u32]) -> State
     requires { P.CanSend s sending.now }
-    ensures left { P.Outputs Steps.stream_out s (contents windows.old) sending.now result (contents windows.new) }
+    ensures left { P.Outputs Steps.stream_out s (memory_of windows.old) sending.now result (memory_of windows.new) }
     ensures same { SameWindows windows.old windows.new }
 {
     if s.audio.credit < Audio::FRAMES_PER_BLOCK as u64 {
@@ -231,7 +231,7 @@ pub fn stream(
 ) -> State
     requires in_ring { InRing s.audio.received }
     requires can_send { P.CanSend s sending.now }
-    ensures left { P.Streams Steps.streams s (contents windows.old) received.old sending.now result (contents windows.new) received.new }
+    ensures left { P.Streams Steps.streams s (memory_of windows.old) received.old sending.now result (memory_of windows.new) received.new }
     ensures same { SameWindows windows.old windows.new }
 {
     let next = stream_in(s, windows, received);

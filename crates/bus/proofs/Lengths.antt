@@ -1,11 +1,11 @@
 -- The lengths of windows that are a value, and what the test of them gives.
 use Rattle.bus.specs.Sized.{Sized}
-use Rattle.bus.specs.Windows.{viewed, contents}
+use Rattle.bus.specs.Windows.{viewed, memory_of}
 use Rattle.bus.specs.declared.windows.Windows.{Windows}
 use Rattle.bus.specs.declared.windows.View.{View}
 use Rattle.bus.proofs.Sizes.{is_power_lem}
 
-pub sized_of : (w : Windows) → Sized (contents w)
+pub sized_of : (w : Windows) → Sized (memory_of w)
 sized_of w =
     record { dynamic_length = is_power_lem _ w.power; sram_length = w.sram_length; page_length = w.page_length }
 

@@ -12,8 +12,8 @@ abbrev pub viewed : View → Memory
 viewed v = memory v.dynamic.now v.sram.now v.page.now
 
 -- the bytes that the windows hold
-abbrev pub contents : Windows → Memory
-contents w = memory w.dynamic.now w.sram.now w.page.now
+abbrev pub memory_of : Windows → Memory
+memory_of w = memory w.dynamic.now w.sram.now w.page.now
 
 -- the same three references: what the windows hold at last, their lender holds
 pub record SameWindows (w w' : Windows) : Type 0 where

@@ -96,11 +96,11 @@ pub struct Windows<'a> {
 }
 
 impl<'a> Windows<'a> {
-    ghost use Rattle.bus.specs.Windows.{viewed, contents, SameWindows};
+    ghost use Rattle.bus.specs.Windows.{viewed, memory_of, SameWindows};
 
     // The same windows, to read.
     pub fn view(&self) -> View<'_>
-        ensures { viewed result ≡ contents self.now }
+        ensures { viewed result ≡ memory_of self.now }
     {
         View {
             dynamic: &*self.dynamic,
@@ -118,7 +118,7 @@ impl<'a> Windows<'a> {
 
     // The word at address a.
     pub fn peek32(&self, a: u32) -> u32
-        ensures { result ≡ M.peek32 (contents self.now) a }
+        ensures { result ≡ M.peek32 (memory_of self.now) a }
     {
         self.view().peek32(a)
     }
@@ -126,7 +126,7 @@ impl<'a> Windows<'a> {
     // Stores v at address a, and answers how many bytes were dropped.
     #[tactic(auto, using(crate::proofs::Arms::byte_written, crate::proofs::Places::lost_at, crate::proofs::Sizes::is_power_lem), unfolding(crate::specs::Memory::write, crate::specs::Memory::lost))]
     pub fn poke8(&mut self, a: u32, v: u8) -> u32
-        ensures left { contents self.new ≡ M.poke8 (contents self.old) a v }
+        ensures left { memory_of self.new ≡ M.poke8 (memory_of self.old) a v }
         ensures same { SameWindows self.old self.new }
         ensures value { result ≡ M.dropped8 a }
     {
@@ -150,7 +150,7 @@ impl<'a> Windows<'a> {
     // Stores v at address a, byte by byte, and answers how many bytes were dropped.
     #[tactic(auto, using(crate::proofs::Words::dropped8_le), unfolding(crate::specs::Memory::poke32, crate::specs::Memory::dropped32, crate::specs::Memory::after))]
     fn poke32_bytes(&mut self, a: u32, v: u32) -> u32
-        ensures left { contents self.new ≡ M.poke32 (contents self.old) a v }
+        ensures left { memory_of self.new ≡ M.poke32 (memory_of self.old) a v }
         ensures same { SameWindows self.old self.new }
         ensures value { result ≡ M.dropped32 a }
     {
@@ -164,7 +164,7 @@ impl<'a> Windows<'a> {
     // Stores v at address a, and answers how many bytes were dropped.
     #[tactic(auto, using(crate::proofs::Arms::word_written, crate::proofs::Arms::word_dropped, crate::proofs::Sizes::is_power_lem), unfolding(crate::specs::Memory::lost))]
     pub fn poke32(&mut self, a: u32, v: u32) -> u32
-        ensures left { contents self.new ≡ M.poke32 (contents self.old) a v }
+        ensures left { memory_of self.new ≡ M.poke32 (memory_of self.old) a v }
         ensures same { SameWindows self.old self.new }
         ensures value { result ≡ M.dropped32 a }
     {

@@ -2,7 +2,7 @@
 #![tactic(auto)]
 
 ghost use Rattle.std.specs.Prelude.{◌≡◌, ℕ, ◌+◌, ◌*◌, ◌<◌, ◌≤◌, Bool, false, List, length};
-ghost use Rattle.bus.specs.Windows.{contents, SameWindows};
+ghost use Rattle.bus.specs.Windows.{memory_of, SameWindows};
 ghost use Rattle.bits.specs.Word as W;
 ghost use Rattle.bus.specs.Stores.{bus as Stores·bus, Does};
 ghost use Rattle.usbdev.specs.Registers.{registers, done as Registers·done, raising, ◌then◌};
@@ -62,7 +62,7 @@ fn configured(s: State) -> State
 // The setup packet goes to the queue head as its two words; the bytes dropped.
 #[tactic(auto, using(dtd::proofs::Laws::dropped32_le, bus::proofs::Lengths::sized_of), unfolding(bus::specs::Steps::and_then, bus::specs::Stores::putting, bus::specs::Stores::store, bus::specs::Stores::dropped_by, bus::specs::Stores::dropped, bus::specs::Memory::after))]
 fn put_words(windows: &mut Windows<'_>, setup: Setup) -> u32
-    ensures left { ((l : Bool) → Does (P.puts_setup (D.queue_head (D.endpoint 0 false) windows.old.page.now) setup.first setup.second) (Stores·bus (contents windows.old) l) (Stores·bus (contents windows.new) l) result) × (result ≤ 8) }
+    ensures left { ((l : Bool) → Does (P.puts_setup (D.queue_head (D.endpoint 0 false) windows.old.page.now) setup.first setup.second) (Stores·bus (memory_of windows.old) l) (Stores·bus (memory_of windows.new) l) result) × (result ≤ 8) }
     ensures same { SameWindows windows.old windows.new }
 {
     let qh = dtd::qh(windows.registers(), 0, false);
@@ -104,7 +104,7 @@ fn post(
     setup: Setup,
 ) -> State
     requires { (1 ≤ s.lengths.setups) × (s.lengths.setups ≤ Sizes.SETUPS) }
-    ensures left { P.Posts (C.posted (D.queue_head (D.endpoint 0 false) windows.old.page.now) setup.first setup.second) s (contents windows.old) setups.old result (contents windows.new) setups.new }
+    ensures left { P.Posts (C.posted (D.queue_head (D.endpoint 0 false) windows.old.page.now) setup.first setup.second) s (memory_of windows.old) setups.old result (memory_of windows.new) setups.new }
     ensures same { SameWindows windows.old windows.new }
 {
     let count = s.lengths.setups;
@@ -152,7 +152,7 @@ fn to_host(s: State) -> bool
 // The data stage from the device: its bytes go behind the reply, up to the asked length.
 fn data_in(s: State, windows: &mut Windows<'_>, reply: &mut [u8]) -> State
     requires { Ready s × (Sizes.REPLY ≤ length reply.old) }
-    ensures left { P.Stages C.data_in s (contents windows.old) reply.old result (contents windows.new) reply.new }
+    ensures left { P.Stages C.data_in s (memory_of windows.old) reply.old result (memory_of windows.new) reply.new }
     ensures same { SameWindows windows.old windows.new }
 {
     let limit = asked(s);
@@ -169,7 +169,7 @@ fn data_in(s: State, windows: &mut Windows<'_>, reply: &mut [u8]) -> State
 // The data stage towards the device, of which no request here has a byte.
 fn data_out(s: State, windows: &mut Windows<'_>) -> State
     requires { Ready s }
-    ensures left { (p : List ℕ) → P.Stages C.data_out s (contents windows.old) p result (contents windows.new) p }
+    ensures left { (p : List ℕ) → P.Stages C.data_out s (memory_of windows.old) p result (memory_of windows.new) p }
     ensures same { SameWindows windows.old windows.new }
 {
     let ran = runs::run0_out(windows, b"", s.port.line);
@@ -184,7 +184,7 @@ fn data_out(s: State, windows: &mut Windows<'_>) -> State
 #[tactic(auto, using(bus::proofs::Lengths::sized_of), unfolding(bus::specs::Steps::choose, record::specs::Change::nothing, record::specs::Change::one, record::specs::Change::apply, model::specs::Control::data_stage, model::specs::Control::to_status))]
 fn data_stage(s: State, windows: &mut Windows<'_>, reply: &mut [u8]) -> State
     requires { Ready s × (Sizes.REPLY ≤ length reply.old) }
-    ensures left { P.Stages P.data_first s (contents windows.old) reply.old result (contents windows.new) reply.new }
+    ensures left { P.Stages P.data_first s (memory_of windows.old) reply.old result (memory_of windows.new) reply.new }
     ensures same { SameWindows windows.old windows.new }
 {
     if let Stage::Status = s.control.stage {
@@ -202,7 +202,7 @@ fn data_stage(s: State, windows: &mut Windows<'_>, reply: &mut [u8]) -> State
 // The run of the status stage: the other direction, and no bytes.
 fn status_stage(s: State, windows: &mut Windows<'_>, reply: &mut [u8]) -> Ran
     requires { Ready s }
-    ensures left { P.Acknowledges s (contents windows.old) result (contents windows.new) × (reply.new ≡ reply.old) }
+    ensures left { P.Acknowledges s (memory_of windows.old) result (memory_of windows.new) × (reply.new ≡ reply.old) }
     ensures same { SameWindows windows.old windows.new }
 {
     if to_host(s) & (asked(s) != 0) {
@@ -222,7 +222,7 @@ fn acknowledge(
     config: &mut [u8],
 ) -> State
     requires { Ready s × ((Sizes.REPLY ≤ length reply.old) × (Sizes.REPLY ≤ length config.old)) }
-    ensures left { P.Controls (C.status_stage device_stack) s (contents windows.old) setups.old device.old reply.old config.old result (contents windows.new) setups.new device.new reply.new config.new }
+    ensures left { P.Controls (C.status_stage device_stack) s (memory_of windows.old) setups.old device.old reply.old config.old result (memory_of windows.new) setups.new device.new reply.new config.new }
     ensures same { SameWindows windows.old windows.new }
 {
     let ran = status_stage(s, windows, reply);
@@ -244,7 +244,7 @@ fn request(
     config: &mut [u8],
 ) -> State
     requires { Ready s × ((Sizes.REPLY ≤ length reply.old) × (Sizes.REPLY ≤ length config.old)) }
-    ensures left { P.Controls (C.requests device_stack) s (contents windows.old) setups.old device.old reply.old config.old result (contents windows.new) setups.new device.new reply.new config.new }
+    ensures left { P.Controls (C.requests device_stack) s (memory_of windows.old) setups.old device.old reply.old config.old result (memory_of windows.new) setups.new device.new reply.new config.new }
     ensures same { SameWindows windows.old windows.new }
 {
     let epcr0 = word_at(windows.registers(), EPCR0);
@@ -273,7 +273,7 @@ pub fn control(
     config: &mut [u8],
 ) -> State
     requires { P.Bounded s × ((Sizes.REPLY ≤ length reply.old) × (Sizes.REPLY ≤ length config.old)) }
-    ensures left { P.Controls (C.controls device_stack) s (contents windows.old) setups.old device.old reply.old config.old result (contents windows.new) setups.new device.new reply.new config.new }
+    ensures left { P.Controls (C.controls device_stack) s (memory_of windows.old) setups.old device.old reply.old config.old result (memory_of windows.new) setups.new device.new reply.new config.new }
     ensures same { SameWindows windows.old windows.new }
 {
     if s.control.on {

@@ -5,7 +5,7 @@ use Rattle.bus.specs.Memory.{Memory, memory, after, dropped32}
 use Rattle.bus.specs.Sized.{Sized}
 use Rattle.bus.specs.Steps.{and_then}
 use Rattle.bus.specs.Stores.{bus, Does}
-use Rattle.bus.specs.Windows.{contents}
+use Rattle.bus.specs.Windows.{memory_of}
 use Rattle.bus.specs.declared.windows.Windows.{Windows}
 use Rattle.bus.proofs.Lengths.{sized_of}
 use Rattle.bus.proofs.Storing.{does_then, does_reading}
@@ -39,13 +39,13 @@ on_page : (f : PageStep) {m : Memory} {p : List ℕ} {l l' : Bool} → Sized m �
 on_page f {m} {p} {l} {l'} z h e = does_page f m.dynamic m.sram m.page p l l' h e z
 
 pub complete_steps : (tok bit : ℕ) (w : Windows) {p : List ℕ} → ((l : Bool) → registers p l ≡ done (completing tok bit) (registers w.page.now l)) → (l : Bool)
-    → Does (lifted (completing tok bit)) (bus (contents w) l) (bus (memory w.dynamic.now w.sram.now p) l) 0
+    → Does (lifted (completing tok bit)) (bus (memory_of w) l) (bus (memory w.dynamic.now w.sram.now p) l) 0
 complete_steps tok bit w e l = on_page (completing tok bit) (sized_of w) (inside_completing tok bit (registers w.page.now l)) (e l)
 
 -- what follows the last descriptor, in the steps that the code takes
-pub settle_steps : (bit n : ℕ) (completed : Bool) (w : Windows) {ends flag line : Bool} {m : Memory} {p₁ p₂ : List ℕ} → m ≡ contents w → ends ≡ list_ends n m
+pub settle_steps : (bit n : ℕ) (completed : Bool) (w : Windows) {ends flag line : Bool} {m : Memory} {p₁ p₂ : List ℕ} → m ≡ memory_of w → ends ≡ list_ends n m
     → ((l : Bool) → registers p₁ l ≡ done (unpriming ends bit) (registers w.page.now l)) → registers p₂ line ≡ done (reporting completed) (registers p₁ flag)
-    → Does (settling bit n completed) (bus (contents w) flag) (bus (memory w.dynamic.now w.sram.now p₂) line) 0
+    → Does (settling bit n completed) (bus (memory_of w) flag) (bus (memory w.dynamic.now w.sram.now p₂) line) 0
 unfolding settling
 settle_steps bit n completed w {ends} {flag} {line} {m} {p₁} same e u r =
     let first = on_page (unpriming ends bit) (sized_of w) (inside_unpriming ends bit (registers w.page.now flag)) (u flag) in

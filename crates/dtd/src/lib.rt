@@ -2,7 +2,7 @@
 #![tactic(auto)]
 
 ghost use Rattle.std.specs.Prelude.{◌≡◌, ◌<◌, ◌≤◌, Bool, true, false, []};
-ghost use Rattle.bus.specs.Windows.{viewed, contents, SameWindows};
+ghost use Rattle.bus.specs.Windows.{viewed, memory_of, SameWindows};
 ghost use Rattle.bus.specs.Stores.{bus as Stores·bus, Does};
 ghost use Rattle.usbdev.specs.Registers.{registers, done};
 ghost use Rattle.dtd.specs.Dtd as D;
@@ -105,7 +105,7 @@ pub fn find(view: View<'_>, ep: u32, dir_in: bool) -> Found
 // Token, frame number and current pointer of a descriptor, of which `moved` bytes have moved; the bytes dropped.
 #[tactic(auto, using(crate::proofs::Laws::dropped32_le, bus::proofs::Lengths::sized_of), unfolding(crate::specs::Dtd::closing, crate::specs::Dtd::framed, bus::specs::Steps::and_then, bus::specs::Stores::putting, bus::specs::Stores::store, bus::specs::Stores::dropped_by, bus::specs::Stores::dropped, bus::specs::Memory::after))]
 fn close(windows: &mut Windows<'_>, descriptor: Descriptor, moved: u32) -> u32
-    ensures left { ((l : Bool) → Does (D.closing descriptor.queue_head descriptor.pointer descriptor.token moved) (Stores·bus (contents windows.old) l) (Stores·bus (contents windows.new) l) result) × (result ≤ 12) }
+    ensures left { ((l : Bool) → Does (D.closing descriptor.queue_head descriptor.pointer descriptor.token moved) (Stores·bus (memory_of windows.old) l) (Stores·bus (memory_of windows.new) l) result) × (result ≤ 12) }
     ensures same { SameWindows windows.old windows.new }
 {
     let td = bits::clear(descriptor.pointer, 0x1F);
@@ -140,7 +140,7 @@ pub struct Retired {
 // Next pointer, token copy and completion bit of a descriptor.
 #[tactic(auto, using(crate::proofs::Laws::dropped32_le, bus::proofs::Lengths::sized_of, crate::proofs::Laws::complete_steps), unfolding(crate::specs::Dtd::advancing, bus::specs::Steps::and_then, bus::specs::Stores::putting, bus::specs::Stores::store, bus::specs::Stores::dropped_by, bus::specs::Stores::dropped, bus::specs::Memory::after))]
 fn advance(windows: &mut Windows<'_>, descriptor: Descriptor) -> Retired
-    ensures left { P.Advances descriptor.queue_head descriptor.pointer descriptor.token descriptor.bit (contents windows.old) (contents windows.new) result }
+    ensures left { P.Advances descriptor.queue_head descriptor.pointer descriptor.token descriptor.bit (memory_of windows.old) (memory_of windows.new) result }
     ensures same { SameWindows windows.old windows.new }
 {
     let td = bits::clear(descriptor.pointer, 0x1F);
@@ -157,7 +157,7 @@ fn advance(windows: &mut Windows<'_>, descriptor: Descriptor) -> Retired
 
 // Retires a descriptor, of which `moved` bytes have moved.
 pub fn retire(windows: &mut Windows<'_>, descriptor: Descriptor, moved: u32) -> Retired
-    ensures left { P.Retires descriptor.queue_head descriptor.pointer descriptor.token moved descriptor.bit (contents windows.old) (contents windows.new) result }
+    ensures left { P.Retires descriptor.queue_head descriptor.pointer descriptor.token moved descriptor.bit (memory_of windows.old) (memory_of windows.new) result }
     ensures same { SameWindows windows.old windows.new }
 {
     let n0 = close(windows, descriptor, moved);
@@ -203,7 +203,7 @@ fn report(page: &mut [u8; PAGE], completed: bool, flag: bool) -> bool
 
 // What follows the last descriptor of a run that ended at the pointer n; the line's flag goes in and comes out.
 pub fn settle(windows: &mut Windows<'_>, bit: u32, n: u32, completed: bool, flag: bool) -> bool
-    ensures left { Does (D.settling bit n completed) (Stores·bus (contents windows.old) flag) (Stores·bus (contents windows.new) result) 0 }
+    ensures left { Does (D.settling bit n completed) (Stores·bus (memory_of windows.old) flag) (Stores·bus (memory_of windows.new) result) 0 }
     ensures same { SameWindows windows.old windows.new }
 {
     let ends = list_ends(windows.view(), n);
@@ -221,7 +221,7 @@ pub struct Finished {
 
 // Retires the one descriptor of a run, of which `moved` bytes have moved, and settles the endpoint.
 pub fn finish(windows: &mut Windows<'_>, descriptor: Descriptor, moved: u32, flag: bool) -> Finished
-    ensures left { P.Finishes descriptor.queue_head descriptor.pointer descriptor.token moved descriptor.bit (Stores·bus (contents windows.old) flag) (Stores·bus (contents windows.new) result.line) result }
+    ensures left { P.Finishes descriptor.queue_head descriptor.pointer descriptor.token moved descriptor.bit (Stores·bus (memory_of windows.old) flag) (Stores·bus (memory_of windows.new) result.line) result }
     ensures same { SameWindows windows.old windows.new }
 {
     let retired = retire(windows, descriptor, moved);
@@ -276,7 +276,7 @@ impl Finished {
 // An active output descriptor takes what it can of `bytes`, and is retired.
 #[tactic(auto, using(usbdev::proofs::Tokens::total_lt))]
 pub fn send_one(windows: &mut Windows<'_>, descriptor: Descriptor, bytes: &[u8], flag: bool) -> Ran
-    ensures left { P.SendsOne descriptor.queue_head descriptor.pointer descriptor.token descriptor.bit bytes.now (Stores·bus (contents windows.old) flag) (Stores·bus (contents windows.new) result.line) result }
+    ensures left { P.SendsOne descriptor.queue_head descriptor.pointer descriptor.token descriptor.bit bytes.now (Stores·bus (memory_of windows.old) flag) (Stores·bus (memory_of windows.new) result.line) result }
     ensures same { SameWindows windows.old windows.new }
 {
     let count = (usbdev::total(descriptor.token) as usize).min(bytes.len());
@@ -289,7 +289,7 @@ pub fn send_one(windows: &mut Windows<'_>, descriptor: Descriptor, bytes: &[u8],
 
 // An active input descriptor, whose bytes the caller has read or need not read, is retired.
 pub fn take_one(windows: &mut Windows<'_>, descriptor: Descriptor, flag: bool) -> Ran
-    ensures left { P.TakesOne descriptor.queue_head descriptor.pointer descriptor.token descriptor.bit (Stores·bus (contents windows.old) flag) (Stores·bus (contents windows.new) result.line) result }
+    ensures left { P.TakesOne descriptor.queue_head descriptor.pointer descriptor.token descriptor.bit (Stores·bus (memory_of windows.old) flag) (Stores·bus (memory_of windows.new) result.line) result }
     ensures same { SameWindows windows.old windows.new }
 {
     let moved = usbdev::total(descriptor.token);
@@ -304,7 +304,7 @@ pub fn begin(
     flag: bool,
 ) -> Result<Descriptor, Ran>
     requires { (0 < ep) × (ep < 16) }
-    ensures left { P.Begins (D.endpoint ep dir_in) flag (contents windows.old) (contents windows.new) result }
+    ensures left { P.Begins (D.endpoint ep dir_in) flag (memory_of windows.old) (memory_of windows.new) result }
     ensures same { SameWindows windows.old windows.new }
 {
     match find(windows.view(), ep, dir_in) {
@@ -317,7 +317,7 @@ pub fn begin(
 // A run on an endpoint other than 0, towards the device.
 pub fn run_out(windows: &mut Windows<'_>, ep: u32, bytes: &[u8], flag: bool) -> Ran
     requires { (0 < ep) × (ep < 16) }
-    ensures left { P.Runs (D.endpoint ep false) bytes.now (Stores·bus (contents windows.old) flag) (Stores·bus (contents windows.new) result.line) result }
+    ensures left { P.Runs (D.endpoint ep false) bytes.now (Stores·bus (memory_of windows.old) flag) (Stores·bus (memory_of windows.new) result.line) result }
     ensures same { SameWindows windows.old windows.new }
 {
     match begin(windows, ep, false, flag) {
@@ -329,7 +329,7 @@ pub fn run_out(windows: &mut Windows<'_>, ep: u32, bytes: &[u8], flag: bool) -> 
 // A run on an endpoint other than 0, from the device, whose bytes are only counted.
 pub fn run_count(windows: &mut Windows<'_>, ep: u32, flag: bool) -> Ran
     requires { (0 < ep) × (ep < 16) }
-    ensures left { P.Runs (D.endpoint ep true) [] (Stores·bus (contents windows.old) flag) (Stores·bus (contents windows.new) result.line) result }
+    ensures left { P.Runs (D.endpoint ep true) [] (Stores·bus (memory_of windows.old) flag) (Stores·bus (memory_of windows.new) result.line) result }
     ensures same { SameWindows windows.old windows.new }
 {
     match begin(windows, ep, true, flag) {

@@ -1,18 +1,18 @@
 -- What the areas of a microframe hold, and that a call keeps their references.
 use Rattle.std.specs.Prelude.{◌≡◌}
 use Rattle.bus.specs.declared.Windows.{Windows}
-use Rattle.bus.specs.Windows.{contents}
+use Rattle.bus.specs.Windows.{memory_of}
 use Rattle.record.specs.World.{Own, own, Lent, lent}
 use Rattle.frames.specs.declared.areas.Areas.{Areas}
 
 -- the arrays of the record
-abbrev pub own_of : Areas → Own
-own_of a = own a.setups.now a.midi.now a.serial.now a.device.now
+abbrev pub arrays_of : Areas → Own
+arrays_of a = own a.setups.now a.midi.now a.serial.now a.device.now
 
 -- what is lent, memory with it
 abbrev pub lent_of : Windows → Areas → Lent
 lent_of w a =
-    lent (contents w) a.reply.now a.config.now a.receive.now a.cables.now a.received.now a.sending.now
+    lent (memory_of w) a.reply.now a.config.now a.receive.now a.cables.now a.received.now a.sending.now
 
 -- the same references: what the areas hold at last, their lender holds
 pub record SameAreas (a a' : Areas) : Type 0 where

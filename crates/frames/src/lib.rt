@@ -3,7 +3,7 @@
 
 ghost use Rattle.std.specs.Prelude.{◌≡◌, ◌≤◌, length};
 ghost use Rattle.bus.specs.Windows.{SameWindows};
-ghost use Rattle.frames.specs.Areas.{own_of, lent_of, SameAreas};
+ghost use Rattle.frames.specs.Areas.{arrays_of, lent_of, SameAreas};
 ghost use Rattle.model.specs.Microframe as M;
 ghost use Rattle.frames.specs.Promises as P;
 
@@ -25,7 +25,7 @@ fn connected(
     running: bool,
 ) -> State
     requires { P.Going s (length areas.old.sending.now) }
-    ensures left { P.Goes (M.talks c time running) s (own_of areas.old) (lent_of windows.old areas.old) result (own_of areas.new) (lent_of windows.new areas.new) }
+    ensures left { P.Goes (M.talks c time running) s (arrays_of areas.old) (lent_of windows.old areas.old) result (arrays_of areas.new) (lent_of windows.new areas.new) }
     ensures same { SameWindows windows.old windows.new }
     ensures areas { SameAreas areas.old areas.new }
 {
@@ -67,7 +67,7 @@ fn by_phase(
     running: bool,
 ) -> State
     requires { P.Going s (length areas.old.sending.now) }
-    ensures left { P.Goes (M.by_phase c time running) s (own_of areas.old) (lent_of windows.old areas.old) result (own_of areas.new) (lent_of windows.new areas.new) }
+    ensures left { P.Goes (M.by_phase c time running) s (arrays_of areas.old) (lent_of windows.old areas.old) result (arrays_of areas.new) (lent_of windows.new areas.new) }
     ensures same { SameWindows windows.old windows.new }
     ensures areas { SameAreas areas.old areas.new }
 {
@@ -89,7 +89,7 @@ pub fn microframe(
     time: u64,
 ) -> State
     requires { P.Fit s (length areas.old.sending.now) × (c.spans ≤ 16) }
-    ensures left { P.Frame time c s (own_of areas.old) (lent_of windows.old areas.old) result (own_of areas.new) (lent_of windows.new areas.new) }
+    ensures left { P.Frame time c s (arrays_of areas.old) (lent_of windows.old areas.old) result (arrays_of areas.new) (lent_of windows.new areas.new) }
     ensures same { SameWindows windows.old windows.new }
     ensures areas { SameAreas areas.old areas.new }
 {

@@ -2,7 +2,7 @@
 #![tactic(auto)]
 
 ghost use Rattle.std.specs.Prelude.{true, ◌≡◌, ◌≤◌, length};
-ghost use Rattle.bus.specs.Windows.{contents, SameWindows};
+ghost use Rattle.bus.specs.Windows.{memory_of, SameWindows};
 ghost use Rattle.gptimers.specs.Timer.{in_range};
 ghost use Rattle.record.specs.Change.{when};
 ghost use Rattle.record.specs.Did.{Paged};
@@ -25,7 +25,7 @@ fn midi_in(
     time: u64,
 ) -> State
     requires { Room s.answer.received 196584 receive.old cables.old }
-    ensures left { Hears (M.midi_steps c time) s (contents windows.old) receive.old cables.old result (contents windows.new) receive.new cables.new }
+    ensures left { Hears (M.midi_steps c time) s (memory_of windows.old) receive.old cables.old result (memory_of windows.new) receive.new cables.new }
     ensures same { SameWindows windows.old windows.new }
 {
     if !c.midi_in {
@@ -45,7 +45,7 @@ fn stack_step(
     windows: &mut Windows<'_>,
 ) -> State
     requires { s.lengths.midi ≤ Sizes.QUEUE }
-    ensures left { P.Stacks (M.stack_steps device_stack) s (contents windows.old) midi.old result (contents windows.new) midi.new }
+    ensures left { P.Stacks (M.stack_steps device_stack) s (memory_of windows.old) midi.old result (memory_of windows.new) midi.new }
     ensures same { SameWindows windows.old windows.new }
 {
     if !device_stack {
@@ -68,7 +68,7 @@ fn overbridge(
     time: u64,
 ) -> State
     requires { ((Sizes.RECEIVE ≤ length receive.old) × (Sizes.RECEIVE ≤ length cables.old)) × P.Flows s (length sending.now) }
-    ensures left { P.Bridges (M.bridge_steps c time) s (contents windows.old) midi.old receive.old cables.old received.old sending.now result (contents windows.new) midi.new receive.new cables.new received.new }
+    ensures left { P.Bridges (M.bridge_steps c time) s (memory_of windows.old) midi.old receive.old cables.old received.old sending.now result (memory_of windows.new) midi.new receive.new cables.new received.new }
     ensures same { SameWindows windows.old windows.new }
 {
     let streamed = audio::stream(s, windows, received, sending);
@@ -90,7 +90,7 @@ pub fn streaming(
     time: u64,
 ) -> State
     requires { ((Sizes.RECEIVE ≤ length receive.old) × (Sizes.RECEIVE ≤ length cables.old)) × P.Flows s (length sending.now) }
-    ensures left { P.Transfers (M.transfers c time) s (contents windows.old) midi.old serial.old receive.old cables.old received.old sending.now result (contents windows.new) midi.new serial.new receive.new cables.new received.new }
+    ensures left { P.Transfers (M.transfers c time) s (memory_of windows.old) midi.old serial.old receive.old cables.old received.old sending.now result (memory_of windows.new) midi.new serial.new receive.new cables.new received.new }
     ensures same { SameWindows windows.old windows.new }
 {
     let Phase::Stream = s.phase else {

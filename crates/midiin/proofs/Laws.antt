@@ -6,7 +6,7 @@ use Rattle.bus.specs.Memory.{Memory, memory}
 use Rattle.bus.specs.Sized.{Sized}
 use Rattle.bus.specs.Stores as S
 use Rattle.bus.specs.Words.{word_at, word_put}
-use Rattle.bus.specs.Windows.{contents, SameWindows}
+use Rattle.bus.specs.Windows.{memory_of, SameWindows}
 use Rattle.bus.specs.declared.windows.Windows.{Windows}
 use Rattle.bus.proofs.Lengths.{sized_of}
 use Rattle.usbdev.specs.Offsets.{EPNAK}
@@ -162,13 +162,13 @@ module _ (s : State) (m : Memory) (out cs : List ℕ) (z : Sized m) where
 -- ---- the loop over reads: what is left to read from here leads to where the whole does
 
 pub record Reading (count : ℕ) (s₀ : State) (w₀ : Windows) (out₀ cs₀ : List ℕ) (s : State) (w : Windows) (out cs : List ℕ) (left : ℕ) : Type 0 where
-  pub goes : (v : World) {c : World} → Leads (reads left) (at_cabled v s (contents w) out cs) c → Leads (reads count) (at_cabled v s₀ (contents w₀) out₀ cs₀) c
+  pub goes : (v : World) {c : World} → Leads (reads left) (at_cabled v s (memory_of w) out cs) c → Leads (reads count) (at_cabled v s₀ (memory_of w₀) out₀ cs₀) c
   pub few : Fewer s₀.lengths s.lengths
   pub same : SameWindows w₀ w
   pub room : (s.answer.received + left * 24573 ≤ length out) × (s.answer.received + left * 24573 ≤ length cs)
 
 module _ {count : ℕ} {s₀ : State} {w₀ : Windows} {out₀ cs₀ : List ℕ} {s : State} {w : Windows} {out cs : List ℕ} {left : ℕ} (inv : Reading count s₀ w₀ out₀ cs₀ s w out cs left) where
-  pub reading_end : left ≡ 0 → Hears (reads count) s₀ (contents w₀) out₀ cs₀ s (contents w) out cs
+  pub reading_end : left ≡ 0 → Hears (reads count) s₀ (memory_of w₀) out₀ cs₀ s (memory_of w) out cs
   unfolding reads
   reading_end h =
       record {
@@ -179,7 +179,7 @@ module _ {count : ℕ} {s₀ : State} {w₀ : Windows} {out₀ cs₀ : List ℕ}
 
   -- one more read
   module _ (k : ℕ) (is : left ≡ suc k) where
-    pub reading_stop : {r : Read} {m' : Memory} {out' cs' : List ℕ} → ReadsOne s (contents w) out cs r m' out' cs' → r.stop ≡ true → Hears (reads count) s₀ (contents w₀) out₀ cs₀ r.state m' out' cs'
+    pub reading_stop : {r : Read} {m' : Memory} {out' cs' : List ℕ} → ReadsOne s (memory_of w) out cs r m' out' cs' → r.stop ≡ true → Hears (reads count) s₀ (memory_of w₀) out₀ cs₀ r.state m' out' cs'
     reading_stop read h =
         record {
           leads = λ v. inv.goes v (rw is (read.goes k v (rw h (unchanged _))));
@@ -187,7 +187,7 @@ module _ {count : ℕ} {s₀ : State} {w₀ : Windows} {out₀ cs₀ : List ℕ}
           few = fewer_then inv.few read.few;
         }
 
-    pub reading_more : {r : Read} {w' : Windows} {out' cs' : List ℕ} → ReadsOne s (contents w) out cs r (contents w') out' cs' → r.stop ≡ false
+    pub reading_more : {r : Read} {w' : Windows} {out' cs' : List ℕ} → ReadsOne s (memory_of w) out cs r (memory_of w') out' cs' → r.stop ≡ false
         → SameWindows w w' → length out' ≡ length out → length cs' ≡ length cs → Reading count s₀ w₀ out₀ cs₀ r.state w' out' cs' k
     reading_more read h kept long long-cables =
         record {

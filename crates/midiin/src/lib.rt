@@ -2,7 +2,7 @@
 #![tactic(auto)]
 
 ghost use Rattle.std.specs.Prelude.{◌≡◌, ℕ, ◌+◌, ◌*◌, ◌/◌, ◌<◌, ◌≤◌, true, false, [], ◌∷◌, length};
-ghost use Rattle.bus.specs.Windows.{viewed, contents, SameWindows};
+ghost use Rattle.bus.specs.Windows.{viewed, memory_of, SameWindows};
 ghost use Rattle.transfer.specs.Transfer as T;
 ghost use Rattle.dtd.specs.Dtd as D;
 ghost use Rattle.dtd.specs.declared.Found.TheVariants.{Active};
@@ -154,8 +154,8 @@ fn read_active(
     descriptor: Descriptor,
 ) -> Read
     requires received_in_bounds { P.Room s.answer.received 24573 receive.old cables.old }
-    requires page_value { D.found (D.endpoint 1 true) (contents windows.old) ≡ Active descriptor }
-    ensures left { P.ReadsOne s (contents windows.old) receive.old cables.old result (contents windows.new) receive.new cables.new }
+    requires page_value { D.found (D.endpoint 1 true) (memory_of windows.old) ≡ Active descriptor }
+    ensures left { P.ReadsOne s (memory_of windows.old) receive.old cables.old result (memory_of windows.new) receive.new cables.new }
     ensures same { SameWindows windows.old windows.new }
 {
     let total = usbdev::total(descriptor.token) as usize;
@@ -169,7 +169,7 @@ fn read_active(
 // One read.
 fn read_one(s: State, windows: &mut Windows<'_>, receive: &mut [u8], cables: &mut [u8]) -> Read
     requires { P.Room s.answer.received 24573 receive.old cables.old }
-    ensures left { P.ReadsOne s (contents windows.old) receive.old cables.old result (contents windows.new) receive.new cables.new }
+    ensures left { P.ReadsOne s (memory_of windows.old) receive.old cables.old result (memory_of windows.new) receive.new cables.new }
     ensures same { SameWindows windows.old windows.new }
 {
     match dtd::begin(windows, 1, true, s.port.line) {
@@ -190,7 +190,7 @@ fn read_all(
     count: u32,
 ) -> State
     requires { P.Room s.answer.received (count * 24573) receive.old cables.old }
-    ensures left { P.Hears (M.reads count) s (contents windows.old) receive.old cables.old result (contents windows.new) receive.new cables.new }
+    ensures left { P.Hears (M.reads count) s (memory_of windows.old) receive.old cables.old result (memory_of windows.new) receive.new cables.new }
     ensures same { SameWindows windows.old windows.new }
 {
     let mut next = s;
@@ -239,7 +239,7 @@ pub fn midi_step(
     cables: &mut [u8],
 ) -> State
     requires { P.Room s.answer.received 196584 receive.old cables.old }
-    ensures left { P.Hears (M.midi_in false every) s (contents windows.old) receive.old cables.old result (contents windows.new) receive.new cables.new }
+    ensures left { P.Hears (M.midi_in false every) s (memory_of windows.old) receive.old cables.old result (memory_of windows.new) receive.new cables.new }
     ensures same { SameWindows windows.old windows.new }
 {
     nak(windows.page);

@@ -2,7 +2,7 @@
 #![tactic(auto)]
 
 ghost use Rattle.std.specs.Prelude.{◌≡◌, ℕ, ◌+◌, ◌<◌, ◌≤◌, Bool, true, false, List, [], length, refl};
-ghost use Rattle.bus.specs.Windows.{contents, SameWindows};
+ghost use Rattle.bus.specs.Windows.{memory_of, SameWindows};
 ghost use Rattle.bus.specs.Stores.{bus as Stores·bus};
 ghost use Rattle.dtd.specs.Dtd as D;
 ghost use Rattle.dtd.specs.Promises as P;
@@ -62,9 +62,9 @@ fn stopped(t: Turn, next: u32) -> Turn
 // One active descriptor: its bytes are moved, and it is retired.
 fn serve<S: Side>(windows: &mut Windows<'_>, side: &mut S, descriptor: Descriptor, t: Turn) -> Turn
     requires small { T.Small t }
-    requires token { descriptor.token ≡ D.token_of descriptor.pointer (contents windows.old) }
+    requires token { descriptor.token ≡ D.token_of descriptor.pointer (memory_of windows.old) }
     requires bit { descriptor.bit ≡ D.bit_of (D.endpoint 0 S.input) }
-    ensures left { T.Serves (D.endpoint 0 S.input) descriptor.queue_head descriptor.pointer descriptor.token (S.to_send side.old) (S.to_send side.new) (S.holds side.old) (S.holds side.new) (contents windows.old) (contents windows.new) t result }
+    ensures left { T.Serves (D.endpoint 0 S.input) descriptor.queue_head descriptor.pointer descriptor.token (S.to_send side.old) (S.to_send side.new) (S.holds side.old) (S.holds side.new) (memory_of windows.old) (memory_of windows.new) t result }
     ensures same { SameWindows windows.old windows.new }
     ensures held { S.Same side.old side.new }
 {
@@ -83,7 +83,7 @@ fn serve<S: Side>(windows: &mut Windows<'_>, side: &mut S, descriptor: Descripto
 // One turn of a run on endpoint 0: the next descriptor is served, or the list ends.
 fn next_turn<S: Side>(windows: &mut Windows<'_>, side: &mut S, qh: u32, t: Turn) -> Turn
     requires { T.Small t }
-    ensures left { T.Turned (D.endpoint 0 S.input) qh (S.to_send side.old) (S.to_send side.new) (S.holds side.old) (S.holds side.new) (contents windows.old) (contents windows.new) t result }
+    ensures left { T.Turned (D.endpoint 0 S.input) qh (S.to_send side.old) (S.to_send side.new) (S.holds side.old) (S.holds side.new) (memory_of windows.old) (memory_of windows.new) t result }
     ensures same { SameWindows windows.old windows.new }
     ensures held { S.Same side.old side.new }
 {
@@ -106,7 +106,7 @@ fn next_turn<S: Side>(windows: &mut Windows<'_>, side: &mut S, qh: u32, t: Turn)
 
 // At most 64 descriptors of endpoint 0's list, from the pointer `first` on.
 fn run_list<S: Side>(windows: &mut Windows<'_>, side: &mut S, qh: u32, first: u32) -> Turn
-    ensures left { T.Looped (D.endpoint 0 S.input) qh first (S.to_send side.old) (S.holds side.old) (S.holds side.new) (contents windows.old) (contents windows.new) result }
+    ensures left { T.Looped (D.endpoint 0 S.input) qh first (S.to_send side.old) (S.holds side.old) (S.holds side.new) (memory_of windows.old) (memory_of windows.new) result }
     ensures same { SameWindows windows.old windows.new }
     ensures held { S.Same side.old side.new }
 {
@@ -135,7 +135,7 @@ fn answer(t: Turn, line: bool) -> Ran
 
 // A run on endpoint 0, towards the device or from it.
 fn run0<S: Side>(windows: &mut Windows<'_>, side: &mut S, flag: bool) -> Ran
-    ensures left { T.RunsOver (D.endpoint 0 S.input) (S.to_send side.old) (S.holds side.old) (S.holds side.new) (Stores·bus (contents windows.old) flag) (Stores·bus (contents windows.new) result.line) result }
+    ensures left { T.RunsOver (D.endpoint 0 S.input) (S.to_send side.old) (S.holds side.old) (S.holds side.new) (Stores·bus (memory_of windows.old) flag) (Stores·bus (memory_of windows.new) result.line) result }
     ensures same { SameWindows windows.old windows.new }
     ensures held { S.Same side.old side.new }
 {
@@ -159,7 +159,7 @@ pub fn run0_in(
     flag: bool,
 ) -> Filled
     requires { (limit ≤ length out.old) × (at ≤ limit) }
-    ensures left { T.RunsIn (D.endpoint 0 true) limit (Stores·bus (contents windows.old) flag) (Stores·bus (contents windows.new) result.ran.line) out.old out.new at result }
+    ensures left { T.RunsIn (D.endpoint 0 true) limit (Stores·bus (memory_of windows.old) flag) (Stores·bus (memory_of windows.new) result.ran.line) out.old out.new at result }
     ensures same { SameWindows windows.old windows.new }
 {
     let mut area = Sink { out, at, limit };
@@ -169,7 +169,7 @@ pub fn run0_in(
 
 // A run on endpoint 0 towards the device; a status stage has no bytes.
 pub fn run0_out(windows: &mut Windows<'_>, bytes: &[u8], flag: bool) -> Ran
-    ensures left { P.Runs (D.endpoint 0 false) bytes.now (Stores·bus (contents windows.old) flag) (Stores·bus (contents windows.new) result.line) result }
+    ensures left { P.Runs (D.endpoint 0 false) bytes.now (Stores·bus (memory_of windows.old) flag) (Stores·bus (memory_of windows.new) result.line) result }
     ensures same { SameWindows windows.old windows.new }
 {
     run0(windows, &mut Source { bytes }, flag)
@@ -186,7 +186,7 @@ pub fn run_in(
 ) -> Filled
     requires limit_in_bounds { (limit ≤ length out.old) × (at ≤ limit) }
     requires ep_nonzero { (0 < ep) × (ep < 16) }
-    ensures left { T.RunsIn (D.endpoint ep true) limit (Stores·bus (contents windows.old) flag) (Stores·bus (contents windows.new) result.ran.line) out.old out.new at result }
+    ensures left { T.RunsIn (D.endpoint ep true) limit (Stores·bus (memory_of windows.old) flag) (Stores·bus (memory_of windows.new) result.ran.line) out.old out.new at result }
     ensures same { SameWindows windows.old windows.new }
 {
     match dtd::begin(windows, ep, true, flag) {

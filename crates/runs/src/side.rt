@@ -2,7 +2,7 @@
 
 ghost use Rattle.std.specs.Prelude.{◌≡◌, ℕ, ◌≤◌, Bool, true, false, List, [], length, refl};
 ghost use Rattle.std.proofs.Common.{◌∙◌};
-ghost use Rattle.bus.specs.Windows.{contents, SameWindows};
+ghost use Rattle.bus.specs.Windows.{memory_of, SameWindows};
 ghost use Rattle.dtd.specs.Dtd as D;
 ghost use Rattle.runs.specs.Turns as T;
 
@@ -39,8 +39,8 @@ pub trait Side {
 
     // Moves the bytes of an active descriptor.
     fn move_bytes(&mut self, windows: &mut Windows<'_>, descriptor: Descriptor) -> Moved
-        requires { descriptor.token ≡ D.token_of descriptor.pointer (contents windows.old) }
-        ensures left { T.Moves (D.endpoint 0 input) descriptor.pointer descriptor.token (to_send self.old) (to_send self.new) (holds self.old) (holds self.new) (contents windows.old) (contents windows.new) result }
+        requires { descriptor.token ≡ D.token_of descriptor.pointer (memory_of windows.old) }
+        ensures left { T.Moves (D.endpoint 0 input) descriptor.pointer descriptor.token (to_send self.old) (to_send self.new) (holds self.old) (holds self.new) (memory_of windows.old) (memory_of windows.new) result }
         ensures same { SameWindows windows.old windows.new }
         ensures held { Same self.old self.new };
 

@@ -2,7 +2,7 @@
 #![tactic(auto)]
 
 ghost use Rattle.std.specs.Prelude.{◌≡◌, false, ◌+◌, ◌<◌, ◌≤◌, length};
-ghost use Rattle.bus.specs.Windows.{contents, SameWindows};
+ghost use Rattle.bus.specs.Windows.{memory_of, SameWindows};
 ghost use Rattle.dtd.specs.Dtd as D;
 ghost use Rattle.record.specs.World.{with_serial_queue, with_midi_queue};
 ghost use Rattle.record.specs.Did as R;
@@ -33,7 +33,7 @@ fn packet_of(tok: u32, queued: usize) -> usize
 // Serial input: its bytes go into the receive area.
 fn serial_in(s: State, windows: &mut Windows<'_>, receive: &mut [u8]) -> State
     requires { s.answer.received + 32767 ≤ length receive.old }
-    ensures left { P.Receives M.takes_serial s (contents windows.old) receive.old result (contents windows.new) receive.new }
+    ensures left { P.Receives M.takes_serial s (memory_of windows.old) receive.old result (memory_of windows.new) receive.new }
     ensures same { SameWindows windows.old windows.new }
 {
     let at = s.answer.received;
@@ -57,7 +57,7 @@ fn give(
 ) -> Option<Taken>
     requires held_in_bounds { (held ≤ length queue.old) × (1 ≤ unit) }
     requires le_ep { (1 ≤ ep) × (ep < 16) }
-    ensures left { P.Gives (D.endpoint ep false) unit line (contents windows.old) queue.old held result (contents windows.new) queue.new }
+    ensures left { P.Gives (D.endpoint ep false) unit line (memory_of windows.old) queue.old held result (memory_of windows.new) queue.new }
     ensures same { SameWindows windows.old windows.new }
 {
     if held == 0 {
@@ -77,7 +77,7 @@ fn give(
 // Serial output, where bytes wait and a descriptor is active.
 fn serial_out(s: State, windows: &mut Windows<'_>, serial: &mut [u8]) -> State
     requires { s.lengths.serial ≤ length serial.old }
-    ensures left { P.Serves with_serial_queue M.gives_serial s (contents windows.old) serial.old result (contents windows.new) serial.new }
+    ensures left { P.Serves with_serial_queue M.gives_serial s (memory_of windows.old) serial.old result (memory_of windows.new) serial.new }
     ensures same { SameWindows windows.old windows.new }
 {
     let held = s.lengths.serial;
@@ -98,7 +98,7 @@ pub fn serial_step(
     receive: &mut [u8],
 ) -> State
     requires { (s.lengths.serial ≤ length serial.old) × (s.answer.received + 32767 ≤ length receive.old) }
-    ensures left { P.ServesBoth M.serial_step s (contents windows.old) serial.old receive.old result (contents windows.new) serial.new receive.new }
+    ensures left { P.ServesBoth M.serial_step s (memory_of windows.old) serial.old receive.old result (memory_of windows.new) serial.new receive.new }
     ensures same { SameWindows windows.old windows.new }
 {
     let next = serial_in(s, windows, receive);
@@ -108,7 +108,7 @@ pub fn serial_step(
 // MIDI output, where packets wait and a descriptor is active: whole packets of four bytes, which are counted.
 pub fn midi_out(s: State, windows: &mut Windows<'_>, midi: &mut [u8]) -> State
     requires { s.lengths.midi ≤ length midi.old }
-    ensures left { P.Serves with_midi_queue M.midi_out s (contents windows.old) midi.old result (contents windows.new) midi.new }
+    ensures left { P.Serves with_midi_queue M.midi_out s (memory_of windows.old) midi.old result (memory_of windows.new) midi.new }
     ensures same { SameWindows windows.old windows.new }
 {
     let held = s.lengths.midi;
@@ -126,7 +126,7 @@ pub fn midi_out(s: State, windows: &mut Windows<'_>, midi: &mut [u8]) -> State
 
 // The vendor interface's input, whose bytes are only counted.
 pub fn vendor(s: State, windows: &mut Windows<'_>) -> State
-    ensures did { R.Did M.reads_vendor s (contents windows.old) result (contents windows.new) }
+    ensures did { R.Did M.reads_vendor s (memory_of windows.old) result (memory_of windows.new) }
     ensures fewer { P.Fewer s.lengths result.lengths }
     ensures same { SameWindows windows.old windows.new }
 {

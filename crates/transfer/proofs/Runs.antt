@@ -7,7 +7,7 @@ use Rattle.bus.specs.declared.Place.{Place}
 use Rattle.bus.specs.declared.Place.TheVariants.{Dynamic, Static, Page, Nowhere}
 use Rattle.bus.specs.Memory.{Memory, memory, place, read, write, lost, at, peek8, dropped8}
 use Rattle.bus.specs.Sized.{Sized}
-use Rattle.bus.specs.Windows.{viewed, contents}
+use Rattle.bus.specs.Windows.{viewed, memory_of}
 use Rattle.bus.specs.declared.windows.Windows.{Windows}
 use Rattle.bus.specs.declared.windows.View.{View}
 use Rattle.bus.proofs.Lengths.{sized_of, sized_view}
@@ -113,9 +113,9 @@ unfolding at
 page_read v a n q e h = sym (run_part (viewed v) a n q (sym e) (sized_view v) h)
 
 pub page_written : (w : Windows) (a : ℕ) (s : List ℕ) (q : Place) → q ≡ place (length w.dynamic.now) a → a % 4096 + length s ≤ 4096
-    → run_out (contents w) a s (length s) ≡ pasted (contents w) q s (length s)
+    → run_out (memory_of w) a s (length s) ≡ pasted (memory_of w) q s (length s)
 unfolding at
-page_written w a s q e h = run_pasted (contents w) a s (length s) q (sym e) (sized_of w) h (le_refl _)
+page_written w a s q e h = run_pasted (memory_of w) a s (length s) q (sym e) (sized_of w) h (le_refl _)
 
 -- whether a byte is dropped does not depend on the length of dynamic memory
 pub lost_at : (n a : ℕ) (q : Place) → q ≡ place n a → dropped8 a ≡ lost q

@@ -2,7 +2,7 @@
 #![tactic(auto)]
 
 ghost use Rattle.std.specs.Prelude.{◌≡◌, ℕ, ◌+◌, ◌*◌, ◌/◌, ◌%◌, ◌<◌, ◌≤◌, Bool, length, OnOk};
-ghost use Rattle.bus.specs.Windows.{viewed, contents, SameWindows};
+ghost use Rattle.bus.specs.Windows.{viewed, memory_of, SameWindows};
 ghost use Rattle.refusal.specs.Number.{number_of};
 ghost use Rattle.bus.specs.Checked.{poked_of};
 ghost use Rattle.bus.specs.Memory as M;
@@ -92,7 +92,7 @@ fn page_in(view: View<'_>, a: u32, target: &mut [u8])
 #[tactic(auto, using(crate::proofs::Runs::page_written, crate::proofs::Runs::put_paste, crate::proofs::Runs::lost_at, bus::proofs::Sizes::is_power_lem), unfolding(bus::specs::Memory::lost))]
 fn page_out(windows: &mut Windows<'_>, a: u32, source: &[u8]) -> u32
     requires { a % 4096 + length source.now ≤ 4096 }
-    ensures left { contents windows.new ≡ P.run_out (contents windows.old) a source.now (length source.now) }
+    ensures left { memory_of windows.new ≡ P.run_out (memory_of windows.old) a source.now (length source.now) }
     ensures value { result ≡ length source.now * M.dropped8 a }
     ensures same { SameWindows windows.old windows.new }
 {
@@ -156,7 +156,7 @@ pub fn copy_in(view: View<'_>, pointers: &[u32; 9], n: usize, out: &mut [u8], at
 pub fn copy_out(windows: &mut Windows<'_>, pointers: &[u32; 9], source: &[u8], n: usize) -> u32
     requires n_bound { n ≤ 32767 }
     requires n_in_bounds { n ≤ length source.now }
-    ensures left { (l : Bool) → Does (T.sending pointers.now source.now n) (bus (contents windows.old) l) (bus (contents windows.new) l) result }
+    ensures left { (l : Bool) → Does (T.sending pointers.now source.now n) (bus (memory_of windows.old) l) (bus (memory_of windows.new) l) result }
     ensures same { SameWindows windows.old windows.new }
 {
     let mut lost: u32 = 0;

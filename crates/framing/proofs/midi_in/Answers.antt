@@ -1,7 +1,7 @@
 -- `framing::midi_in` meets its contract.
 use Rattle.std.proofs.Common.{refl, sym, ap, ◌∙◌}
 use borrow.Author.Tests.{not-true, not-false}
-use Rattle.bus.specs.Windows.{contents}
+use Rattle.bus.specs.Windows.{memory_of}
 use Rattle.bus.proofs.Lengths.{sized_of}
 use Rattle.record.specs.declared.State.{State}
 use Rattle.record.specs.Record.{midi_asleep}
@@ -27,7 +27,7 @@ returns-then-in_span-clause-left c =
     let a = c.args in
     let asleep = sym c.in_span.ensures ∙ c.if-in_span.true in
     record {
-      leads = λ w. by_true _ _ _ (not-false _ c.if-not-c.false) (rw asleep (counts_one midi_asleep 1 (at_cabled w a.s (contents a.windows.now) a.receive.now a.cables.now) c.count.ensures));
+      leads = λ w. by_true _ _ _ (not-false _ c.if-not-c.false) (rw asleep (counts_one midi_asleep 1 (at_cabled w a.s (memory_of a.windows.now) a.receive.now a.cables.now) c.count.ensures));
       sized = sized_of a.windows.now;
       few = fewer_same (ap (λ (x : State). x.lengths) c.count.ensures);
     }

@@ -1,6 +1,6 @@
 -- `framing::overbridge` meets its contract.
 use Rattle.std.proofs.Common.{arith}
-use Rattle.bus.specs.Windows.{contents}
+use Rattle.bus.specs.Windows.{memory_of}
 use Rattle.record.proofs.Laws.{in_turn}
 use Rattle.model.specs.Microframe.{others}
 use Rattle.framing.specs.Promises.{at_flow}
@@ -23,8 +23,8 @@ returns-clause-left c =
     let heard = c.midi_in-heard in
     record {
       leads =
-          λ w. in_turn (streamed.ensures.left.leads (at_flow w a.s (contents a.windows.now) a.midi.now w.own.serial a.receive.now a.cables.now a.received.now a.sending.now))
-          (in_turn (heard.ensures.left.leads (at_flow w streamed.result (contents streamed.new.windows) a.midi.now w.own.serial a.receive.now a.cables.now streamed.new.received a.sending.now))
-          (c.stack_step.ensures.left.leads (at_flow w heard.result (contents heard.new.windows) a.midi.now w.own.serial heard.new.receive heard.new.cables streamed.new.received a.sending.now)));
+          λ w. in_turn (streamed.ensures.left.leads (at_flow w a.s (memory_of a.windows.now) a.midi.now w.own.serial a.receive.now a.cables.now a.received.now a.sending.now))
+          (in_turn (heard.ensures.left.leads (at_flow w streamed.result (memory_of streamed.new.windows) a.midi.now w.own.serial a.receive.now a.cables.now streamed.new.received a.sending.now))
+          (c.stack_step.ensures.left.leads (at_flow w heard.result (memory_of heard.new.windows) a.midi.now w.own.serial heard.new.receive heard.new.cables streamed.new.received a.sending.now)));
       sized = c.stack_step.ensures.left.sized;
     }

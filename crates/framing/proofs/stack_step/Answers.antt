@@ -1,5 +1,5 @@
 -- `framing::stack_step` meets its contract.
-use Rattle.bus.specs.Windows.{contents}
+use Rattle.bus.specs.Windows.{memory_of}
 use Rattle.bus.proofs.Lengths.{sized_of}
 use Rattle.record.proofs.Laws.{in_turn, by_true, by_false, unchanged}
 use Rattle.framing.specs.Promises.{at_flow}
@@ -16,6 +16,6 @@ returns-clause-left c =
       leads =
           λ w. by_true _ _ _ c.if-not-device_stack.false
           (in_turn (out.ensures.left.leads w)
-          (c.vendor.ensures.did.leads (at_flow w out.result (contents out.new.windows) out.new.midi w.own.serial w.lent.receive w.lent.cables w.lent.received w.lent.sending)));
+          (c.vendor.ensures.did.leads (at_flow w out.result (memory_of out.new.windows) out.new.midi w.own.serial w.lent.receive w.lent.cables w.lent.received w.lent.sending)));
       sized = c.vendor.ensures.did.sized;
     }

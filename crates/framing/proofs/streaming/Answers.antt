@@ -1,6 +1,6 @@
 -- `framing::streaming` meets its contract.
 use Rattle.std.proofs.Common.{ap}
-use Rattle.bus.specs.Windows.{contents}
+use Rattle.bus.specs.Windows.{memory_of}
 use Rattle.bus.proofs.Lengths.{sized_of}
 use Rattle.record.proofs.Laws.{by_true, by_false, unchanged}
 use Rattle.model.specs.Microframe.{streaming, transfers}
@@ -24,7 +24,7 @@ returns-then-c-clause-left c =
     record {
       leads =
           λ w. by_true _ _ _ (ap streaming c.in-Stream.is)
-          (by_true _ _ _ c.if-c.true (served.leads (at_flow w a.s (contents a.windows.now) a.midi.now a.serial.now a.receive.now a.cables.now a.received.now a.sending.now)));
+          (by_true _ _ _ c.if-c.true (served.leads (at_flow w a.s (memory_of a.windows.now) a.midi.now a.serial.now a.receive.now a.cables.now a.received.now a.sending.now)));
       sized = served.sized;
     }
 
@@ -36,6 +36,6 @@ returns-clause-left c =
     record {
       leads =
           λ w. by_true _ _ _ (ap streaming c.in-Stream.is)
-          (by_false _ _ _ c.if-c.false (bridged.leads (at_flow w a.s (contents a.windows.now) a.midi.now a.serial.now a.receive.now a.cables.now a.received.now a.sending.now)));
+          (by_false _ _ _ c.if-c.false (bridged.leads (at_flow w a.s (memory_of a.windows.now) a.midi.now a.serial.now a.receive.now a.cables.now a.received.now a.sending.now)));
       sized = bridged.sized;
     }

@@ -3,7 +3,7 @@ use mathlib.Core.List.{[]}
 use mathlib.Core.Bool.{true}
 use mathlib.Core.Path.{sym, ap, ◌∙◌}
 use Rattle.std.proofs.Common.{rules}
-use Rattle.bus.specs.Windows.{contents}
+use Rattle.bus.specs.Windows.{memory_of}
 use Rattle.bus.proofs.Lengths.{sized_of}
 use Rattle.dtd.specs.Dtd.{endpoint, token_of}
 use Rattle.dtd.proofs.Runs.{says}
@@ -12,7 +12,7 @@ use Rattle.runs.proofs.run_in.Goals as goal
 
 pub move_bytes-requires : goal.move_bytes-requires
 move_bytes-requires c =
-    (says (endpoint c.args.ep true) (contents c.args.windows.now) c.in-Ok.ensures.left.0).0.token ∙ ap (token_of c.in-Ok.descriptor.pointer) (sym c.in-Ok.ensures.left.1)
+    (says (endpoint c.args.ep true) (memory_of c.args.windows.now) c.in-Ok.ensures.left.0).0.token ∙ ap (token_of c.in-Ok.descriptor.pointer) (sym c.in-Ok.ensures.left.1)
 
 pub returns-in-Ok-clause-left : goal.returns-in-Ok-clause-left
 returns-in-Ok-clause-left c =
