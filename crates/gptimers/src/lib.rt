@@ -119,14 +119,21 @@ fn next_of(page: &[u8; PAGE], k: usize, c: u32, left: u64) -> Option<u64>
     None
 }
 
-// Timer k, whose bit of USBSTS is `bit`, expires with `left` below zero.
+// The bit of USBSTS of timer k.
+fn bit_of(k: usize) -> u32
+    requires { k < 2 }
+    ensures { result ≡ 2 ^ (24 + k) }
+{
+    1 << (24 + k)
+}
+
+// Timer k expires with `left` below zero.
 #[tactic(auto, using(usbdev::proofs::Laws::done_then), unfolding(crate::specs::Timer::expiring, crate::specs::Timer::expired))]
-fn expire(page: &mut [u8; PAGE], k: usize, bit: u32, c: u32, left: u64, flag: bool) -> Timed
-    requires k_bound { (k < 2) × (left < T.ZERO) }
-    requires bit_value { bit ≡ 2 ^ (24 + k) }
+fn expire(page: &mut [u8; PAGE], k: usize, c: u32, left: u64, flag: bool) -> Timed
+    requires { (k < 2) × (left < T.ZERO) }
     ensures { (registers page.new result.line ≡ done (T.expiring k c) (registers page.old flag)) × (result.timer ≡ T.expired k c left (registers page.old flag)) }
 {
-    let line = usbdev::raise(page, bit, flag);
+    let line = usbdev::raise(page, bit_of(k), flag);
     let timer = next_of(&*page, k, c, left);
     stop(page, k, c);
     Timed { timer, line }
@@ -134,23 +141,15 @@ fn expire(page: &mut [u8; PAGE], k: usize, bit: u32, c: u32, left: u64, flag: bo
 
 // Timer k after the reset, in one microframe of `step` microseconds.
 #[tactic(auto, unfolding(crate::specs::Timer::counted, crate::specs::Timer::counted_timer))]
-fn count(
-    page: &mut [u8; PAGE],
-    k: usize,
-    bit: u32,
-    c: u32,
-    t: Option<u64>,
-    step: u64,
-    flag: bool,
-) -> Timed
+fn count(page: &mut [u8; PAGE], k: usize, c: u32, t: Option<u64>, step: u64, flag: bool) -> Timed
     requires k_bound { (k < 2) × (step ≤ 1000) }
-    requires bit_value { (bit ≡ 2 ^ (24 + k)) × (T.in_range t ≡ true) }
+    requires t_value { T.in_range t ≡ true }
     ensures { (registers page.new result.line ≡ done (T.counted step k c t) (registers page.old flag)) × (result.timer ≡ T.counted_timer step k c t (registers page.old flag)) }
 {
     if bits::any(c, RUN) {
         let left = start_of(&*page, k, t) - step;
         if left < ZERO {
-            return expire(page, k, bit, c, left, flag);
+            return expire(page, k, c, left, flag);
         }
         return Timed {
             timer: Some(left),
@@ -163,24 +162,17 @@ fn count(
     }
 }
 
-// One microframe of timer k, whose bit of USBSTS is `bit`.
+// One microframe of timer k.
 #[tactic(auto, using(crate::proofs::Laws::range_reset, usbdev::proofs::Laws::done_then), unfolding(crate::specs::Timer::ticking, crate::specs::Timer::ticked))]
-fn gptimer(
-    page: &mut [u8; PAGE],
-    k: usize,
-    bit: u32,
-    t: Option<u64>,
-    step: u64,
-    flag: bool,
-) -> Timed
+fn gptimer(page: &mut [u8; PAGE], k: usize, t: Option<u64>, step: u64, flag: bool) -> Timed
     requires k_bound { (k < 2) × (step ≤ 1000) }
-    requires bit_value { (bit ≡ 2 ^ (24 + k)) × (T.in_range t ≡ true) }
+    requires t_value { T.in_range t ≡ true }
     ensures { (registers page.new result.line ≡ done (T.ticking step k t) (registers page.old flag)) × (result.timer ≡ T.ticked step k t (registers page.old flag)) }
 {
     let c = word_at(&*page, 0x84 + 8 * k);
     reset(page, k, c);
     let kept = after_reset(t, c);
-    count(page, k, bit, c, kept, step, flag)
+    count(page, k, c, kept, step, flag)
 }
 
 // Both timers in one microframe of `step` microseconds; the line's flag goes in and comes out.
@@ -190,8 +182,8 @@ pub fn gptimers(page: &mut [u8; PAGE], ts: Timers, step: u64, flag: bool) -> Tim
     requires zero_value { (T.in_range ts.zero ≡ true) × (T.in_range ts.one ≡ true) }
     ensures { (registers page.new result.line ≡ done (T.ticking_both step ts) (registers page.old flag)) × (result.timers ≡ T.ticked_both step ts (registers page.old flag)) }
 {
-    let first = gptimer(page, 0, 0x100_0000, ts.zero, step, flag);
-    let second = gptimer(page, 1, 0x200_0000, ts.one, step, first.line);
+    let first = gptimer(page, 0, ts.zero, step, flag);
+    let second = gptimer(page, 1, ts.one, step, first.line);
     TimedBoth {
         timers: Timers {
             zero: first.timer,
