@@ -1,5 +1,5 @@
 -- What a run of at most one descriptor is, by what stands before it.
-use Rattle.std.proofs.Common.{◌≡◌, ℕ, ◌<◌, ◌≤◌, min, Bool, true, false, not, ◌&&◌, List, [], length, sym, refl, ap, ◌∙◌, subst, ap₂, append_assoc, append-nil, Ok, arith, ne_eqb}
+use Rattle.std.proofs.Common.{◌≡◌, ℕ, ◌<◌, ◌≤◌, ◌-◌, Bool, drop, take, true, false, not, ◌&&◌, List, [], length, sym, refl, ap, ◌∙◌, subst, ap₂, append_assoc, append-nil, Ok, arith, ne_eqb}
 use Rattle.bits.specs.Pick.{pick, pick_both}
 use Rattle.bits.proofs.Tests.{or_false}
 use Rattle.bus.specs.Memory.{Memory}
@@ -18,7 +18,10 @@ use Rattle.dtd.specs.declared.Found.TheVariants.{Unprimed, Ended, Active}
 use Rattle.dtd.specs.declared.Descriptor.{Descriptor}
 use Rattle.dtd.specs.declared.Finished.{Finished}
 use Rattle.dtd.specs.declared.Ran.{Ran}
-use Rattle.dtd.specs.Promises.{Finishes, none_ran, ran_of, Turns, running, Runs, Idle, Begins}
+use Rattle.dtd.specs.Promises.{Finishes, none_ran, ran_of, Turns, running, Runs, Idle, Begins, Held, holds_none, Moves, Serves, RunsOver}
+use Rattle.dtd.specs.declared.side.Moved.{Moved}
+use lib.ListN.{length-drop}
+use lib.Seq.{drop-nil, take-length}
 use Rattle.dtd.specs.Dtd.{Endpoint, endpoint, descriptor, bit_of, primed, queue_head, next_dtd, terminates, token_of, is_active, interrupts, next_active, moves, bytes_of, data_out, turning, following, Run, ended, joined, turns, most, list_ends, settling, settled, run_dtds, finishing, found, active}
 
 -- ---- what each answer of `find` says
@@ -172,48 +175,77 @@ pub says_found : (e : Endpoint) (m : Memory) {d : Descriptor} → found e m ≡ 
 says_found e m {d} f =
     f ∙ ap (λ (x : ℕ). Active (record { queue_head = d.queue_head; pointer = d.pointer; token = d.token; bit = x })) (says e m f).1
 
--- a run that begins at an active descriptor is that descriptor's
-pub runs_begun : (ep : ℕ) (input : Bool) (bs : List ℕ) {l : Bool} {m m₁ : Memory} {d : Descriptor} {b' : Bus} {r : Ran} → 0 < ep → Begins (endpoint ep input) l m m₁ (Ok d)
-    → Sized m → Turns (endpoint ep input) d.queue_head d.pointer d.token d.bit bs (bus m₁ l) b' r → Runs (endpoint ep input) bs (bus m l) b' r
-runs_begun ep input bs {l} {m} {m₁} {d} {b'} {r} h begun z t =
-    let e = endpoint ep input in
-    runs_active e bs m l z (single ep input h) d.queue_head d.pointer d.token (says_found e m begun.0) d.bit (says e m begun.0).1
-    (subst (λ (x : Memory). Turns e d.queue_head d.pointer d.token d.bit bs (bus x l) b' r) begun.1 t)
+-- no more bytes are lost than are sent
+pub lost_few : (ps bs : List ℕ) (n : ℕ) (b : Bus) {lost : ℕ} → lost ≡ dropped_by (sending ps bs n b) → lost ≤ n
+lost_few ps bs n b e = omega (arith, e, sending_dropped ps bs n b, dropped_le ps n)
 
--- what an output descriptor takes, by the pointers that its bytes use
-pub data_sent : (ep : ℕ) (d : Descriptor) (bs : List ℕ) {m m' : Memory} {b' : Bus} {l : Bool} {count td lost : ℕ} {ps : List ℕ} → count ≡ moves (endpoint ep false) d.token bs → td ≡ descriptor d.pointer
-    → m' ≡ m → ps ≡ pointers_for m' td count → Does (sending ps bs count) (bus m l) b' lost → Does (data_out (endpoint ep false) d.pointer d.token bs) (bus m l) b' lost
+-- a part to the end is what is left
+pub part_rest : (bs : List ℕ) (at : ℕ) → take (length bs - at) (drop at bs) ≡ drop at bs
+part_rest bs at = ap (λ (n : ℕ). take n (drop at bs)) (sym (length-drop at bs)) ∙ take-length (drop at bs)
+
+-- the bytes of one descriptor: of what is left to send, and where they are only counted
+pub source_moves : (d : Descriptor) (bs : List ℕ) {m m' seen : Memory} {count td lost : ℕ} {ps : List ℕ} → ((ep : ℕ) → count ≡ moves (endpoint ep false) d.token bs) → td ≡ descriptor d.pointer → seen ≡ m → ps ≡ pointers_for seen td count
+    → ((l : Bool) → Does (sending ps bs count) (bus m l) (bus m' l) lost) → Moves false d bs (drop count bs) holds_none holds_none m m' (record { bytes = count; lost = lost })
 unfolding data_out when
-data_sent ep d bs {m} {m'} {b'} {l} {count} {td} is_moved is-descriptor same is-pointers does =
-    does_as
-    (ap (λ (x : List ℕ). sending x bs count (bus m l)) (is-pointers ∙ ap (λ (x : Memory). pointers_for x td count) same)
-    ∙ sending_for m td count (omega (arith, is_moved, moves_few (endpoint ep false) d.token bs)) bs count (bus m l) (omega arith)
-    ∙ ap₂ (λ (x y : ℕ). sending (pointers m x) bs y (bus m l)) is-descriptor is_moved)
-    does
+source_moves d bs {m} {seen = seen} {count} {td} {ps = ps} is_moved is-descriptor same is-pointers does =
+    let few : count ≤ 32767 = omega (arith, is_moved 0, moves_few (endpoint 0 false) d.token bs) in
+    let sends : (ep : ℕ) (l : Bool) → sending ps bs count (bus m l) ≡ sending (pointers m (descriptor d.pointer)) bs (moves (endpoint ep false) d.token bs) (bus m l) =
+    λ ep l.
+    ap (λ (x : List ℕ). sending x bs count (bus m l)) (is-pointers ∙ ap (λ (x : Memory). pointers_for x td count) same)
+    ∙ sending_for m td count few bs count (bus m l) (omega arith) ∙ ap₂ (λ (x y : ℕ). sending (pointers m x) bs y (bus m l)) is-descriptor (is_moved ep) in
+    record {
+      does = λ ep l. does_as (sends ep l) (does l);
+      bytes = is_moved;
+      left = λ ep. ap (λ (x : ℕ). drop x bs) (is_moved ep);
+      holds = λ ys. refl;
+      few = (few, omega (arith, few, lost_few ps bs count _ (does false).counted));
+    }
 
--- the data of one descriptor, and then its retirement
-pub turn_steps : (e : Endpoint) (d : Descriptor) (bit : ℕ) (bs : List ℕ) {b b₁ : Bus} {m : Memory} {moved lost : ℕ} {f : Finished} {r : Ran} → moved ≡ moves e d.token bs → Does (data_out e d.pointer d.token bs) b b₁ lost
-    → Finishes d.queue_head d.pointer d.token moved bit b₁ (bus m f.line) f → r ≡ ran_of f moved lost → Turns e d.queue_head d.pointer d.token bit bs b (bus m r.line) r
-turn_steps e d bit bs {b} {b₁} {m} is_moved sent finished h =
-    subst (λ (x : Ran). Turns e d.queue_head d.pointer d.token bit bs b (bus m x.line) x) (sym h)
+pub counted_moves : (d : Descriptor) {m : Memory} {total : ℕ} → Sized m → total ≡ total_of d.token → Moves true d [] [] holds_none holds_none m m (record { bytes = total; lost = 0 })
+unfolding moves data_out when nothing
+counted_moves d {m} {total} z is-total =
+    record {
+      does = λ ep l. does_nothing (bus m l) z;
+      bytes = λ ep. is-total;
+      left = λ ep. sym (drop-nil (total_of d.token));
+      holds = λ ys. refl;
+      few = (omega (arith, is-total, total_lt d.token), omega arith);
+    }
+
+-- and its retirement
+pub serve_steps : {input flag : Bool} {d : Descriptor} {bs bs' : List ℕ} {f f' : List ℕ → Held} {m m₁ m₂ : Memory} {p : Moved} {done : Finished} {r : Ran} → Moves input d bs bs' f f' m m₁ p
+    → Finishes d.queue_head d.pointer d.token p.bytes d.bit (bus m₁ flag) (bus m₂ done.line) done → r ≡ ran_of done p.bytes p.lost → Serves input d bs f f' m (bus m flag) (bus m₂ r.line) r
+serve_steps {input} {flag} {d} {bs} {f = f} {f'} {m} {m₁} {m₂} moved finished h =
+    subst (λ (x : Ran). Serves input d bs f f' m (bus m flag) (bus m₂ x.line) x) (sym h)
     (record {
-      does = does_then sent (does_as (ap (λ (x : ℕ). finishing d.queue_head d.pointer d.token x bit b₁) is_moved) finished.does);
-      done = finished.done;
-      moved = is_moved;
-      retired = refl;
+      turns = λ ep.
+          record {
+            does = does_then (moved.does ep flag) (does_as (ap (λ (x : ℕ). finishing d.queue_head d.pointer d.token x d.bit (bus m₁ flag)) (moved.bytes ep)) finished.does);
+            done = finished.done;
+            moved = moved.bytes ep;
+            retired = refl;
+          };
+      holds = moved.holds;
     })
+
+-- a run that begins at an active descriptor, and one that is over before
+pub run_served : (ep : ℕ) (input : Bool) {flag : Bool} {d : Descriptor} {bs : List ℕ} {f f' : List ℕ → Held} {m m₁ : Memory} {b' : Bus} {r : Ran} → 0 < ep → Begins (endpoint ep input) flag m m₁ (Ok d) → Sized m
+    → Serves input d bs f f' m₁ (bus m₁ flag) b' r → RunsOver (endpoint ep input) bs f f' (bus m flag) b' r
+unfolding bytes_of
+run_served ep input {flag} {d} {bs} {f} {f'} {m} {b' = b'} {r} some begun z p =
+    let e = endpoint ep input in
+    let one = single ep input some in
+    let is = says e m begun.0 in
+    let q = subst (λ (x : Memory). Serves input d bs f f' x (bus x flag) b' r) begun.1 p in
+    let bytes = active_bytes e bs (bus m flag) one d.queue_head d.pointer d.token is.0 ∙ ap (λ (t : ℕ). pick input (bytes_in m (pointers m (descriptor d.pointer)) (total_of t)) []) (sym is.0.token) in
+    record { runs = runs_active e bs m flag z one d.queue_head d.pointer d.token (says_found e m begun.0) d.bit is.1 (q.turns ep); holds = ap f (bytes ∙ sym (append-nil _)) ∙ q.holds [] }
+
+pub run_idle : {e : Endpoint} {bs : List ℕ} (f : List ℕ → Held) {b b' : Bus} {r : Ran} → Idle e bs b b' r → RunsOver e bs f f b b' r
+run_idle f i = record { runs = i.runs; holds = ap f i.bytes }
 
 -- an answer by another name
 pub idle_as : {e : Endpoint} {bs : List ℕ} {b : Bus} {m : Memory} {r r' : Ran} → r ≡ r' → Idle e bs b (bus m r'.line) r' → Idle e bs b (bus m r.line) r
 idle_as {e} {bs} {b} {m} h p = subst (λ (x : Ran). Idle e bs b (bus m x.line) x) (sym h) p
-
--- a count of bytes to send is a total at most
-pub counted_few : (tok total count held : ℕ) → total ≡ total_of tok → count ≡ min total held → count ≤ 32767
-counted_few tok total count held is-total is-count = omega (arith, total_lt tok)
-
--- no more bytes are lost than are sent
-pub lost_few : (ps bs : List ℕ) (n : ℕ) (b : Bus) {lost : ℕ} → lost ≡ dropped_by (sending ps bs n b) → lost ≤ n
-lost_few ps bs n b e = omega (arith, e, sending_dropped ps bs n b, dropped_le ps n)
 
 -- an endpoint that is not ready reads nothing and retires nothing
 pub record Idles (r : Run) : Type 0 where

@@ -1,13 +1,19 @@
 // Queue heads and transfer descriptors (dTDs): finding the next one, retiring it, and runs over an endpoint's list.
 #![tactic(auto)]
 
-ghost use Rattle.std.specs.Prelude.{◌≡◌, ◌<◌, ◌≤◌, Bool, true, false, []};
+ghost use Rattle.std.specs.Prelude.{◌≡◌, ℕ, ◌<◌, ◌≤◌, Bool, true, false, [], length};
 ghost use Rattle.bus.specs.Windows.{viewed, memory_of, SameWindows};
+ghost use Rattle.bus.specs.Memory.{peek32 as Memory·peek32};
 ghost use Rattle.bus.specs.Stores.{bus as Stores·bus, Does};
+ghost use Rattle.bus.specs.Steps.{exec};
 ghost use Rattle.usbdev.specs.Registers.{registers, done};
 ghost use Rattle.dtd.specs.Dtd as D;
 ghost use Rattle.dtd.specs.Promises as P;
 
+mod side;
+
+use crate::side::Counted;
+pub use crate::side::{Moved, Side, Source};
 use bus::{PAGE, View, Windows, put_at, word_at};
 use std::num::wrapping_add_u32;
 use usbdev::{EPCOMPLETE, EPLISTADDR, EPSR, FRINDEX};
@@ -273,18 +279,27 @@ impl Finished {
     }
 }
 
+// An active descriptor: its bytes are moved, it is retired, and its endpoint settled.
+pub fn serve_one<S: Side>(
+    windows: &mut Windows<'_>,
+    side: &mut S,
+    descriptor: Descriptor,
+    flag: bool,
+) -> Ran
+    ensures left { P.Serves S.input descriptor (S.to_send side.old) (S.holds side.old) (S.holds side.new) (memory_of windows.old) (Stores·bus (memory_of windows.old) flag) (Stores·bus (memory_of windows.new) result.line) result }
+    ensures same { SameWindows windows.old windows.new }
+    ensures held { S.Same side.old side.new }
+{
+    let moved = side.move_bytes(windows, descriptor);
+    finish(windows, descriptor, moved.bytes, flag).ran(moved.bytes, moved.lost)
+}
+
 // An active output descriptor takes what it can of `bytes`, and is retired.
-#[tactic(auto, using(usbdev::proofs::Tokens::total_lt))]
 pub fn send_one(windows: &mut Windows<'_>, descriptor: Descriptor, bytes: &[u8], flag: bool) -> Ran
     ensures left { P.SendsOne descriptor.queue_head descriptor.pointer descriptor.token descriptor.bit bytes.now (Stores·bus (memory_of windows.old) flag) (Stores·bus (memory_of windows.new) result.line) result }
     ensures same { SameWindows windows.old windows.new }
 {
-    let count = (usbdev::total(descriptor.token) as usize).min(bytes.len());
-    let td = bits::clear(descriptor.pointer, 0x1F);
-    let ps = transfer::pointers_for(windows.view(), td, count);
-    let lost = transfer::copy_out(windows, &ps, bytes, count);
-    let moved = count as u32;
-    finish(windows, descriptor, moved, flag).ran(moved, lost)
+    serve_one(windows, &mut Source { bytes }, descriptor, flag)
 }
 
 // An active input descriptor, whose bytes the caller has read or need not read, is retired.
@@ -292,8 +307,7 @@ pub fn take_one(windows: &mut Windows<'_>, descriptor: Descriptor, flag: bool) -
     ensures left { P.TakesOne descriptor.queue_head descriptor.pointer descriptor.token descriptor.bit (Stores·bus (memory_of windows.old) flag) (Stores·bus (memory_of windows.new) result.line) result }
     ensures same { SameWindows windows.old windows.new }
 {
-    let moved = usbdev::total(descriptor.token);
-    finish(windows, descriptor, moved, flag).ran(moved, 0)
+    serve_one(windows, &mut Counted, descriptor, flag)
 }
 
 // How a run on an endpoint other than 0 begins: its next descriptor is active, or it is over.
@@ -314,16 +328,26 @@ pub fn begin(
     }
 }
 
+// A run on an endpoint other than 0, towards the device or from it.
+pub fn run<S: Side>(windows: &mut Windows<'_>, side: &mut S, ep: u32, flag: bool) -> Ran
+    requires { (0 < ep) × (ep < 16) }
+    ensures left { P.RunsOver (D.endpoint ep S.input) (S.to_send side.old) (S.holds side.old) (S.holds side.new) (Stores·bus (memory_of windows.old) flag) (Stores·bus (memory_of windows.new) result.line) result }
+    ensures same { SameWindows windows.old windows.new }
+    ensures held { S.Same side.old side.new }
+{
+    match begin(windows, ep, side.is_input(), flag) {
+        Ok(descriptor) => serve_one(windows, side, descriptor, flag),
+        Err(ran) => ran,
+    }
+}
+
 // A run on an endpoint other than 0, towards the device.
 pub fn run_out(windows: &mut Windows<'_>, ep: u32, bytes: &[u8], flag: bool) -> Ran
     requires { (0 < ep) × (ep < 16) }
     ensures left { P.Runs (D.endpoint ep false) bytes.now (Stores·bus (memory_of windows.old) flag) (Stores·bus (memory_of windows.new) result.line) result }
     ensures same { SameWindows windows.old windows.new }
 {
-    match begin(windows, ep, false, flag) {
-        Ok(descriptor) => send_one(windows, descriptor, bytes, flag),
-        Err(ran) => ran,
-    }
+    run(windows, &mut Source { bytes }, ep, flag)
 }
 
 // A run on an endpoint other than 0, from the device, whose bytes are only counted.
@@ -332,8 +356,5 @@ pub fn run_count(windows: &mut Windows<'_>, ep: u32, flag: bool) -> Ran
     ensures left { P.Runs (D.endpoint ep true) [] (Stores·bus (memory_of windows.old) flag) (Stores·bus (memory_of windows.new) result.line) result }
     ensures same { SameWindows windows.old windows.new }
 {
-    match begin(windows, ep, true, flag) {
-        Ok(descriptor) => take_one(windows, descriptor, flag),
-        Err(ran) => ran,
-    }
+    run(windows, &mut Counted, ep, flag)
 }

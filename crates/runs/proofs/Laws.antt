@@ -1,31 +1,30 @@
 -- The turns of the loops over descriptors.
-use Prim.Native.Nat.{ℕ, suc, ◌+◌, ◌-◌, ◌*◌, ◌≤◌, ◌<◌, min}
+use Prim.Native.Nat.{ℕ, suc, ◌+◌, ◌-◌, ◌*◌, ◌≤◌, min}
 use mathlib.Core.Bool.{Bool, true, false, ◌||◌}
-use mathlib.Core.List.{List, [], ◌++◌, append-nil}
+use mathlib.Core.List.{List, [], ◌++◌}
 use mathlib.Core.Path.{◌≡◌, refl, sym, ap, ap₂, subst, ◌∙◌}
 use native.Mathlib.Omega.{arith}
-use lib.ListN.{length, take, drop, length-drop}
-use lib.Seq.{drop-nil, take-length}
+use lib.ListN.{length, drop}
+use lib.Seq.{drop-nil}
 use Rattle.bits.proofs.Tests.{or_false}
 use Rattle.bus.specs.Memory.{Memory}
 use Rattle.bus.specs.Sized.{Sized}
 use Rattle.bus.specs.Steps.{exec, replay_append}
-use Rattle.bus.specs.Stores.{Bus, bus, store, stored, dropped_by, dropped_append, BusStep, ◌then◌, when, Does}
-use Rattle.bus.proofs.Storing.{does_then, does_as, does_counted}
+use Rattle.bus.specs.Stores.{Bus, bus, store, stored, dropped_by, dropped_append, BusStep, ◌then◌, nothing, when, Does}
+use Rattle.bus.proofs.Storing.{does_nothing, does_then, does_as}
+use Rattle.bits.specs.Pick.{pick}
 use Rattle.usbdev.specs.Transfer.{total_of}
 use Rattle.usbdev.proofs.Tokens.{total_lt}
-use Rattle.transfer.specs.Transfer.{pointers, pointers_for, bytes_in, received, sending}
-use Rattle.transfer.proofs.Addresses.{sending_for}
+use Rattle.transfer.specs.Transfer.{pointers, pointers_for, bytes_in, received}
 use Rattle.dtd.specs.declared.Descriptor.{Descriptor}
-use Rattle.dtd.specs.declared.Found.TheVariants.{Active}
 use Rattle.dtd.specs.declared.Retired.{Retired}
 use Rattle.dtd.specs.declared.Ran.{Ran}
-use Rattle.dtd.specs.Dtd.{Endpoint, endpoint, bit_of, descriptor, terminates, token_of, is_active, interrupts, moves, bytes_of, data_out, retiring, turning, followed, following, Run, ended, joined, turns, most, primed, queue_head, next_of, next_dtd, settling, settled, run_dtds, found}
-use Rattle.dtd.specs.Promises.{Retires, TakesOne, none_ran, running, Idle}
-use Rattle.dtd.proofs.Runs.{run_unprimed, active_bytes, single, runs_none, runs_active, counted_few, lost_few, says, says_found}
+use Rattle.dtd.specs.Dtd.{Endpoint, endpoint, bit_of, descriptor, terminates, token_of, is_active, interrupts, moves, bytes_of, data_out, retiring, turning, followed, following, Run, ended, joined, turns, most, primed, queue_head, next_of, next_dtd, settling, settled, run_dtds}
+use Rattle.dtd.specs.Promises.{Retires, none_ran, running, Held, Moves, RunsOver}
+use Rattle.dtd.proofs.Runs.{run_unprimed, runs_none}
 use Rattle.runs.specs.declared.Turn.{Turn}
-use Rattle.runs.specs.declared.side.Moved.{Moved}
-use Rattle.runs.specs.Turns.{kept, kept_end, first_turn, stopped_at, Same, rest, Held, filled, nothing, Moves, Serves, Turned, Looped, RunsOver, RunsIn, answer_of}
+use Rattle.dtd.specs.declared.side.Moved.{Moved}
+use Rattle.runs.specs.Turns.{kept, kept_end, first_turn, stopped_at, Same, rest, filled, Turned, Looped, RunsIn, answer_of}
 use Rattle.runs.proofs.Kept.{kept_append, end_append, kept_none, end_none, received_kept, end_kept}
 
 or_assoc : (x y z : Bool) → x || (y || z) ≡ (x || y) || z
@@ -35,100 +34,38 @@ or_assoc false y z = refl
 -- ---- the bytes of one descriptor, from what the code does
 
 -- into an area
-module _ (n tok limit at : ℕ) (m : Memory) (z : Sized m) (out out' : List ℕ) (total keep td : ℕ) (ps : List ℕ)
-    (room : limit ≤ length out) (inside : at ≤ limit) (is-token : tok ≡ token_of n m)
-    (is-total : total ≡ total_of tok) (is-keep : keep ≡ min total (limit - at)) (is-descriptor : td ≡ descriptor n)
-    (is-pointers : ps ≡ pointers_for m td keep) (copied : out' ≡ received m ps keep out at) where
-  few_total : total ≤ 32767
-  few_total = omega (arith, total_lt tok, is-total)
+pub sink_moves : (d : Descriptor) (limit at : ℕ) (out : List ℕ) {m seen : Memory} {out' : List ℕ} {keep td total : ℕ} {ps : List ℕ} → Sized m → limit ≤ length out → at ≤ limit
+    → keep ≡ min (total_of d.token) (limit - at) → td ≡ descriptor d.pointer → seen ≡ m → ps ≡ pointers_for seen td keep → out' ≡ received seen ps keep out at → total ≡ total_of d.token
+    → Moves true d [] [] (filled out at limit) (filled out' (at + keep) limit) m m (record { bytes = total; lost = 0 })
+unfolding data_out when nothing moves
+sink_moves d limit at out {m} {out' = out'} {keep} z room inside is-keep is-descriptor same is-pointers copied is-total =
+    let bytes = bytes_in m (pointers m (descriptor d.pointer)) (total_of d.token) in
+    let few : total_of d.token ≤ 32767 = omega (arith, total_lt d.token) in
+    let area : out' ≡ kept out at limit bytes =
+    copied ∙ rw (is-pointers, is-descriptor, same) (received_kept m (descriptor d.pointer) (total_of d.token) keep out at limit is-keep few inside room) in
+    let end : at + keep ≡ kept_end at limit bytes = end_kept m (descriptor d.pointer) (total_of d.token) keep out at limit is-keep few inside room in
+    record {
+      does = λ ep l. does_nothing (bus m l) z;
+      bytes = λ ep. is-total;
+      left = λ ep. sym (drop-nil (total_of d.token));
+      holds = λ ys.
+          ap₂ (λ (x : List ℕ) (y : ℕ). (x, y)) (kept_append out at limit bytes ys) (end_append out at limit bytes ys)
+          ∙ ap₂ (λ (x : List ℕ) (y : ℕ). filled x y limit ys) (sym area) (sym end);
+      few = (omega (arith, is-total, few), omega arith);
+    }
 
-  abbrev bytes : List ℕ
-  bytes = bytes_in m (pointers m (descriptor n)) (total_of (token_of n m))
+-- ---- an active descriptor takes a turn of the run: its bytes are moved, and it is retired
 
-  named : (P : ℕ → ℕ → Type 0) → P td total → P (descriptor n) (total_of (token_of n m))
-  named P x = subst (λ (y : ℕ). P (descriptor n) y) (is-total ∙ ap total_of is-token) (subst (λ (y : ℕ). P y total) is-descriptor x)
+module _ (ep : ℕ) (input : Bool) (qh : ℕ) {bit : ℕ} {bs bs' : List ℕ} {f f' : List ℕ → Held} {m m₁ m' : Memory} (t : Turn) (tok : ℕ) {p : Moved} {r : Retired} {i : Bool}
+    (goes : terminates t.next ≡ false) (is-token : tok ≡ token_of t.next m) (active : is_active tok ≡ true) (is_done : i ≡ interrupts tok) (is_bit : bit ≡ bit_of (endpoint ep input))
+    (moved : Moves input (record { queue_head = qh; pointer = t.next; token = tok; bit = bit }) bs bs' f f' m m₁ p) (retired : Retires qh t.next tok p.bytes bit m₁ m' r) where
+  abbrev e : Endpoint
+  e = endpoint ep input
 
-  same_area : out' ≡ kept out at limit bytes
-  same_area =
-      copied ∙ ap (λ (x : List ℕ). received m x keep out at) is-pointers
-      ∙ named (λ (d x : ℕ). received m (pointers_for m td keep) keep out at ≡ kept out at limit (bytes_in m (pointers m d) x)) (received_kept m td total keep out at limit is-keep few_total inside room)
+  abbrev after : Turn
+  after =
+      record { next = r.next; done = t.done || i; moved = t.moved + p.bytes; retired = t.retired + 1; dropped = t.dropped + (p.lost + r.dropped); stop = false }
 
-  same_end : at + keep ≡ kept_end at limit bytes
-  same_end = named (λ (d x : ℕ). at + keep ≡ kept_end at limit (bytes_in m (pointers m d) x)) (end_kept m td total keep out at limit is-keep few_total inside room)
-
-  same_filled : (ys : List ℕ) → filled out at limit (bytes ++ ys) ≡ filled out' (at + keep) limit ys
-  same_filled ys =
-      ap₂ (λ (x : List ℕ) (y : ℕ). (x, y)) (kept_append out at limit bytes ys) (end_append out at limit bytes ys)
-      ∙ ap₂ (λ (x : List ℕ) (y : ℕ). filled x y limit ys) (sym same_area) (sym same_end)
-
-  pub sink_moves : Moves (endpoint 0 true) n tok [] [] (filled out at limit) (filled out' (at + keep) limit) m m (record { bytes = total; lost = 0 })
-  unfolding data_out when dropped_by moves bytes_of
-  sink_moves =
-      record {
-        does = λ l. record { is = refl; sized = z; counted = refl };
-        bytes = is-total;
-        left = sym (drop-nil (total_of tok));
-        holds = same_filled;
-        few = (few_total, omega arith);
-      }
-
--- of what is left to send
-module _ (n tok : ℕ) (bs : List ℕ) (m m' : Memory) (total count td lost : ℕ) (ps : List ℕ)
-    (is-total : total ≡ total_of tok) (is-count : count ≡ min total (length bs)) (is-descriptor : td ≡ descriptor n)
-    (is-pointers : ps ≡ pointers_for m td count) (copied : (l : Bool) → Does (sending ps bs count) (bus m l) (bus m' l) lost) where
-  few_count : count ≤ 32767
-  few_count = counted_few tok total count (length bs) is-total is-count
-
-  is_moves : count ≡ moves (endpoint 0 false) tok bs
-  unfolding moves
-  is_moves = is-count ∙ ap (λ (x : ℕ). min x (length bs)) is-total
-
-  pub source_moves : Moves (endpoint 0 false) n tok bs (drop count bs) nothing nothing m m' (record { bytes = count; lost = lost })
-  unfolding data_out when
-  source_moves =
-      record {
-        does = λ l.
-            does_as
-            (ap (λ (x : List ℕ). sending x bs count (bus m l)) is-pointers ∙ sending_for m td count few_count bs count (bus m l) (omega arith)
-            ∙ ap₂ (λ (x y : ℕ). sending (pointers m x) bs y (bus m l)) is-descriptor is_moves)
-            (copied l);
-        bytes = is_moves;
-        left = ap (λ (x : ℕ). drop x bs) is_moves;
-        holds = λ ys. refl;
-        few = (few_count, omega (arith, few_count, lost_few ps bs count (bus m false) (copied false).counted));
-      }
-
--- a part to the end is what is left
-pub part_rest : (bs : List ℕ) (at : ℕ) → take (length bs - at) (drop at bs) ≡ drop at bs
-part_rest bs at = ap (λ (n : ℕ). take n (drop at bs)) (sym (length-drop at bs)) ∙ take-length (drop at bs)
-
--- ---- one active descriptor: its bytes, and its retirement
-
-module _ {e : Endpoint} {qh n tok bit : ℕ} {bs bs' : List ℕ} {f f' : List ℕ → Held} {m m₁ m' : Memory} {t : Turn} {p : Moved} {r : Retired} {i : Bool}
-    (is_done : i ≡ interrupts tok) (is_bit : bit ≡ bit_of e) (moved : Moves e n tok bs bs' f f' m m₁ p) (retired : Retires qh n tok p.bytes bit m₁ m' r) where
-  pub serve_steps : Serves e qh n tok bs bs' f f' m m' t
-      (record { next = r.next; done = t.done || i; moved = t.moved + p.bytes; retired = t.retired + 1; dropped = t.dropped + (p.lost + r.dropped); stop = false })
-  serve_steps =
-      record {
-        does = λ l.
-            does_counted (omega arith)
-            (does_then (moved.does l) (does_as (ap₂ (λ (x y : ℕ). retiring qh n tok x y (bus m₁ l)) moved.bytes is_bit) (retired.does l)));
-        more = omega arith;
-        next = λ l. retired.next l ∙ ap₂ (λ (x : ℕ) (y : Bus). followed qh n tok x y) moved.bytes (moved.does l).is;
-        left = moved.left;
-        holds = moved.holds;
-        done = ap (λ (x : Bool). t.done || x) is_done;
-        moved = ap (λ (x : ℕ). t.moved + x) moved.bytes;
-        retired = refl;
-        goes = refl;
-        grown = record { moved = omega (arith, moved.few.0); retired = omega arith; dropped = omega (arith, retired.few, moved.few.1) };
-      }
-
--- ---- an active descriptor takes a turn of the run
-
-module _ (e : Endpoint) (qh : ℕ) (bs bs' : List ℕ) (f f' : List ℕ → Held) (m m' : Memory) (t t' : Turn) (tok : ℕ)
-    (goes : terminates t.next ≡ false) (is-token : tok ≡ token_of t.next m) (active : is_active tok ≡ true)
-    (serves : Serves e qh t.next tok bs bs' f f' m m' t t') where
   -- the same bits by the token that memory has
   is_active_lem : is_active (token_of t.next m) ≡ true
   is_active_lem = ap is_active (sym is-token) ∙ active
@@ -136,7 +73,7 @@ module _ (e : Endpoint) (qh : ℕ) (bs bs' : List ℕ) (f f' : List ℕ → Held
   module _ (l : Bool) (k : ℕ) where
     -- what is left after it
     abbrev later : Run
-    later = turns k e qh t'.next bs' (bus m' l)
+    later = turns k e qh r.next bs' (bus m' l)
 
     -- this descriptor's step, by its token
     abbrev step_of : ℕ → BusStep
@@ -147,26 +84,32 @@ module _ (e : Endpoint) (qh : ℕ) (bs bs' : List ℕ) (f f' : List ℕ → Held
     run_of x =
         record {
           stores = step_of x (bus m l) ++ later.stores;
-          bytes = bytes_of e t.next m ++ later.bytes;
+          bytes = pick input (bytes_in m (pointers m (descriptor t.next)) (total_of x)) [] ++ later.bytes;
           done = interrupts x || later.done;
           last = later.last;
           moved = moves e x bs + later.moved;
           retired = 1 + later.retired;
         }
 
-    goes_on : following e qh t.next bs (bus m l) ≡ t'.next
+    does : Does (step_of tok) (bus m l) (bus m' l) (p.lost + r.dropped)
+    does =
+        does_then (moved.does ep l) (does_as (ap₂ (λ (x y : ℕ). retiring qh t.next tok x y (bus m₁ l)) (moved.bytes ep) is_bit) (retired.does l))
+
+    goes_on : following e qh t.next bs (bus m l) ≡ r.next
     unfolding following
-    goes_on = ap (λ (x : ℕ). followed qh t.next x (moves e x bs) (exec store (data_out e t.next x bs) (bus m l))) (sym is-token) ∙ sym (serves.next l)
+    goes_on =
+        ap (λ (x : ℕ). followed qh t.next x (moves e x bs) (exec store (data_out e t.next x bs) (bus m l))) (sym is-token)
+        ∙ sym (retired.next l ∙ ap₂ (λ (x : ℕ) (y : Bus). followed qh t.next tok x y) (moved.bytes ep) (moved.does ep l).is)
 
     leaves : exec store (turning e qh t.next bs) (bus m l) ≡ bus m' l
     unfolding turning
-    leaves = ap (λ (x : ℕ). exec store (step_of x) (bus m l)) (sym is-token) ∙ sym (serves.does l).is
+    leaves = ap (λ (x : ℕ). exec store (step_of x) (bus m l)) (sym is-token) ∙ sym does.is
 
     is_left : drop (moves e (token_of t.next m) bs) bs ≡ bs'
-    is_left = ap (λ (x : ℕ). drop (moves e x bs) bs) (sym is-token) ∙ sym serves.left
+    is_left = ap (λ (x : ℕ). drop (moves e x bs) bs) (sym is-token) ∙ sym (moved.left ep)
 
     joins : joined e qh t.next bs (bus m l) later ≡ run_of (token_of t.next m)
-    unfolding joined turning
+    unfolding joined turning bytes_of
     joins = refl
 
     whole : turns (suc k) e qh t.next bs (bus m l) ≡ run_of tok
@@ -175,29 +118,26 @@ module _ (e : Endpoint) (qh : ℕ) (bs bs' : List ℕ) (f f' : List ℕ → Held
         simp (goes, is_active_lem)
         (ap (joined e qh t.next bs (bus m l))
         (ap (λ (x : ℕ). turns k e qh x (drop (moves e (token_of t.next m) bs) bs) (exec store (turning e qh t.next bs) (bus m l))) goes_on
-        ∙ ap₂ (λ (x : List ℕ) (y : Bus). turns k e qh t'.next x y) is_left leaves)
+        ∙ ap₂ (λ (x : List ℕ) (y : Bus). turns k e qh r.next x y) is_left leaves)
         ∙ joins ∙ ap run_of (sym is-token))
 
-    same_run : Same (run_of tok) (bus m l) t later (bus m' l) t'
+    same_run : Same (run_of tok) (bus m l) t later (bus m' l) after
     same_run =
         record {
-          stores = replay_append store (step_of tok (bus m l)) later.stores (bus m l) ∙ ap (stored later.stores) (sym (serves.does l).is);
-          counted = omega (arith, dropped_append (step_of tok (bus m l)) later.stores, (serves.does l).counted, serves.more);
-          done = or_assoc t.done (interrupts tok) later.done ∙ ap (λ (x : Bool). x || later.done) (sym serves.done);
+          stores = replay_append store (step_of tok (bus m l)) later.stores (bus m l) ∙ ap (stored later.stores) (sym does.is);
+          counted = omega (arith, dropped_append (step_of tok (bus m l)) later.stores, does.counted);
+          done = or_assoc t.done (interrupts tok) later.done ∙ ap (λ (x : Bool). (t.done || x) || later.done) (sym is_done);
           last = refl;
-          moved = omega (arith, serves.moved);
-          retired = omega (arith, serves.retired);
+          moved = omega (arith, moved.bytes ep);
+          retired = omega arith;
         }
 
-    picks : rest k e qh bs' t' (bus m' l) ≡ later
-    picks = simp serves.goes
-
-  pub turn_served : Turned e qh bs bs' f f' m m' t t'
-  turn_served =
+  pub turn_moved : Turned e qh bs bs' f f' m m' t after
+  turn_moved =
       record {
-        same = λ l k. subst (λ (r : Run). Same r (bus m l) t (rest k e qh bs' t' (bus m' l)) (bus m' l) t') (sym (whole l k)) (subst (λ (r : Run). Same (run_of l k tok) (bus m l) t r (bus m' l) t') (sym (picks l k)) (same_run l k));
-        holds = λ l k. ap (λ (r : Run). f r.bytes) (whole l k) ∙ serves.holds (later l k).bytes ∙ ap (λ (r : Run). f' r.bytes) (sym (picks l k));
-        grown = serves.grown;
+        same = λ l k. subst (λ (x : Run). Same x (bus m l) t (later l k) (bus m' l) after) (sym (whole l k)) (same_run l k);
+        holds = λ l k. ap (λ (x : Run). f x.bytes) (whole l k) ∙ moved.holds (later l k).bytes;
+        grown = record { moved = omega (arith, moved.few.0); retired = omega arith; dropped = omega (arith, retired.few, moved.few.1) };
       }
 
 -- ---- a turn that ends the run: it retires nothing more, whatever is left of its turns
@@ -359,20 +299,3 @@ run_filled {out' = out'} {at' = at'} limit' is p =
       area = is ∙ sym (ap (λ (x : Held). x.0) p.holds ∙ kept_none out' at' limit');
       end = sym (ap (λ (x : Held). x.1) p.holds ∙ end_none at' limit');
     }
-
--- one of an active descriptor
-pub run_active : (ep : ℕ) → 0 < ep → {f f' : List ℕ → Held} {m m' : Memory} (flag : Bool) {b' : Bus} {r : Ran} {p : Moved} {d : Descriptor} → Sized m
-    → found (endpoint ep true) m ≡ Active d → Moves (endpoint 0 true) d.pointer d.token [] [] f f' m m' p → TakesOne d.queue_head d.pointer d.token d.bit (bus m' flag) b' r
-    → RunsOver (endpoint ep true) [] f f' (bus m flag) b' r
-unfolding bytes_of data_out when
-run_active ep some {f} {m = m} flag {b'} {r} {d = d} z is moved takes =
-    let one = single ep true some in
-    let from = subst (λ (b : Bus). TakesOne d.queue_head d.pointer d.token d.bit b b' r) (moved.does flag).is takes in
-    record {
-      runs = runs_active (endpoint ep true) [] m flag z one d.queue_head d.pointer d.token (says_found (endpoint ep true) m is) d.bit (says (endpoint ep true) m is).1 (from ep);
-      holds = ap f (active_bytes (endpoint ep true) [] (bus m flag) one d.queue_head d.pointer d.token (says (endpoint ep true) m is).0 ∙ sym (append-nil _)) ∙ moved.holds [];
-    }
-
--- a run that is over before a descriptor is moved
-pub run_idle : {e : Endpoint} {limit : ℕ} {b b' : Bus} {out : List ℕ} {at : ℕ} {r : Ran} → Idle e [] b b' r → RunsIn e limit b b' out out at (record { ran = r; at = at })
-run_idle {limit = limit} {out = out} {at = at} i = run_filled limit refl (record { runs = i.runs; holds = ap (filled out at limit) i.bytes })

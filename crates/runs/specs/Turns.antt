@@ -1,16 +1,14 @@
 -- Runs over whole lists (usbhost.rs 541-609; endpoint 0 loops, 547): what is kept of their bytes, and what one turn of their loops promises.
-use Rattle.std.specs.Prelude.{ℕ, suc, ◌+◌, ◌-◌, ◌≤◌, Bool, true, false, ◌||◌, List, [], ◌≡◌, length, take, drop, ◌++◌}
+use Rattle.std.specs.Prelude.{ℕ, suc, ◌+◌, ◌-◌, ◌≤◌, Bool, true, false, ◌||◌, List, [], ◌≡◌, length, take}
 use Rattle.std.proofs.lemmas.List.Edits.{sets}
 use Rattle.bits.specs.Pick.{pick}
 use Rattle.bus.specs.Memory.{Memory}
-use Rattle.bus.specs.Steps.{exec}
-use Rattle.bus.specs.Stores.{Bus, bus, store, stored, dropped_by, ◌then◌, Does}
-use Rattle.dtd.specs.Dtd.{Endpoint, bit_of, interrupts, moves, bytes_of, data_out, retiring, followed, Run, ended, turns, run_dtds}
-use Rattle.dtd.specs.Promises.{Runs}
+use Rattle.bus.specs.Stores.{Bus, bus, stored, dropped_by}
+use Rattle.dtd.specs.Dtd.{Endpoint, Run, ended, turns, run_dtds}
+use Rattle.dtd.specs.Promises.{Runs, Held}
 use Rattle.dtd.specs.declared.Ran.{Ran}
 use Rattle.runs.specs.declared.Turn.{Turn}
 use Rattle.runs.specs.declared.Filled.{Filled}
-use Rattle.runs.specs.declared.side.Moved.{Moved}
 
 -- document 01, "Control record"; usbhost.rs 663-665: bytes go into an area from index at on, and what lies past the limit is discarded
 unfoldable pub kept : List ℕ → ℕ → ℕ → List ℕ → List ℕ
@@ -40,17 +38,9 @@ pub record Same (r : Run) (b : Bus) (t : Turn) (r' : Run) (b' : Bus) (t' : Turn)
 abbrev pub rest : ℕ → Endpoint → ℕ → List ℕ → Turn → Bus → Run
 rest k e qh bs t b = pick t.stop (ended t.next) (turns k e qh t.next bs b)
 
--- what an area holds at last, and the index behind the last byte kept
-abbrev pub Held : Type 0
-Held = List ℕ × ℕ
-
--- of an area that is filled from index at on, by the bytes that come
+-- what an area that is filled from index at on holds at last, by the bytes that come
 abbrev pub filled : List ℕ → ℕ → ℕ → List ℕ → Held
 filled out at limit bs = (kept out at limit bs, kept_end at limit bs)
-
--- and of a side that only sends
-abbrev pub nothing : List ℕ → Held
-nothing bs = ([], 0)
 
 -- how much one turn may count
 pub record Grown (t t' : Turn) : Type 0 where
@@ -64,27 +54,6 @@ pub record Small (t : Turn) : Type 0 where
   pub retired : t.retired ≤ 0x4000_0000
   pub dropped : t.dropped ≤ 0x4000_0000
 
--- the bytes of one active descriptor: bs are to be sent before it and bs' behind it, and f and f' say what is held at last, by the bytes that the run still gives
-pub record Moves (e : Endpoint) (n tok : ℕ) (bs bs' : List ℕ) (f f' : List ℕ → Held) (m m' : Memory) (r : Moved) : Type 0 where
-  pub does : (l : Bool) → Does (data_out e n tok bs) (bus m l) (bus m' l) r.lost
-  pub bytes : r.bytes ≡ moves e tok bs
-  pub left : bs' ≡ drop (moves e tok bs) bs
-  pub holds : (ys : List ℕ) → f (bytes_of e n m ++ ys) ≡ f' ys
-  pub few : (r.bytes ≤ 32767) × (r.lost ≤ 32767)
-
--- and its retirement
-pub record Serves (e : Endpoint) (qh n tok : ℕ) (bs bs' : List ℕ) (f f' : List ℕ → Held) (m m' : Memory) (t t' : Turn) : Type 0 where
-  pub does : (l : Bool) → Does (data_out e n tok bs then retiring qh n tok (moves e tok bs) (bit_of e)) (bus m l) (bus m' l) (t'.dropped - t.dropped)
-  pub more : t.dropped ≤ t'.dropped
-  pub next : (l : Bool) → t'.next ≡ followed qh n tok (moves e tok bs) (exec store (data_out e n tok bs) (bus m l))
-  pub left : bs' ≡ drop (moves e tok bs) bs
-  pub holds : (ys : List ℕ) → f (bytes_of e n m ++ ys) ≡ f' ys
-  pub done : t'.done ≡ t.done || interrupts tok
-  pub moved : t'.moved ≡ t.moved + moves e tok bs
-  pub retired : t'.retired ≡ t.retired + 1
-  pub goes : t'.stop ≡ false
-  pub grown : Grown t t'
-
 -- a turn of a run that has bs to send
 pub record Turned (e : Endpoint) (qh : ℕ) (bs bs' : List ℕ) (f f' : List ℕ → Held) (m m' : Memory) (t t' : Turn) : Type 0 where
   pub same : (l : Bool) (k : ℕ) → Same (turns (suc k) e qh t.next bs (bus m l)) (bus m l) t (rest k e qh bs' t' (bus m' l)) (bus m' l) t'
@@ -95,11 +64,6 @@ pub record Turned (e : Endpoint) (qh : ℕ) (bs bs' : List ℕ) (f f' : List ℕ
 pub record Looped (e : Endpoint) (qh n : ℕ) (bs : List ℕ) (f f' : List ℕ → Held) (m m' : Memory) (t : Turn) : Type 0 where
   pub same : (l : Bool) → Same (turns 64 e qh n bs (bus m l)) (bus m l) (first_turn n) (ended t.next) (bus m' l) t
   pub holds : (l : Bool) → f (turns 64 e qh n bs (bus m l)).bytes ≡ f' []
-
--- a run, and what is held at last
-pub record RunsOver (e : Endpoint) (bs : List ℕ) (f f' : List ℕ → Held) (b b' : Bus) (r : Ran) : Type 0 where
-  pub runs : Runs e bs b b' r
-  pub holds : f (run_dtds e bs b).bytes ≡ f' []
 
 -- a run on an endpoint into an area
 pub record RunsIn (e : Endpoint) (limit : ℕ) (b b' : Bus) (out out' : List ℕ) (at : ℕ) (r : Filled) : Type 0 where

@@ -8,11 +8,11 @@ ghost use Rattle.dtd.specs.Dtd as D;
 ghost use Rattle.dtd.specs.Promises as P;
 ghost use Rattle.runs.specs.Turns as T;
 
-mod side;
+mod sink;
 
-use crate::side::{Side, Sink, Source};
+use crate::sink::Sink;
 use bus::{Windows, word_at};
-use dtd::{Descriptor, Ran};
+use dtd::{Descriptor, Ran, Side, Source};
 use usbdev::EPSR;
 
 // Where a loop over descriptors stands: the next pointer, what was counted, and whether the list ended.
@@ -59,28 +59,7 @@ fn stopped(t: Turn, next: u32) -> Turn
     }
 }
 
-// One active descriptor: its bytes are moved, and it is retired.
-fn serve<S: Side>(windows: &mut Windows<'_>, side: &mut S, descriptor: Descriptor, t: Turn) -> Turn
-    requires small { T.Small t }
-    requires token { descriptor.token ≡ D.token_of descriptor.pointer (memory_of windows.old) }
-    requires bit { descriptor.bit ≡ D.bit_of (D.endpoint 0 S.input) }
-    ensures left { T.Serves (D.endpoint 0 S.input) descriptor.queue_head descriptor.pointer descriptor.token (S.to_send side.old) (S.to_send side.new) (S.holds side.old) (S.holds side.new) (memory_of windows.old) (memory_of windows.new) t result }
-    ensures same { SameWindows windows.old windows.new }
-    ensures held { S.Same side.old side.new }
-{
-    let moved = side.move_bytes(windows, descriptor);
-    let retired = dtd::retire(windows, descriptor, moved.bytes);
-    Turn {
-        next: retired.next,
-        done: t.done | bits::any(descriptor.token, 0x8000),
-        moved: t.moved + moved.bytes,
-        retired: t.retired + 1,
-        dropped: t.dropped + (moved.lost + retired.dropped),
-        stop: false,
-    }
-}
-
-// One turn of a run on endpoint 0: the next descriptor is served, or the list ends.
+// One turn of a run on endpoint 0: the bytes of the next descriptor are moved and it is retired, or the list ends.
 fn next_turn<S: Side>(windows: &mut Windows<'_>, side: &mut S, qh: u32, t: Turn) -> Turn
     requires { T.Small t }
     ensures left { T.Turned (D.endpoint 0 S.input) qh (S.to_send side.old) (S.to_send side.new) (S.holds side.old) (S.holds side.new) (memory_of windows.old) (memory_of windows.new) t result }
@@ -92,16 +71,25 @@ fn next_turn<S: Side>(windows: &mut Windows<'_>, side: &mut S, qh: u32, t: Turn)
         return stopped(t, next);
     }
     let token = dtd::token_of(windows.view(), next);
-    if bits::any(token, 0x80) {
-        let descriptor = Descriptor {
-            queue_head: qh,
-            pointer: next,
-            token,
-            bit: side.bit(),
-        };
-        return serve(windows, side, descriptor, t);
+    if !bits::any(token, 0x80) {
+        return stopped(t, 1);
     }
-    stopped(t, 1)
+    let descriptor = Descriptor {
+        queue_head: qh,
+        pointer: next,
+        token,
+        bit: dtd::bit_of(0, side.is_input()),
+    };
+    let moved = side.move_bytes(windows, descriptor);
+    let retired = dtd::retire(windows, descriptor, moved.bytes);
+    Turn {
+        next: retired.next,
+        done: t.done | bits::any(token, 0x8000),
+        moved: t.moved + moved.bytes,
+        retired: t.retired + 1,
+        dropped: t.dropped + (moved.lost + retired.dropped),
+        stop: false,
+    }
 }
 
 // At most 64 descriptors of endpoint 0's list, from the pointer `first` on.
@@ -135,13 +123,14 @@ fn answer(t: Turn, line: bool) -> Ran
 
 // A run on endpoint 0, towards the device or from it.
 fn run0<S: Side>(windows: &mut Windows<'_>, side: &mut S, flag: bool) -> Ran
-    ensures left { T.RunsOver (D.endpoint 0 S.input) (S.to_send side.old) (S.holds side.old) (S.holds side.new) (Stores·bus (memory_of windows.old) flag) (Stores·bus (memory_of windows.new) result.line) result }
+    ensures left { P.RunsOver (D.endpoint 0 S.input) (S.to_send side.old) (S.holds side.old) (S.holds side.new) (Stores·bus (memory_of windows.old) flag) (Stores·bus (memory_of windows.new) result.line) result }
     ensures same { SameWindows windows.old windows.new }
     ensures held { S.Same side.old side.new }
 {
-    let bit = side.bit();
+    let dir_in = side.is_input();
+    let bit = dtd::bit_of(0, dir_in);
     if bits::any(word_at(windows.registers(), EPSR), bit) {
-        let qh = dtd::qh(windows.registers(), 0, side.is_input());
+        let qh = dtd::qh(windows.registers(), 0, dir_in);
         let first = dtd::next_dtd(windows.view(), qh);
         let t = run_list(windows, side, qh, first);
         let line = dtd::settle(windows, bit, t.next, t.done, flag);
@@ -189,13 +178,7 @@ pub fn run_in(
     ensures left { T.RunsIn (D.endpoint ep true) limit (Stores·bus (memory_of windows.old) flag) (Stores·bus (memory_of windows.new) result.ran.line) out.old out.new at result }
     ensures same { SameWindows windows.old windows.new }
 {
-    match dtd::begin(windows, ep, true, flag) {
-        Ok(descriptor) => {
-            let mut area = Sink { out, at, limit };
-            area.move_bytes(windows, descriptor);
-            let ran = dtd::take_one(windows, descriptor, flag);
-            Filled { ran, at: area.at }
-        }
-        Err(ran) => Filled { ran, at },
-    }
+    let mut area = Sink { out, at, limit };
+    let ran = dtd::run(windows, &mut area, ep, flag);
+    Filled { ran, at: area.at }
 }

@@ -11,12 +11,12 @@ use Rattle.runs.proofs.run0.Goals as goal
 pub returns-then-any-clause-left : goal.returns-then-any-clause-left
 unfolding primed
 returns-then-any-clause-left g c =
-    let up = ap₂ (λ (x y : ℕ). any x y) (sym (rw c.registers.ensures at c.word_at.ensures)) (sym c.bit-bit.ensures) ∙ sym c.any.ensures ∙ c.if-any.true in
+    let up = ap₂ (λ (x y : ℕ). any x y) (sym (rw c.registers.ensures at c.word_at.ensures)) (sym (rw c.is_input-dir_in.ensures at c.bit_of-bit.ensures)) ∙ sym c.any.ensures ∙ c.if-any.true in
     over_as c.answer.ensures
-    (run_loops (endpoint 0 g.S.Side.input) _ _ _ (memory_of c.args.windows.now) _ _ c.args.flag _ _ _ _ refl up (rw (c.registers-then-any.ensures, c.is_input.ensures) at c.qh-qh.ensures) (rw c.view.ensures at c.next_dtd-first.ensures) c.run_list-t.ensures.left (rw c.bit-bit.ensures at c.settle-line.ensures.left))
+    (run_loops (endpoint 0 g.S.Side.input) _ _ _ (memory_of c.args.windows.now) _ _ c.args.flag _ _ _ _ refl up (rw (c.registers-then-any.ensures, c.is_input-dir_in.ensures) at c.qh-qh.ensures) (rw c.view.ensures at c.next_dtd-first.ensures) c.run_list-t.ensures.left (rw (c.bit_of-bit.ensures, c.is_input-dir_in.ensures) at c.settle-line.ensures.left))
 
 pub returns-clause-left : goal.returns-clause-left
 unfolding primed
 returns-clause-left g c =
-    let down = ap₂ (λ (x y : ℕ). any x y) (sym (rw c.registers.ensures at c.word_at.ensures)) (sym c.bit-bit.ensures) ∙ sym c.any.ensures ∙ c.if-any.false in
+    let down = ap₂ (λ (x y : ℕ). any x y) (sym (rw c.registers.ensures at c.word_at.ensures)) (sym (rw c.is_input-dir_in.ensures at c.bit_of-bit.ensures)) ∙ sym c.any.ensures ∙ c.if-any.false in
     over_as c.none_ran.ensures (run_none (endpoint 0 g.S.Side.input) _ _ (memory_of c.args.windows.now) c.args.flag (sized_of c.args.windows.now) down)

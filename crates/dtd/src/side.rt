@@ -1,13 +1,11 @@
-// Where the bytes of a run come from or go: what the host has to send, or an area to fill.
+// Where the bytes of a run come from or go: what the host has to send, or what takes or counts the device's.
 
 ghost use Rattle.std.specs.Prelude.{◌≡◌, ℕ, ◌≤◌, Bool, true, false, List, [], length, refl};
-ghost use Rattle.std.proofs.Common.{◌∙◌};
 ghost use Rattle.bus.specs.Windows.{memory_of, SameWindows};
-ghost use Rattle.dtd.specs.Dtd as D;
-ghost use Rattle.runs.specs.Turns as T;
+ghost use Rattle.dtd.specs.Promises as P;
 
+use crate::Descriptor;
 use bus::Windows;
-use dtd::Descriptor;
 
 // The bytes of one descriptor: how many the run counts, and how many of them were dropped.
 #[derive(Clone, Copy)]
@@ -16,7 +14,7 @@ pub struct Moved {
     pub lost: u32,
 }
 
-// One side of the runs on endpoint 0, which moves the bytes of each active descriptor.
+// One side of the runs, which moves the bytes of each active descriptor.
 pub trait Side {
     ghost input: { Bool };
 
@@ -24,7 +22,7 @@ pub trait Side {
     ghost to_send: { Self → List ℕ };
 
     // What is held at last, by the bytes that the run still gives.
-    ghost holds: { Self → List ℕ → T.Held };
+    ghost holds: { Self → List ℕ → P.Held };
 
     // The same references: what the side holds at last, their lender holds.
     ghost Same: { Self → Self → Type 0 };
@@ -33,14 +31,9 @@ pub trait Side {
     fn is_input(&self) -> bool
         ensures { result ≡ input };
 
-    // Endpoint 0's bit of EPSR.
-    fn bit(&self) -> u32
-        ensures { result ≡ D.bit_of (D.endpoint 0 input) };
-
     // Moves the bytes of an active descriptor.
     fn move_bytes(&mut self, windows: &mut Windows<'_>, descriptor: Descriptor) -> Moved
-        requires { descriptor.token ≡ D.token_of descriptor.pointer (memory_of windows.old) }
-        ensures left { T.Moves (D.endpoint 0 input) descriptor.pointer descriptor.token (to_send self.old) (to_send self.new) (holds self.old) (holds self.new) (memory_of windows.old) (memory_of windows.new) result }
+        ensures left { P.Moves input descriptor (to_send self.old) (to_send self.new) (holds self.old) (holds self.new) (memory_of windows.old) (memory_of windows.new) result }
         ensures same { SameWindows windows.old windows.new }
         ensures held { Same self.old self.new };
 
@@ -60,7 +53,7 @@ impl Side for Source<'_> {
 
     ghost to_send = { λ s. s.bytes.now };
 
-    ghost holds = { λ s. T.nothing };
+    ghost holds = { λ s. P.holds_none };
 
     ghost Same = { λ s u. Unit };
 
@@ -68,12 +61,8 @@ impl Side for Source<'_> {
         false
     }
 
-    fn bit(&self) -> u32 {
-        1
-    }
-
     // An active output descriptor takes what it can of what is left.
-    #[tactic(auto, using(dtd::proofs::Runs::counted_few, crate::proofs::Laws::source_moves, crate::proofs::Laws::part_rest))]
+    #[tactic(auto, using(usbdev::proofs::Tokens::total_lt))]
     fn move_bytes(&mut self, windows: &mut Windows<'_>, descriptor: Descriptor) -> Moved {
         let bytes = self.bytes;
         let count = (usbdev::total(descriptor.token) as usize).min(bytes.len());
@@ -95,51 +84,32 @@ impl Side for Source<'_> {
     ghost same_trans = { λ s u v h k. tt };
 }
 
-// An area to fill from `at` on; what lies past the limit is discarded.
-#[derive(Drop)]
-pub struct Sink<'a> {
-    pub out: &'a mut [u8],
-    pub at: usize,
-    pub limit: usize,
-    ghost inside: { (limit ≤ length out.now) × (at ≤ limit) },
-}
+// Input whose bytes are only counted.
+#[derive(Clone, Copy)]
+pub struct Counted;
 
-impl Side for Sink<'_> {
+impl Side for Counted {
     ghost input = { true };
 
     ghost to_send = { λ s. [] };
 
-    ghost holds = { λ s. T.filled s.out.now s.at s.limit };
+    ghost holds = { λ s. P.holds_none };
 
-    ghost Same = { λ s u. u.out.ghost_name ≡ s.out.ghost_name };
+    ghost Same = { λ s u. Unit };
 
     fn is_input(&self) -> bool {
         true
     }
 
-    fn bit(&self) -> u32 {
-        0x1_0000
-    }
-
-    // The bytes of an active input descriptor go into the area.
-    #[tactic(auto, using(dtd::proofs::Runs::counted_few))]
+    // The bytes stay where they are.
     fn move_bytes(&mut self, windows: &mut Windows<'_>, descriptor: Descriptor) -> Moved {
-        let total = usbdev::total(descriptor.token);
-        let keep = (total as usize).min(self.limit - self.at);
-        let ps = transfer::pointers_for(
-            windows.view(),
-            bits::clear(descriptor.pointer, 0x1F),
-            keep,
-        );
-        transfer::copy_in(windows.view(), &ps, keep, self.out, self.at);
-        self.at = self.at + keep;
         Moved {
-            bytes: total,
+            bytes: usbdev::total(descriptor.token),
             lost: 0,
         }
     }
 
-    ghost same_refl = { λ s. refl };
+    ghost same_refl = { λ s. tt };
 
-    ghost same_trans = { λ s u v h k. k ∙ h };
+    ghost same_trans = { λ s u v h k. tt };
 }
