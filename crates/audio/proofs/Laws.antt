@@ -247,6 +247,11 @@ unprimes_steps s m m' line d =
 
 -- ---- both
 
+-- output can go on from what input left
+pub can_still : (s a₁ : State) (l : List ℕ) → SameOut s a₁ → CanSend s l → CanSend a₁ l
+can_still s a₁ l e can =
+    record { ring = rw e.sending can.ring; block = rw e.block can.block; channels = rw e.channels can.channels }
+
 pub stream_steps : (s a₁ a₂ : State) (m m₁ m₂ : Memory) (l l₁ k : List ℕ) → Hears stream_in s m l a₁ m₁ l₁ → Outputs stream_out a₁ m₁ k a₂ m₂ → Streams streams s m l k a₂ m₂ l₁
 unfolding streams
 stream_steps s a₁ a₂ m m₁ m₂ l l₁ k h o =

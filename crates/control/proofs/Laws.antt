@@ -1,5 +1,5 @@
 -- How the promises of a request's parts compose.
-use Rattle.std.proofs.Common.{◌≡◌, ℕ, ◌+◌, ◌-◌, ◌*◌, Bool, false, List, ◌∙◌, arith}
+use Rattle.std.proofs.Common.{◌≡◌, ℕ, ◌+◌, ◌-◌, ◌*◌, Bool, false, List, ◌∙◌, refl, arith}
 use Rattle.bits.specs.Word as W
 use Rattle.bus.specs.Memory.{Memory, memory, after, dropped32}
 use Rattle.bus.specs.Sized.{Sized}
@@ -10,14 +10,24 @@ use Rattle.usbdev.specs.Offsets.{EPSETUPSR}
 use Rattle.usbdev.specs.Registers.{registers, raising}
 use Rattle.usbdev.specs.Registers as R
 use Rattle.usbdev.proofs.Laws.{Inside, does_page}
+use Rattle.record.specs.declared.Phase.{Phase}
+use Rattle.record.specs.declared.Phase.TheVariants.{Idle, Vbus, Reset, Enumerate, Stream}
 use Rattle.record.specs.declared.State.{State}
 use Rattle.record.specs.Record.{wrapped, with_setups, with_dropped, with_control, with_lengths, with_answer}
 use Rattle.record.specs.World.{lined}
 use Rattle.record.specs.Change.{apply, drained, control, popped, lost}
 use Rattle.record.proofs.Laws.{in_turn, once, on_memory, on_page_lem}
 use Rattle.model.specs.Phases.{now, changing}
-use Rattle.model.specs.Control.{begun, posted}
+use Rattle.model.specs.Control.{begun, posted, enumerating}
 use Rattle.control.specs.Promises.{puts_setup, at_setups, Posts}
+
+-- a phase that is not enumeration
+pub other_phase : (p : Phase) → (p ≡ Enumerate → ⊥) → enumerating p ≡ false
+other_phase Idle k = refl
+other_phase Vbus k = refl
+other_phase Reset k = refl
+other_phase Enumerate k = absurd (k refl)
+other_phase Stream k = refl
 
 -- ---- posting
 

@@ -8,8 +8,8 @@ use lib.Dec.{eqb, leb, ltb}
 use lib.ListN.{length}
 use borrow.Author.Tests.{eqb-true, leb-true, ne_eqb}
 use Rattle.bits.specs.Pick.{pick}
-use Rattle.bus.specs.Sized.{is_sized}
-use Rattle.bus.proofs.Sizes.{and_true}
+use Rattle.bus.specs.Sized.{Sized, is_sized}
+use Rattle.bus.proofs.Sizes.{and_true, is_sized_lem}
 use Rattle.refusal.specs.declared.Refusal.{Refusal}
 use Rattle.refusal.specs.Number.{number}
 use Rattle.midi.specs.declared.Packer.{Packer}
@@ -80,6 +80,9 @@ module _ (h : Host) (l : Lent) (e : frame_number h l ≡ 0) where
   pub accepted_long : Long (length l.reply) (length l.config) (length l.receive) (length l.cables) (length l.received) (length l.sending)
   accepted_long = lengths_long _ _ _ _ _ _ (accepted_tests h l e).lengths
 
+  pub accepted_sized : Sized l.memory
+  accepted_sized = is_sized_lem l.memory (accepted_tests h l e).sized
+
   pub accepted_fit : Fit (state_of h) (length l.sending)
   unfolding bounds_ok sending_length
   accepted_fit =
@@ -139,10 +142,10 @@ module _ (t : ℕ) (s : State) (c : Settings) (packers : List Packer) (o : Own) 
   pub parts_stop : (n ≡ 0 → ⊥) → FramePromise t whole l (sent n f) o l
   parts_stop m = rw u (frame_stops t whole l number_of m)
 
-  pub parts_fit : n ≡ 0 → Fit f (length l.sending) × (c.spans ≤ 16)
-  parts_fit z =
+  pub parts_ask : n ≡ 0 → Sized l.memory × (Long (length l.reply) (length l.config) (length l.receive) (length l.cables) (length l.received) (length l.sending) × (Fit f (length l.sending) × (c.spans ≤ 16)))
+  parts_ask z =
       let none : frame_number whole l ≡ 0 = sym number_of ∙ z in
-      (rw u (accepted_fit whole l none), accepted_spans whole l none)
+      (accepted_sized whole l none, (accepted_long whole l none, (rw u (accepted_fit whole l none), accepted_spans whole l none)))
 
   -- the windows and the areas as two values hold what was lent, and what is left is what they hold
   pub parts_go : n ≡ 0 → {o₁ o₂ o₃ : Own} {l₁ l₂ l₃ : Lent} (s' : State) → Frame t c f o₁ l₁ s' o₂ l₂

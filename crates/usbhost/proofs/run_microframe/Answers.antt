@@ -4,7 +4,7 @@ use Rattle.std.proofs.lemmas.Result.{err_from_is_err_and}
 use Rattle.refusal.specs.Number.{number}
 use Rattle.record.specs.World.{own}
 use Rattle.usbhost.proofs.Laws.{failed, passed, refused}
-use Rattle.usbhost.proofs.Frame.{frame_unsized, frame_tests, parts_stop, parts_fit, parts_go}
+use Rattle.usbhost.proofs.Frame.{frame_unsized, frame_tests, parts_stop, parts_ask, parts_go}
 use Rattle.usbhost.proofs.run_microframe.Goals as goal
 
 pub returns-in_err-accept : goal.returns-in_err-accept
@@ -24,7 +24,7 @@ invariant_of-windows-clause-power c = c.in_ok-accept.ensures.fits.0
 pub microframe-requires : goal.microframe-requires
 microframe-requires c =
     let a = c.args in
-    parts_fit a.time a.s a.c _ (own a.setups.now a.midi.now a.serial.now a.device.now) _ c.unanswered-fresh.ensures (c.in_ok-microframe_passes.ensures.number ∙ frame_tests _ _ _ _ _ (passed _ _ _ c.in_ok-accept.ensures.tested)) refl
+    (parts_ask a.time a.s a.c _ (own a.setups.now a.midi.now a.serial.now a.device.now) _ c.unanswered-fresh.ensures (c.in_ok-microframe_passes.ensures.number ∙ frame_tests _ _ _ _ _ (passed _ _ _ c.in_ok-accept.ensures.tested)) refl).1.1
 
 pub returns : goal.returns
 returns c =
