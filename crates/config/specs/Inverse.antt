@@ -1,4 +1,4 @@
--- Places give their pairs back, which the model of `Pairs` needs for its inverse: pairs, and zeros behind them, are all 256 places.
+-- Places give their pairs back, which the model of `Pairs` needs for its inverse: the pairs, and zeros behind them, are all 256 places.
 use Rattle.std.specs.Prelude.{◌≡◌, ℕ, ◌-◌, List, [], ◌∷◌, ◌++◌, map, length, take, replicate}
 use Rattle.std.proofs.Common.{sym, ap, ◌∙◌, refl, arith}
 use Rattle.std.proofs.lemmas.List.{take-append-drop}
@@ -7,14 +7,14 @@ use lib.Seq.{length-take-le}
 use Rattle.config.specs.Pairs.{pair_of, pair_at, no_pair, listed, placed_in, Holds}
 use Rattle.config.specs.declared.Pair.{Pair}
 
-pub back : (ps : List Pair) → map pair_at (listed ps) ≡ ps
-back [] = refl
-back (p ∷ ps) = ap (λ (l : List Pair). p ∷ l) (back ps)
+pub pairs_back : (ps : List Pair) → map pair_at (listed ps) ≡ ps
+pairs_back [] = refl
+pairs_back (p ∷ ps) = ap (λ (l : List Pair). p ∷ l) (pairs_back ps)
 
-pub held : (places : List Pair) (n : ℕ) → Holds places n → length (listed (take n places)) ≡ n
-held places n h = length-map (take n places) pair_of ∙ length-take-le n places (omega (arith, h.few, h.long))
+pub count_back : (places : List Pair) (n : ℕ) → Holds places n → length (listed (take n places)) ≡ n
+count_back places n h = length-map (take n places) pair_of ∙ length-take-le n places (omega (arith, h.few, h.long))
 
-pub whole : (places : List Pair) (n : ℕ) → Holds places n → placed_in (listed (take n places)) ≡ places
-whole places n h =
-    rw (held places n h)
-    (ap (λ (l : List Pair). l ++ replicate (256 - n) no_pair) (back (take n places)) ∙ ap (λ (l : List Pair). take n places ++ l) (sym h.rest) ∙ take-append-drop n places)
+pub places_back : (places : List Pair) (n : ℕ) → Holds places n → placed_in (listed (take n places)) ≡ places
+places_back places n h =
+    rw (count_back places n h)
+    (ap (λ (l : List Pair). l ++ replicate (256 - n) no_pair) (pairs_back (take n places)) ∙ ap (λ (l : List Pair). take n places ++ l) (sym h.rest) ∙ take-append-drop n places)

@@ -26,7 +26,7 @@ pub struct Pairs {
 impl Model for Pairs {
     ghost use Rattle.std.specs.Prelude.{ℕ, List, length, take, refl};
     ghost use Rattle.config.specs.Pairs.{listed, placed_in, Holds};
-    ghost use Rattle.config.specs.Inverse.{held, whole};
+    ghost use Rattle.config.specs.Inverse.{count_back, places_back};
 
     ghost Value = { List (ℕ × ℕ) };
 
@@ -36,7 +36,7 @@ impl Model for Pairs {
 
     ghost inverse = { λ ps. record { places = placed_in ps; count = length ps } };
 
-    ghost inverse_ok = { λ p h. rw (whole p.places p.count h, held p.places p.count h) refl };
+    ghost inverse_ok = { λ p h. rw (places_back p.places p.count h, count_back p.places p.count h) refl };
 }
 
 impl Pairs {
