@@ -11,7 +11,6 @@ use Rattle.usbdev.specs.Registers.{Registers, registers, PageStore, put, irq, Pa
 use Rattle.usbdev.proofs.Laws.{Inside, done_then}
 use Rattle.gptimers.specs.declared.Timers.{Timers}
 use Rattle.gptimers.specs.Timer.{Timer, ZERO, RUN, RESET, REPEAT, resetting, after_reset, start_of, stopping, expiring, counted, control_of, ticking, ticking_both}
-use Rattle.bits.proofs.Lists.{sets_append}
 use Rattle.record.specs.declared.Phase.{Phase}
 use Rattle.record.specs.declared.State.{State}
 use Rattle.record.specs.Record.{with_lengths, with_setups}
@@ -61,13 +60,7 @@ pub begins_lined : (p : Phase) (w : World) (s s' : State) (q : List ℕ) (l : Bo
     → Leads (enters p) (at_page w (lined s l) q) (at_page w (lined s' l) q)
 begins_lined p w s s' q l e = begins p (at_page w s q) (lined s l) (lined s' l) (ap (λ (x : State). lined x l) e)
 
--- ---- a switch that is asked to stand at b, where it stands at x
-
-pub stood : (b x : Bool) → beq b x ≡ true → x ≡ b
-stood true true e = refl
-stood true false e = e
-stood false true e = sym e
-stood false false e = refl
+-- ---- a switch that is turned
 
 pub turned_on : (x : Bool) → beq true x ≡ false → not x ≡ true
 turned_on true e = sym e
@@ -107,11 +100,6 @@ unfolding ticking_both
 inside_both step ts r =
     inside_then (ticking step 0 ts.zero) (ticking step 1 ts.one) r (inside_ticking step 0 ts.zero r (omega arith))
     (inside_ticking step 1 ts.one (done (ticking step 0 ts.zero) r) (omega arith))
-
--- ---- setups behind others
-
-pub behind : (q q₁ q₂ : List ℕ) (at next : ℕ) (a b : List ℕ) → next ≡ at + length a → q₁ ≡ sets q at a → q₂ ≡ sets q₁ next b → q₂ ≡ sets q at (a ++ b)
-behind q q₁ q₂ at next a b e first second = second ∙ ap₂ (λ (x : List ℕ) (y : ℕ). sets x y b) first e ∙ sym (sets_append q at a b)
 
 -- setups go behind the n that wait
 pub queues : (bs : List ℕ) (w : World) (s : State) (p q q' : List ℕ) (n : ℕ) → s.lengths.setups ≡ n → q' ≡ sets q (8 * n) bs

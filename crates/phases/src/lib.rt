@@ -160,6 +160,7 @@ pub fn asleep(s: State) -> State
 }
 
 // The bus is suspended, or resumed by a port change, where `asleep` differs from what the record says.
+#[tactic(auto, unfolding(model::specs::Phases::suspends, record::specs::Change::nothing, bus::specs::Steps::choose))]
 pub fn suspend_step(mut s: State, page: &mut [u8; PAGE], asleep: bool) -> State
     ensures { Paged (M.suspends asleep) s page.old result page.new }
 {
@@ -226,6 +227,7 @@ pub fn idle(s: State, page: &mut [u8; PAGE]) -> State
 }
 
 // The bus reset, once the firmware runs and VBUS has stood long enough.
+#[tactic(auto, unfolding(model::specs::Phases::powers, record::specs::Change::nothing, bus::specs::Steps::choose))]
 pub fn vbus(s: State, page: &mut [u8; PAGE], running: bool) -> State
     ensures { Paged (M.powers running) s page.old result page.new }
 {
@@ -263,6 +265,7 @@ fn first_setups(setups: &mut [u8; SETUP_BYTES], count: usize)
 }
 
 // The reset is done once the firmware has seen it and it has stood long enough: enumeration starts.
+#[tactic(auto, unfolding(model::specs::Phases::resets, record::specs::Change::nothing, bus::specs::Steps::choose))]
 pub fn reset(s: State, page: &mut [u8; PAGE], setups: &mut [u8; SETUP_BYTES]) -> State
     requires { s.lengths.setups + 4 ≤ Sizes.SETUPS }
     ensures { Queued M.resets s page.old setups.old result page.new setups.new }

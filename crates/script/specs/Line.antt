@@ -1,6 +1,12 @@
 -- The words of a line: numbers and byte strings in lower-case hexadecimal, each behind a space.
-use Rattle.std.specs.Prelude.{ℕ, ◌+◌, ◌-◌, ◌*◌, ◌%◌, ◌^◌, Bool, false, ◌&&◌, Option, None, Some, is_some, unwrap_or, option_map, List, [], ◌∷◌, length, take, drop, ◌==◌, nat_le, nat_lt}
+use Rattle.std.specs.Prelude.{ℕ, ◌+◌, ◌-◌, ◌*◌, ◌%◌, ◌^◌, Bool, false, ◌&&◌, ◌||◌, Option, None, Some, is_some, unwrap_or, option_map, List, [], ◌∷◌, length, take, drop, ◌==◌, nat_le, nat_lt}
 use Rattle.bits.specs.Pick.{pick}
+
+-- the letter that a line begins with, where a space or the end follows it
+abbrev pub letter : List ℕ → Option ℕ
+letter [] = None
+letter (b ∷ []) = pick (b == 0 || b == 32) None (Some b)
+letter (b ∷ c ∷ bs) = pick (b == 0 || b == 32) None (pick (c == 32) (Some b) None)
 
 -- what a character is worth: 0 to 9, and a to f
 abbrev pub digit : ℕ → Option ℕ

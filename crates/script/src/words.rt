@@ -3,7 +3,9 @@ ghost use Rattle.std.specs.Prelude.{◌≡◌, ◌+◌, ◌*◌, ◌/◌, ◌%�
 ghost use Rattle.script.specs.Line as L;
 
 // The letter that a line begins with, where a space or the end follows it.
-pub fn letter(line: &[u8]) -> Option<u8> {
+pub fn letter(line: &[u8]) -> Option<u8>
+    ensures { result ≡ L.letter line.now }
+{
     match line {
         [0 | b' ', ..] => None,
         [first] | [first, b' ', ..] => Some(*first),

@@ -6,7 +6,7 @@ use Rattle.usbdev.specs.Offsets.{PORTSC1}
 use Rattle.record.specs.declared.Phase.TheVariants.{Enumerate}
 use Rattle.record.specs.World.{with_setup_queue}
 use Rattle.model.specs.Phases.{first_setups, resets}
-use Rattle.record.proofs.Laws.{in_turn, by_true, by_false, unchanged}
+use Rattle.record.proofs.Laws.{in_turn, by_true}
 use Rattle.phases.proofs.Laws.{changed_by, begins_lined, queues}
 use Rattle.phases.proofs.reset.Goals as goal
 
@@ -23,8 +23,3 @@ returns-then-waited-seen c =
           (in_turn (begins_lined Enumerate v _ _ _ _ c.enter-next.ensures)
           (queues first_setups w _ _ a.setups.now _ a.s.lengths.setups (ap (λ (x : State). x.lengths.setups) c.enter-next.ensures) c.first_setups.ensures)));
     }
-
-pub returns : goal.returns
-unfolding resets
-returns c =
-    record { leads = λ w. by_false _ _ _ (rw (← c.word_at.ensures, ← c.any-seen.ensures) c.if-waited-seen.false) (unchanged _) }

@@ -1,25 +1,13 @@
 -- `phases::suspend_step` meets its contract.
-use Rattle.std.specs.Bool.{beq}
-use Rattle.std.proofs.Common.{◌≡◌, Bool, true, false, not, List, ℕ, refl, ap, rules, arith}
+use Rattle.std.proofs.Common.{refl, rules, arith}
 use Rattle.bits.specs.Word.{set, clear}
 use Rattle.usbdev.specs.Offsets.{PORTSC1}
-use Rattle.record.specs.declared.State.{State}
 use Rattle.record.specs.Change.{apply}
-use Rattle.record.specs.Did.{Paged}
 use Rattle.model.specs.Phases.{suspends}
-use Rattle.record.proofs.Laws.{in_turn, once, by_true, by_false, unchanged}
-use Rattle.phases.proofs.Laws.{changed_by, stood, turned_on, turned_off}
+use Rattle.record.proofs.Laws.{in_turn, once, by_true}
+use Rattle.phases.proofs.Laws.{changed_by, turned_on, turned_off}
 use Rattle.phases.proofs.suspend_step.Goals as goal
 use Rattle.phases.proofs.suspend_step.Goals.{then-asleep, else-asleep}
-
--- the bus is suspended, or runs, already
-stays : (asleep : Bool) (s : State) (p : List ℕ) → beq asleep s.port.suspended ≡ true → Paged (suspends asleep) s p s p
-unfolding suspends
-stays true s p e = record { leads = λ w. by_false _ _ _ (ap not (stood true _ e)) (unchanged _) }
-stays false s p e = record { leads = λ w. by_false _ _ _ (stood false _ e) (unchanged _) }
-
-pub returns-then-asleep-s : goal.returns-then-asleep-s
-returns-then-asleep-s c = stays c.args.asleep c.args.s c.args.page.now c.if-asleep-s.true
 
 pub returns : goal.returns
 unfolding suspends apply

@@ -4,7 +4,7 @@ use Rattle.bits.specs.Word.{set}
 use Rattle.usbdev.specs.Offsets.{PORTSC1}
 use Rattle.record.specs.declared.Phase.TheVariants.{Reset}
 use Rattle.model.specs.Phases.{powers}
-use Rattle.record.proofs.Laws.{in_turn, by_true, by_false, unchanged}
+use Rattle.record.proofs.Laws.{in_turn, by_true}
 use Rattle.phases.proofs.Laws.{changed_by, begins_lined}
 use Rattle.phases.proofs.vbus.Goals as goal
 
@@ -17,7 +17,3 @@ returns-then-running-waited c =
           (in_turn (changed_by PORTSC1 (λ v. set v 0x100) 0x40 w _ _ _ _ (omega arith) c.change-next.ensures (λ x v p. search rules))
           (begins_lined Reset w _ _ _ _ c.enter-next.ensures));
     }
-
-pub returns : goal.returns
-unfolding powers
-returns c = record { leads = λ w. by_false _ _ _ c.if-running-waited.false (unchanged _) }
