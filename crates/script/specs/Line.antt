@@ -58,6 +58,10 @@ abbrev pub short : Option ℕ → Option ℕ
 short None = None
 short (Some n) = pick (nat_lt n (2 ^ 32)) (Some n) None
 
+-- the second number of a line, of 32 bits
+abbrev pub second : List ℕ → Option ℕ
+second l = short (number (behind (drop 1 l)))
+
 -- the text of a byte string: pairs of characters, or none where it is a dash
 abbrev pub is_dash : List ℕ → Bool
 is_dash [] = false

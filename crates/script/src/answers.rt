@@ -12,6 +12,7 @@ fn glyph(d: u8) -> u8
 }
 
 // How many digits a number has.
+#[tactic(auto, using(std::proofs::lemmas::Nat::leading_le))]
 fn places(n: u64) -> usize
     ensures { (1 ≤ result) × (result ≤ 16) }
 {
@@ -19,6 +20,7 @@ fn places(n: u64) -> usize
 }
 
 // A space and a number.
+#[tactic(auto, using(stdio::proofs::Behind::behind_first))]
 pub fn field(out: &mut Output, n: u64)
     ensures { Behind 17 out.old out.new }
 {
@@ -33,6 +35,7 @@ pub fn field(out: &mut Output, n: u64)
 }
 
 // A number in decimal.
+#[tactic(auto, using(stdio::proofs::Behind::behind_text, stdio::proofs::Behind::behind_le))]
 pub fn decimal(out: &mut Output, n: u64)
     ensures { Behind 20 out.old out.new }
 {
@@ -51,6 +54,7 @@ pub fn decimal(out: &mut Output, n: u64)
 }
 
 // A space and 0 or 1.
+#[tactic(auto, using(stdio::proofs::Behind::behind_first))]
 pub fn flag(out: &mut Output, on: bool)
     ensures { Behind 2 out.old out.new }
 {
@@ -58,6 +62,7 @@ pub fn flag(out: &mut Output, on: bool)
 }
 
 // A byte as two digits.
+#[tactic(auto, using(stdio::proofs::Behind::behind_first))]
 pub fn pair(out: &mut Output, b: u8)
     ensures behind { Behind 2 out.old out.new }
     ensures both { length out.old.bytes + 2 ≤ 65536 → length out.new.bytes ≡ length out.old.bytes + 2 }
@@ -66,6 +71,7 @@ pub fn pair(out: &mut Output, b: u8)
 }
 
 // A letter, one number and the line's end.
+#[tactic(auto, using(stdio::proofs::Behind::behind_byte, stdio::proofs::Behind::behind_then))]
 pub fn single(out: &mut Output, letter: u8, n: u64)
     ensures { Behind 19 out.old out.new }
 {
@@ -74,6 +80,7 @@ pub fn single(out: &mut Output, letter: u8, n: u64)
     out.put(b'\n');
 }
 
+#[tactic(auto, using(stdio::proofs::Behind::behind_text))]
 pub fn bad_line(out: &mut Output)
     ensures { Behind 9 out.old out.new }
 {
@@ -81,6 +88,7 @@ pub fn bad_line(out: &mut Output)
 }
 
 // The number of a refusal.
+#[tactic(auto, using(stdio::proofs::Behind::behind_text, stdio::proofs::Behind::behind_byte, stdio::proofs::Behind::behind_then))]
 pub fn refused(out: &mut Output, refusal: Refusal)
     ensures { Behind 25 out.old out.new }
 {
@@ -90,6 +98,7 @@ pub fn refused(out: &mut Output, refusal: Refusal)
 }
 
 // The answer to a call that gives nothing but its refusal.
+#[tactic(auto, using(stdio::proofs::Behind::behind_text, stdio::proofs::Behind::behind_le))]
 pub fn outcome(out: &mut Output, called: Result<(), Refusal>)
     ensures { Behind 25 out.old out.new }
 {

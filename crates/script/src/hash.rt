@@ -17,6 +17,7 @@ pub fn mixed(h: u64, b: u8) -> u64
 }
 
 // The hash of all bytes of a slice.
+#[tactic(auto, unfolding(crate::specs::Fnv::mixed_all))]
 pub fn hash_all(bytes: &[u8]) -> u64
     ensures { result ≡ F.mixed_all F.START bytes.now }
 {

@@ -1,7 +1,8 @@
 // The lines of a run script that go through the three memory windows: stores, fills and looks. A bad line has no answer, and stores nothing.
-ghost use Rattle.std.specs.Prelude.{◌≡◌, ◌+◌, ◌≤◌, ◌%◌, ◌⊎◌, length, IsSome, IfSome};
+ghost use Rattle.std.specs.Prelude.{◌≡◌, ◌+◌, ◌≤◌, ◌%◌, ◌⊎◌, length, IsSome, IsSomeAnd, IfSome};
 ghost use Rattle.bus.specs.Memory.{shown};
 ghost use Rattle.script.specs.Kept.{Unsized};
+ghost use Rattle.script.specs.Line.{second};
 
 use crate::answers;
 use crate::words::{self, Words};
@@ -35,7 +36,7 @@ fn place_in(length: usize, base: u32, a: u32, count: usize) -> Option<usize>
     }
 }
 
-// The same; bytes that lie together in dynamic memory or on the page are put there at once.
+// Stores the bytes of some digits from the address `a` on: at once where they lie together in dynamic memory or on the page.
 fn store(windows: &mut Windows<'_>, a: u32, digits: &[u8])
     requires { length digits.now % 2 ≡ 0 }
 {
@@ -80,7 +81,7 @@ fn fill(windows: &mut Windows<'_>, a: u32, count: u32, value: u8) {
     }
 }
 
-// `f ADDR COUNT VALUE`; the same.
+// `f ADDR COUNT VALUE`; windows of wrong lengths stay as they are.
 pub fn fill_line(line: &[u8], dynamic: &mut [u8], sram: &mut [u8], page: &mut [u8]) -> Option<()>
     ensures { Unsized (shown dynamic.old sram.old page.old) (shown dynamic.new sram.new page.new) }
 {
@@ -121,7 +122,9 @@ pub fn look_line(
     sram: &[u8],
     page: &[u8],
     out: &mut Output,
-) -> Option<()> {
+) -> Option<()>
+    ensures { IsSome result → IsSomeAnd (second line.now) (λ count. count ≤ 8192) }
+{
     let mut words = Words::new(line);
     let a = words.word()?;
     let count = words.word()?;
