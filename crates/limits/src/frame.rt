@@ -1,7 +1,7 @@
 // A microframe on real areas of the lengths of a case.
 use crate::calls::{Seen, addresses};
 use crate::case::{Field, Row};
-use crate::marks::{MARK, WORD_MARK, changed, word_marks};
+use crate::marks::{MARK, SENDING, WORD_MARK, changed};
 
 // The areas that a microframe may write.
 #[derive(Drop)]
@@ -71,5 +71,5 @@ pub fn microframe(row: &Row) -> Seen {
         cables: [MARK; record::RECEIVE],
         received: [WORD_MARK; 576_012],
     };
-    run(row, &mut areas, &word_marks())
+    run(row, &mut areas, &SENDING)
 }

@@ -17,3 +17,6 @@ pub fn word_marks() -> [u32; 576_012]
 {
     [WORD_MARK; 576_012]
 }
+
+// The sending ring, which a microframe only reads: no array of the stack.
+pub static SENDING: [u32; 576_012] = [WORD_MARK; 576_012];
