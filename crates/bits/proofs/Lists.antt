@@ -18,8 +18,8 @@ pub copied_whole : (to from : List ℕ) → length to ≡ length from → take (
 copied_whole to from e = let all : length to ≤ length from = omega arith in ap₂ ◌++◌ (take-length from) (drop_of_length-le to all) ∙ append-nil from
 
 -- a part of a list that is put back as another one is the stores of that
-pub put_sets : (d s l : List ℕ) (i : ℕ) → i + length s ≤ length d → l ≡ s → put_mid i (i + length s - i) d l ≡ sets d i s
-put_sets d s l i inside is =
-    ap (λ (x : List ℕ). put_mid i (i + length s - i) d x) is
-    ∙ ap (λ (x : List ℕ). take i d ++ (s ++ x)) (Post-is i (i + length s) d (omega arith))
+pub put_sets : {A : Type 0} (d s l : List A) (i : ℕ) → i + length s ≤ length d → l ≡ s → put_mid i (i + length s - i) d l ≡ sets d i s
+put_sets {A} d s l i inside is =
+    ap (λ (x : List A). put_mid i (i + length s - i) d x) is
+    ∙ ap (λ (x : List A). take i d ++ (s ++ x)) (Post-is i (i + length s) d (omega arith))
     ∙ sym (append_assoc (take i d) s (drop (i + length s) d)) ∙ sym (sets-eq s d i inside)

@@ -5,21 +5,15 @@ ghost use Rattle.std.specs.Prelude.{◌≡◌, Bool, ℕ, ◌<◌};
 ghost use Rattle.record.specs.Sizes as Sizes;
 ghost use Rattle.bounds.specs.Bounds as B;
 
-use gptimers::Timers;
+use gptimers::{Timers, ZERO};
 use midi::{CABLES, Packer};
 use record::{
-    Audio, Control, Counter, DEVICE, Lengths, Phase, QUEUE, Ring, SETUP_BYTES, SETUPS, State,
-    word_from,
+    Audio, Control, Counter, DEVICE, GET_CONFIGURATION, GET_DEVICE, Lengths, Phase, QUEUE, Ring,
+    SET_ADDRESS, SET_CONFIGURATION, SET_INTERFACE, SETUP_BYTES, SETUPS, State, word_from,
 };
-
-// A configuration request's first word: 80 06 00 02.
-const ASKS_CONFIGURATION: u32 = 0x0200_0680;
 
 // The most microframes of a host.
 const MOST: u64 = 0x100_0000_0000;
-
-// The count that stands for 0 in a timer.
-const ZERO: u64 = 0x4_0000_0000_0000;
 
 // Whether a test holds of each number below n. Every number is tested, so that no branch waits for an answer.
 fn every<F: Fn(usize) -> bool>(n: usize, test: F) -> bool
@@ -37,12 +31,12 @@ fn every<F: Fn(usize) -> bool>(n: usize, test: F) -> bool
 pub fn made(first: u32, second: u32) -> bool
     ensures { result ≡ B.made first second }
 {
-    let device = (first == 0x0100_0680) & ((second == 0x0040_0000) | (second == 0x0012_0000));
-    let address = (first == 0x0007_0500) & (second == 0);
-    let configuration = (first == ASKS_CONFIGURATION) & (second % 0x1_0000 == 0);
-    let set = (first == 0x0001_0900) & (second == 0);
+    let device = (first == GET_DEVICE) & ((second == 0x0040_0000) | (second == 0x0012_0000));
+    let address = (first == SET_ADDRESS) & (second == 0);
+    let configuration = (first == GET_CONFIGURATION) & (second % 0x1_0000 == 0);
+    let set = (first == SET_CONFIGURATION) & (second == 0);
     let alternate = first / 0x1_0000;
-    let interface = ((first % 0x1_0000 == 0x0B01) & ((0 < alternate) & (alternate < 256)))
+    let interface = ((first % 0x1_0000 == SET_INTERFACE) & ((0 < alternate) & (alternate < 256)))
         & (second < 256);
     device | (address | (configuration | (set | interface)))
 }
@@ -67,7 +61,7 @@ pub fn setups_ok(n: usize, setups: &[u8; SETUP_BYTES]) -> bool
     }
     let each = every(n, |i| made_at(setups, i));
     let last = every(n.saturating_sub(1), |i| {
-        word_from(setups, 8 * i) != ASKS_CONFIGURATION
+        word_from(setups, 8 * i) != GET_CONFIGURATION
     });
     each & last
 }
@@ -90,7 +84,7 @@ pub fn request_ok(c: Control, waiting: usize, uf: u64) -> bool
         return true;
     }
     let known = made(c.first, c.second);
-    let alone = !(c.first == ASKS_CONFIGURATION) | (waiting == 0);
+    let alone = !(c.first == GET_CONFIGURATION) | (waiting == 0);
     let asked = (c.second / 0x1_0000) as usize;
     known & (alone & ((c.t0 <= uf) & (c.got <= asked)))
 }

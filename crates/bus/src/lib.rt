@@ -1,4 +1,4 @@
-// The three windows of memory: reads and writes of bytes and of big-endian words; bytes stored in an area.
+// The three windows of memory: reads and writes of bytes and of big-endian words; items stored in an area.
 #![tactic(auto)]
 
 ghost use Rattle.std.specs.Prelude.{◌≡◌, ℕ, ◌+◌, ◌≤◌, length, OnOk};
@@ -179,9 +179,9 @@ pub fn checked_poke32(
     Ok(windows.poke32(a, v))
 }
 
-// Stores bytes in an area, from a place on.
+// Stores items in an area, from a place on.
 #[tactic(auto, using(bits::proofs::Lists::put_sets))]
-pub fn put_bytes(area: &mut [u8], at: usize, source: &[u8])
+pub fn put_all<T: Copy>(area: &mut [T], at: usize, source: &[T])
     requires { at + length source.now ≤ length area.old }
     ensures { area.new ≡ sets area.old at source.now }
 {

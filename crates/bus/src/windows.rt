@@ -7,7 +7,6 @@ ghost use Rattle.bus.specs.Sized as S;
 
 use crate::{PAGE, Place, SRAM, accept, locate, put_at, word, word_at};
 use refusal::Refusal;
-use std::num::wrapping_add_u32;
 
 // The three windows to read: what dynamic memory's length may be is a fact about the value, and the other two are arrays.
 #[derive(Clone, Copy)]
@@ -56,9 +55,9 @@ impl<'a> View<'a> {
         ensures { result ≡ M.peek32 (viewed self.entry) a }
     {
         let b0 = self.peek8(a);
-        let b1 = self.peek8(wrapping_add_u32(a, 1));
-        let b2 = self.peek8(wrapping_add_u32(a, 2));
-        let b3 = self.peek8(wrapping_add_u32(a, 3));
+        let b1 = self.peek8(a.wrapping_add(1));
+        let b2 = self.peek8(a.wrapping_add(2));
+        let b3 = self.peek8(a.wrapping_add(3));
         word(b0, b1, b2, b3)
     }
 
@@ -155,9 +154,9 @@ impl<'a> Windows<'a> {
         ensures value { result ≡ M.dropped32 a }
     {
         let n0 = self.poke8(a, (v / 0x100_0000) as u8);
-        let n1 = self.poke8(wrapping_add_u32(a, 1), (v / 0x1_0000 % 256) as u8);
-        let n2 = self.poke8(wrapping_add_u32(a, 2), (v / 0x100 % 256) as u8);
-        let n3 = self.poke8(wrapping_add_u32(a, 3), (v % 256) as u8);
+        let n1 = self.poke8(a.wrapping_add(1), (v / 0x1_0000 % 256) as u8);
+        let n2 = self.poke8(a.wrapping_add(2), (v / 0x100 % 256) as u8);
+        let n3 = self.poke8(a.wrapping_add(3), (v % 256) as u8);
         n0 + n1 + n2 + n3
     }
 

@@ -158,7 +158,7 @@ fn packet_size(x: &[u8]) -> u32
     requires { 7 ≤ length x.now }
     ensures { result ≡ packet_size x.now }
 {
-    (u32::from(x[4]) + u32::from(x[5]) * 256) & 0x7FF
+    u32::from(u16::from_le_bytes([x[4], x[5]])) & 0x7FF
 }
 
 // The walk over the descriptors: the interface being read, and the choice so far.

@@ -15,7 +15,6 @@ mod side;
 use crate::side::Counted;
 pub use crate::side::{Moved, Side, Source};
 use bus::{PAGE, View, Windows, put_at, word_at};
-use std::num::wrapping_add_u32;
 use usbdev::{EPCOMPLETE, EPLISTADDR, EPSR, FRINDEX};
 
 // An active descriptor: the queue head of its endpoint, the pointer that names it, its token, and the endpoint's bit of EPSR.
@@ -53,9 +52,9 @@ pub fn qh(page: &[u8; PAGE], ep: u32, dir_in: bool) -> u32
 pub fn next_dtd(view: View<'_>, qh: u32) -> u32
     ensures { result ≡ D.next_of qh (viewed view.entry) }
 {
-    let next = view.peek32(wrapping_add_u32(qh, 8));
+    let next = view.peek32(qh.wrapping_add(8));
     if bits::any(next, 1) {
-        let current = bits::clear(view.peek32(wrapping_add_u32(qh, 4)), 0x1F);
+        let current = bits::clear(view.peek32(qh.wrapping_add(4)), 0x1F);
         if current == 0 {
             return 1;
         }
@@ -69,7 +68,7 @@ pub fn next_dtd(view: View<'_>, qh: u32) -> u32
 pub fn token_of(view: View<'_>, n: u32) -> u32
     ensures { result ≡ D.token_of n (viewed view.entry) }
 {
-    view.peek32(wrapping_add_u32(bits::clear(n, 0x1F), 4))
+    view.peek32(bits::clear(n, 0x1F).wrapping_add(4))
 }
 
 // The endpoint's bit of EPSR and EPCOMPLETE.
@@ -116,12 +115,12 @@ fn close(windows: &mut Windows<'_>, descriptor: Descriptor, moved: u32) -> u32
 {
     let td = bits::clear(descriptor.pointer, 0x1F);
     let token = usbdev::token_after(descriptor.token, moved);
-    let n0 = windows.poke32(wrapping_add_u32(td, 4), token);
-    let second = windows.peek32(wrapping_add_u32(td, 12));
+    let n0 = windows.poke32(td.wrapping_add(4), token);
+    let second = windows.peek32(td.wrapping_add(12));
     let frame = word_at(windows.registers(), FRINDEX) / 8;
     let framed = bits::replace(second, 0x7FF, frame);
-    let n1 = windows.poke32(wrapping_add_u32(td, 12), framed);
-    let n2 = windows.poke32(wrapping_add_u32(descriptor.queue_head, 4), td);
+    let n1 = windows.poke32(td.wrapping_add(12), framed);
+    let n2 = windows.poke32(descriptor.queue_head.wrapping_add(4), td);
     n0 + (n1 + n2)
 }
 
@@ -151,9 +150,9 @@ fn advance(windows: &mut Windows<'_>, descriptor: Descriptor) -> Retired
 {
     let td = bits::clear(descriptor.pointer, 0x1F);
     let next = windows.peek32(td);
-    let n0 = windows.poke32(wrapping_add_u32(descriptor.queue_head, 8), next);
-    let copy = windows.peek32(wrapping_add_u32(td, 4));
-    let n1 = windows.poke32(wrapping_add_u32(descriptor.queue_head, 12), copy);
+    let n0 = windows.poke32(descriptor.queue_head.wrapping_add(8), next);
+    let copy = windows.peek32(td.wrapping_add(4));
+    let n1 = windows.poke32(descriptor.queue_head.wrapping_add(12), copy);
     complete(windows.page, descriptor.token, descriptor.bit);
     Retired {
         next,

@@ -11,14 +11,9 @@ ghost use Rattle.record.specs.Sizes as Sizes;
 ghost use Rattle.finished.specs.Promises as P;
 
 use config::{OutBlock, Pair};
-use record::{Audio, Control, DEVICE, SETUP_BYTES, State};
-
-// The first words of the setups that are made here: a configuration request, set configuration 1, and set interface without its alternate.
-const GET_CONFIGURATION: u32 = 0x0200_0680;
-
-const SET_CONFIGURATION: u32 = 0x0001_0900;
-
-const SET_INTERFACE: u32 = 0x0B01;
+use record::{
+    Audio, Control, DEVICE, GET_CONFIGURATION, SET_CONFIGURATION, SET_INTERFACE, SETUP_BYTES, State,
+};
 
 // A configuration reply of this length is a header.
 const HEADER: usize = 9;
@@ -44,15 +39,16 @@ fn keep(descriptor: &mut [u8], reply: &[u8], count: usize)
     requires { (count ≤ length reply.now) × (count ≤ length descriptor.old) }
     ensures { descriptor.new ≡ sets descriptor.old 0 (take count reply.now) }
 {
-    bus::put_bytes(descriptor, 0, &reply[..count]);
+    bus::put_all(descriptor, 0, &reply[..count]);
 }
 
 // A header's total length is asked for; no setup waits.
+#[tactic(auto, using(crate::proofs::Laws::whole_asked))]
 fn ask_whole(s: State, setups: &mut [u8; SETUP_BYTES], reply: &[u8]) -> State
     requires { (s.lengths.setups ≡ 0) × (4 ≤ length reply.now) }
     ensures { (d c : List ℕ) → P.Brings C.asks_whole s setups.old d reply.now c result setups.new d c }
 {
-    let total = u32::from(reply[2]) + u32::from(reply[3]) * 256;
+    let total = u32::from(u16::from_le_bytes([reply[2], reply[3]]));
     record::put_setup(setups, 0, GET_CONFIGURATION, total * 0x1_0000);
     let mut next = s;
     next.lengths.setups = 1;

@@ -9,10 +9,10 @@ ghost use Rattle.transfer.specs.Checked as C;
 ghost use Rattle.meter.specs.Meter.{metered, metering, answered};
 
 use bus::{PAGE, SRAM, View, Windows};
-use transfer::{accept, copy_in, copy_out, pointers_for};
+use transfer::{accept, accept_area, copy_in, copy_out, pointers_for};
 
 // Copies the first total bytes of the dTD at td to the start of out; answers 0 or the number of its refusal.
-#[tactic(auto, unfolding(crate::specs::Meter::metered, transfer::specs::Checked::checked_received))]
+#[tactic(auto, unfolding(crate::specs::Meter::metered, transfer::specs::Checked::checked_received, transfer::specs::Checked::refusal))]
 #[unsafe(no_mangle)]
 pub extern "C" fn meter_in(
     dynamic: &[u8],
@@ -24,16 +24,13 @@ pub extern "C" fn meter_in(
 ) -> u8
     ensures { (result ≡ C.refusal (shown dynamic.now sram.now page.now) 0 total (length out.old)) × (out.new ≡ metered (shown dynamic.now sram.now page.now) td total out.old) }
 {
-    if let Err(refusal) = accept(dynamic, sram, page, 0, total, out.len()) {
+    let view = match View::of(dynamic, sram, page) {
+        Ok(view) => view,
+        Err(refusal) => return refusal.number(),
+    };
+    if let Err(refusal) = accept_area(0, total, out.len()) {
         return refusal.number();
     }
-    let sram = sram.as_array::<SRAM>().unwrap();
-    let page = page.as_array::<PAGE>().unwrap();
-    let view = View {
-        dynamic,
-        sram,
-        page,
-    };
     let pointers = pointers_for(view, td, total);
     copy_in(view, &pointers, total, out, 0);
     0

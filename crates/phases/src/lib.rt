@@ -12,7 +12,9 @@ ghost use Rattle.phases.specs.Promises.{Changed, Queued};
 ghost use Rattle.record.specs.Sizes as Sizes;
 
 use bus::{PAGE, put_at, word_at};
-use record::{Counter, Phase, SETUP_BYTES, Span, State};
+use record::{
+    Counter, GET_CONFIGURATION, GET_DEVICE, Phase, SET_ADDRESS, SETUP_BYTES, Span, State,
+};
 use usbdev::{FRINDEX, OTGSC, PORTSC1, USBSTS};
 
 // Bits of USBSTS: port change, bus reset, start of frame, suspend (SLI).
@@ -258,10 +260,10 @@ fn first_setups(setups: &mut [u8; SETUP_BYTES], count: usize)
     requires { count + 4 ≤ Sizes.SETUPS }
     ensures { setups.new ≡ sets setups.old (8 * count) M.first_setups }
 {
-    record::put_setup(setups, count, 0x0100_0680, 0x0040_0000);
-    record::put_setup(setups, count + 1, 0x0007_0500, 0);
-    record::put_setup(setups, count + 2, 0x0100_0680, 0x0012_0000);
-    record::put_setup(setups, count + 3, 0x0200_0680, 0x0009_0000);
+    record::put_setup(setups, count, GET_DEVICE, 0x0040_0000);
+    record::put_setup(setups, count + 1, SET_ADDRESS, 0);
+    record::put_setup(setups, count + 2, GET_DEVICE, 0x0012_0000);
+    record::put_setup(setups, count + 3, GET_CONFIGURATION, 0x0009_0000);
 }
 
 // The reset is done once the firmware has seen it and it has stood long enough: enumeration starts.

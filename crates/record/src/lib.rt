@@ -32,6 +32,17 @@ pub const RING_FRAMES: usize = 48_000;
 
 pub const RING: usize = RING_FRAMES * Audio::CHANNELS;
 
+// The first words of the setups that are made: get the device or the configuration descriptor, set address 7, configuration 1, an interface.
+pub const GET_DEVICE: u32 = 0x0100_0680;
+
+pub const GET_CONFIGURATION: u32 = 0x0200_0680;
+
+pub const SET_ADDRESS: u32 = 0x0007_0500;
+
+pub const SET_CONFIGURATION: u32 = 0x0001_0900;
+
+pub const SET_INTERFACE: u32 = 0x0B01;
+
 // What the host waits for (usbhost.rs 177-190).
 #[derive(Clone, Copy, Debug, PartialEq, Eq)]
 pub enum Phase {

@@ -2,6 +2,7 @@
 #![tactic(auto)]
 
 ghost use Rattle.std.specs.Prelude.{◌≡◌, ℕ, ◌+◌, ◌*◌, ◌/◌, ◌%◌, ◌<◌, ◌≤◌, Bool, length, OnOk};
+ghost use Rattle.bits.specs.Pick.{pick};
 ghost use Rattle.bus.specs.Windows.{viewed, memory_of, SameWindows};
 ghost use Rattle.refusal.specs.Number.{number_of};
 ghost use Rattle.bus.specs.Checked.{poked_of};
@@ -16,22 +17,21 @@ ghost use Rattle.transfer.specs.Checked as C;
 
 use bus::{PAGE, Place, SRAM, View, Windows, locate};
 use refusal::{Refusal, unless};
-use std::num::wrapping_add_u32;
 
 // The nine page pointers of the dTD at td.
 #[tactic(auto, unfolding(crate::specs::Transfer::pointers, bus::specs::Memory::after))]
 pub fn pointers(view: View<'_>, td: u32) -> [u32; 9]
     ensures { result ≡ T.pointers (viewed view.entry) td }
 {
-    let p0 = view.peek32(wrapping_add_u32(td, 8));
-    let p1 = view.peek32(wrapping_add_u32(td, 12));
-    let p2 = view.peek32(wrapping_add_u32(td, 16));
-    let p3 = view.peek32(wrapping_add_u32(td, 20));
-    let p4 = view.peek32(wrapping_add_u32(td, 24));
-    let p5 = view.peek32(wrapping_add_u32(td, 28));
-    let p6 = view.peek32(wrapping_add_u32(td, 32));
-    let p7 = view.peek32(wrapping_add_u32(td, 36));
-    let p8 = view.peek32(wrapping_add_u32(td, 40));
+    let p0 = view.peek32(td.wrapping_add(8));
+    let p1 = view.peek32(td.wrapping_add(12));
+    let p2 = view.peek32(td.wrapping_add(16));
+    let p3 = view.peek32(td.wrapping_add(20));
+    let p4 = view.peek32(td.wrapping_add(24));
+    let p5 = view.peek32(td.wrapping_add(28));
+    let p6 = view.peek32(td.wrapping_add(32));
+    let p7 = view.peek32(td.wrapping_add(36));
+    let p8 = view.peek32(td.wrapping_add(40));
     [p0, p1, p2, p3, p4, p5, p6, p7, p8]
 }
 
@@ -41,12 +41,12 @@ pub fn pointers_for(view: View<'_>, td: u32, total: usize) -> [u32; 9]
     requires { total ≤ 32767 }
     ensures { result ≡ T.pointers_for (viewed view.entry) td total }
 {
-    let p0 = view.peek32(wrapping_add_u32(td, 8));
+    let p0 = view.peek32(td.wrapping_add(8));
     let end = (p0 % 4096) as usize + total;
     let mut ps = [0u32; 9];
     ps[0] = p0;
     for i in 1..end / 4096 + 1 {
-        ps[i] = view.peek32(wrapping_add_u32(td, 8 + 4 * (i as u32)));
+        ps[i] = view.peek32(td.wrapping_add(8 + 4 * (i as u32)));
     }
     ps
 }
@@ -171,6 +171,16 @@ pub fn copy_out(windows: &mut Windows<'_>, pointers: &[u32; 9], source: &[u8], n
     lost
 }
 
+// Accepts n bytes from index at on of an area of size bytes: number 2 where it has not so many, or no transfer has.
+pub fn accept_area(at: usize, n: usize, size: usize) -> Result<(), Refusal>
+    ensures number { number_of result ≡ pick (C.fits at n size) 0 2 }
+    ensures inside { OnOk result ((n ≤ 32767) × (at + n ≤ size)) }
+{
+    unless(n <= 32767, Refusal::Areas)?;
+    unless(n <= size, Refusal::Areas)?;
+    unless(at <= size - n, Refusal::Areas)
+}
+
 // Accepts a move of n bytes from index at on of an area of size bytes.
 #[tactic(auto, using(crate::proofs::Checked::accepted), unfolding(crate::specs::Checked::refusal))]
 pub fn accept(
@@ -186,13 +196,11 @@ pub fn accept(
     ensures windows { OnOk result (Accepted (shown dynamic.now sram.now page.now)) }
 {
     bus::accept(dynamic, sram, page)?;
-    unless(n <= 32767, Refusal::Areas)?;
-    unless(n <= size, Refusal::Areas)?;
-    unless(at <= size - n, Refusal::Areas)
+    accept_area(at, n, size)
 }
 
 // Copies the first n bytes of a transfer to out, from index at on, for windows and an area of any lengths. A refusal leaves out as it was.
-#[tactic(auto, unfolding(crate::specs::Checked::checked_received))]
+#[tactic(auto, unfolding(crate::specs::Checked::checked_received, crate::specs::Checked::refusal))]
 pub fn checked_copy_in(
     dynamic: &[u8],
     sram: &[u8],
@@ -204,20 +212,14 @@ pub fn checked_copy_in(
 ) -> Result<(), Refusal>
     ensures { (number_of result ≡ C.refusal (shown dynamic.now sram.now page.now) at n (length out.old)) × (out.new ≡ C.checked_received (shown dynamic.now sram.now page.now) pointers.now n out.old at) }
 {
-    accept(dynamic, sram, page, at, n, out.len())?;
-    let sram = sram.as_array::<SRAM>().unwrap();
-    let page = page.as_array::<PAGE>().unwrap();
-    let view = View {
-        dynamic,
-        sram,
-        page,
-    };
+    let view = View::of(dynamic, sram, page)?;
+    accept_area(at, n, out.len())?;
     copy_in(view, pointers, n, out, at);
     Ok(())
 }
 
 // Fills out with the bytes of a transfer from byte start on, for windows and an area of any lengths. A refusal leaves out as it was.
-#[tactic(auto, unfolding(crate::specs::Checked::checked_from))]
+#[tactic(auto, unfolding(crate::specs::Checked::checked_from, crate::specs::Checked::refusal))]
 pub fn checked_copy_part(
     dynamic: &[u8],
     sram: &[u8],
@@ -228,14 +230,8 @@ pub fn checked_copy_part(
 ) -> Result<(), Refusal>
     ensures { (number_of result ≡ C.refusal (shown dynamic.now sram.now page.now) start (length out.old) 32767) × (out.new ≡ C.checked_from (shown dynamic.now sram.now page.now) pointers.now start out.old) }
 {
-    accept(dynamic, sram, page, start, out.len(), 32767)?;
-    let sram = sram.as_array::<SRAM>().unwrap();
-    let page = page.as_array::<PAGE>().unwrap();
-    let view = View {
-        dynamic,
-        sram,
-        page,
-    };
+    let view = View::of(dynamic, sram, page)?;
+    accept_area(start, out.len(), 32767)?;
     copy_part(view, pointers, start, out);
     Ok(())
 }

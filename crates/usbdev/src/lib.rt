@@ -82,7 +82,7 @@ fn half_at(page: &[u8; PAGE], off: usize) -> u32
     requires { off + 2 ≤ Sizes.PAGE }
     ensures { result ≡ Access.half_at page.now off }
 {
-    u32::from(page[off]) * 256 + u32::from(page[off + 1])
+    u32::from(u16::from_be_bytes([page[off], page[off + 1]]))
 }
 
 // A four-byte read.
@@ -188,8 +188,7 @@ fn put_half(page: &mut [u8; PAGE], off: usize, v: u32)
     requires { off + 2 ≤ Sizes.PAGE }
     ensures { page.new ≡ Access.half_put page.old off v }
 {
-    page[off] = (v / 256 % 256) as u8;
-    page[off + 1] = (v % 256) as u8;
+    bus::put_all(page, off, &((v % 0x1_0000) as u16).to_be_bytes());
 }
 
 // An accepted write.
@@ -228,7 +227,7 @@ pub fn write(page: &mut [u8], off: u32, size: u32, v: u32, flag: bool) -> Result
 pub fn next_frindex(fr: u32, step: u32) -> u32
     ensures { result ≡ T.next_frindex step fr }
 {
-    std::num::wrapping_add_u32(fr, step) % 0x4000
+    fr.wrapping_add(step) % 0x4000
 }
 
 // The bytes that a token's descriptor is still to move.

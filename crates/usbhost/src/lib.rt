@@ -2,7 +2,6 @@
 #![tactic(auto)]
 
 ghost use Rattle.std.specs.Prelude.{◌≡◌, ◌&&◌, ◌++◌, ℕ, ◌+◌, ◌-◌, ◌*◌, ◌≤◌, length, take, drop, replicate, eqb, leb, ltb, IfOk, OnOk};
-ghost use Rattle.std.proofs.lemmas.List.Edits.{sets};
 ghost use Rattle.refusal.specs.Number.{number_of};
 ghost use Rattle.usbdev.specs.Access.{fits, read_sized};
 ghost use Rattle.usbdev.specs.Answers.{value_of};
@@ -68,14 +67,6 @@ pub struct Framed {
 pub struct MidiSent {
     pub state: State,
     pub packers: [Packer; CABLES],
-}
-
-// Stores words from a place on.
-fn put_words(ring: &mut [u32], at: usize, words: &[u32])
-    requires { at + length words.now ≤ length ring.old }
-    ensures { ring.new ≡ sets ring.old at words.now }
-{
-    ring[at..at + words.len()].copy_from_slice(words);
 }
 
 // The frame of twelve words at a place.
@@ -274,7 +265,7 @@ pub fn send_serial(
     record_passes(s, spans, packers, setups)?;
     let held = s.lengths.serial;
     refusal::unless(bytes.len() <= QUEUE - held, Refusal::Space)?;
-    bus::put_bytes(serial, held, bytes);
+    bus::put_all(serial, held, bytes);
     let mut next = s;
     next.lengths.serial = held + bytes.len();
     Ok(next)
@@ -327,7 +318,7 @@ pub fn give_frame(
     let start = s.audio.sending.start;
     let held = s.audio.sending.len;
     let at = (start + held) % capacity * Host::CHANNELS;
-    put_words(sending, at, frame);
+    bus::put_all(sending, at, frame);
     let mut next = s;
     next.audio.sending.len = held + 1;
     Ok(next)

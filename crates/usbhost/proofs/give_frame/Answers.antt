@@ -29,8 +29,8 @@ overflow_mul-at c =
     let g = gives a.s a.spans a.packers a.setups.now a.frame.now a.sending.now c.in_ok-give_passes.ensures refl in
     omega (arith, newest_inside a.s a.spans a.packers a.setups.now a.frame.now a.sending.now c.in_ok-give_passes.ensures refl, g.most)
 
-pub put_words-requires : goal.put_words-requires
-put_words-requires c =
+pub put_all-requires : goal.put_all-requires
+put_all-requires c =
     let a = c.args in
     let g = gives a.s a.spans a.packers a.setups.now a.frame.now a.sending.now c.in_ok-give_passes.ensures refl in
     omega (arith, newest_inside a.s a.spans a.packers a.setups.now a.frame.now a.sending.now c.in_ok-give_passes.ensures refl, g.whole)
@@ -44,4 +44,4 @@ overflow_add-next c =
 pub returns : goal.returns
 returns c =
     let a = c.args in
-    give_goes a.s a.spans a.packers a.setups.now a.frame.now a.sending.now c.in_ok-give_passes.ensures refl _ c.put_words.ensures
+    give_goes a.s a.spans a.packers a.setups.now a.frame.now a.sending.now c.in_ok-give_passes.ensures refl _ c.put_all.ensures

@@ -26,8 +26,8 @@ returns-in_err-unless c =
     let more = leb-false _ _ f.0 in
     rw (p.1, p.2, f.1) (serial_full a.s a.spans a.packers a.bytes.now a.setups.now a.serial.now c.in_ok-record_passes.ensures refl (omega (arith, few, more)))
 
-pub put_bytes-requires : goal.put_bytes-requires
-put_bytes-requires c =
+pub put_all-requires : goal.put_all-requires
+put_all-requires c =
     let a = c.args in
     let few = serial_few a.s a.spans a.packers a.bytes.now a.setups.now a.serial.now c.in_ok-record_passes.ensures refl in
     let room = leb-true _ _ (passed _ _ _ c.in_ok-unless.ensures) in
@@ -38,4 +38,4 @@ returns c =
     let a = c.args in
     let few = serial_few a.s a.spans a.packers a.bytes.now a.setups.now a.serial.now c.in_ok-record_passes.ensures refl in
     let room = leb-true _ _ (passed _ _ _ c.in_ok-unless.ensures) in
-    serial_goes a.s a.spans a.packers a.bytes.now a.setups.now a.serial.now c.in_ok-record_passes.ensures refl (omega (arith, few, room)) _ c.put_bytes.ensures
+    serial_goes a.s a.spans a.packers a.bytes.now a.setups.now a.serial.now c.in_ok-record_passes.ensures refl (omega (arith, few, room)) _ c.put_all.ensures
