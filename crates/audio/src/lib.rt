@@ -178,7 +178,7 @@ fn send_block(s: State, windows: &mut Windows<'_>, sending: &[u32], descriptor: 
     ensures left { P.Outputs Steps.stream_out s (memory_of windows.old) sending.now result (memory_of windows.new) }
     ensures same { SameWindows windows.old windows.new }
 {
-    let mut block = [0u8; 2048];
+    let mut block = [0u8; sending::LONGEST];
     let channels = s.audio.channels as usize;
     let capacity = sending.len() / Audio::CHANNELS;
     let ring = s.audio.sending;

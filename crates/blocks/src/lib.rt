@@ -45,9 +45,8 @@ fn pushed(ring: Ring) -> Ring
 
 // Frame f of a block goes to a place of the received ring.
 #[tactic(auto, using(crate::proofs::Laws::wording_step, crate::proofs::Laws::wording_end, crate::proofs::Laws::word_of))]
-fn decode_frame(block: &[u8], f: usize, received: &mut [u32; RING], at: usize)
-    requires block_len { (length block.now ≡ 368) × (f < 7) }
-    requires at_bound { at < Sizes.FRAMES }
+fn decode_frame(block: &[u8; Audio::BLOCK], f: usize, received: &mut [u32; RING], at: usize)
+    requires { (f < 7) × (at < Sizes.FRAMES) }
     ensures { received.new ≡ sets received.old (at * 12) (words_of (take 48 (drop (48 * f) (drop 32 block.now)))) }
 {
     for c in 0..Audio::CHANNELS {
@@ -59,9 +58,8 @@ fn decode_frame(block: &[u8], f: usize, received: &mut [u32; RING], at: usize)
 }
 
 // The seven frames of a block go behind those in the received ring.
-fn decode_frames(block: &[u8], received: &mut [u32; RING], before: Ring) -> Ring
-    requires block_len { length block.now ≡ 368 }
-    requires in_ring { InRing before }
+fn decode_frames(block: &[u8; Audio::BLOCK], received: &mut [u32; RING], before: Ring) -> Ring
+    requires { InRing before }
     ensures { KeepsFrames (drop 32 block.now) before received.old result received.new }
 {
     let mut ring = before;

@@ -6,7 +6,7 @@ use Rattle.refusal.specs.Number.{number}
 use Rattle.bus.specs.Sized.{PAGE}
 use Rattle.usbdev.specs.Registers.{Registers, done}
 use Rattle.gptimers.specs.declared.Timers.{Timers}
-use Rattle.gptimers.specs.declared.TimedBoth.{TimedBoth}
+use Rattle.gptimers.specs.declared.Timed.{Timed}
 use Rattle.gptimers.specs.Timer.{STEP, in_range, ticking_both, ticked_both}
 
 -- 1 for a page of another length, 5 for a count outside its bounds, 0 for neither
@@ -20,8 +20,8 @@ pub record Ticked : Type 0 where
   pub line : Bool
 
 -- a refusal leaves the timers and the flag that went in
-abbrev pub ticked_of : Timers → Bool → Result TimedBoth Refusal → Ticked
-ticked_of ts flag (Ok both) = record { refusal = 0; timers = both.timers; line = both.line }
+abbrev pub ticked_of : Timers → Bool → Result (Timed Timers) Refusal → Ticked
+ticked_of ts flag (Ok both) = record { refusal = 0; timers = both.next; line = both.line }
 ticked_of ts flag (Err r) = record { refusal = number r; timers = ts; line = flag }
 
 -- the answer: a refusal with timers and flag as they were, or both after the microframe

@@ -6,6 +6,8 @@ use Rattle.bits.specs.Word.{clear, any}
 use Rattle.bus.specs.Words.{word_at}
 use Rattle.usbdev.specs.Registers.{Registers, put, PageStep, done, ◌then◌, raising}
 use Rattle.gptimers.specs.declared.Timers.{Timers}
+use Rattle.gptimers.specs.declared.Which.{Which}
+use Rattle.gptimers.specs.declared.Which.TheVariants.{Zero, One}
 
 -- a count of microseconds is kept as a natural number: this one stands for 0, and lower ones for what is below zero
 abbrev pub ZERO : ℕ
@@ -34,6 +36,11 @@ counting n = Some n
 abbrev pub count_of : Timer → ℕ
 count_of None = 0
 count_of (Some n) = n
+
+-- 742: the number of a timer
+abbrev pub index_of : Which → ℕ
+index_of Zero = 0
+index_of One = 1
 
 -- 743: the offsets of timer k's load and control registers
 abbrev pub load_register : ℕ → ℕ

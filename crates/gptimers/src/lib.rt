@@ -4,6 +4,7 @@
 ghost use Rattle.std.specs.Prelude.{◌≡◌, Bool, true, ◌+◌, ◌<◌, ◌≤◌, ◌^◌};
 ghost use Rattle.usbdev.specs.Registers.{registers, done};
 ghost use Rattle.gptimers.specs.Timer as T;
+ghost use Rattle.gptimers.specs.Timer.{index_of};
 ghost use Rattle.gptimers.specs.Checked as C;
 ghost use Rattle.gptimers.specs.Checked.{ticked_of};
 
@@ -22,6 +23,45 @@ const RESET: u32 = 0x4000_0000;
 
 const REPEAT: u32 = 0x100_0000;
 
+// Which timer of the controller: GPTIMER0 or GPTIMER1.
+#[derive(Clone, Copy)]
+enum Which {
+    Zero,
+    One,
+}
+
+impl Which {
+    // The offset of its load register.
+    fn load(self) -> usize
+        ensures { (result ≡ T.load_register (index_of self)) × (result ≤ 0x88) }
+    {
+        match self {
+            Which::Zero => 0x80,
+            Which::One => 0x88,
+        }
+    }
+
+    // The offset of its control register.
+    fn control(self) -> usize
+        ensures { (result ≡ T.control_register (index_of self)) × (result ≤ 0x8C) }
+    {
+        match self {
+            Which::Zero => 0x84,
+            Which::One => 0x8C,
+        }
+    }
+
+    // Its bit of USBSTS.
+    fn bit(self) -> u32
+        ensures { result ≡ 2 ^ (24 + index_of self) }
+    {
+        match self {
+            Which::Zero => 0x100_0000,
+            Which::One => 0x200_0000,
+        }
+    }
+}
+
 // Both timers of the controller: the count of each, where one stands.
 #[derive(Clone, Copy, Debug, PartialEq, Eq)]
 pub struct Timers {
@@ -29,17 +69,10 @@ pub struct Timers {
     pub one: Option<u64>,
 }
 
-// A timer after a microframe, and the line's flag.
+// What a microframe leaves of a timer, or of both, and the line's flag.
 #[derive(Clone, Copy)]
-pub struct Timed {
-    pub timer: Option<u64>,
-    pub line: bool,
-}
-
-// Both timers after a microframe, and the line's flag.
-#[derive(Clone, Copy)]
-pub struct TimedBoth {
-    pub timers: Timers,
+pub struct Timed<T> {
+    pub next: T,
     pub line: bool,
 }
 
@@ -64,30 +97,27 @@ fn after_reset(timer: Option<u64>, c: u32) -> Option<u64>
 
 // The 24 bits of timer k's load register.
 #[tactic(auto, unfolding(crate::specs::Timer::load_of))]
-fn load_of(page: &[u8; PAGE], k: usize) -> u64
-    requires { k < 2 }
-    ensures { (result ≡ T.load_of k page.now) × (result < 2 ^ 24) }
+fn load_of(page: &[u8; PAGE], k: Which) -> u64
+    ensures { (result ≡ T.load_of (index_of k) page.now) × (result < 2 ^ 24) }
 {
-    u64::from(word_at(page, 0x80 + 8 * k) & 0xFF_FFFF)
+    u64::from(word_at(page, k.load()) & 0xFF_FFFF)
 }
 
 // Takes the reset bit out of timer k's control word.
 #[tactic(auto, unfolding(crate::specs::Timer::resetting, usbdev::specs::Registers::store))]
-fn reset(page: &mut [u8; PAGE], k: usize, c: u32)
-    requires { k < 2 }
-    ensures { (l : Bool) → registers page.new l ≡ done (T.resetting k c) (registers page.old l) }
+fn reset(page: &mut [u8; PAGE], k: Which, c: u32)
+    ensures { (l : Bool) → registers page.new l ≡ done (T.resetting (index_of k) c) (registers page.old l) }
 {
     if bits::any(c, RESET) {
-        put_at(page, 0x84 + 8 * k, bits::clear(c, RESET));
+        put_at(page, k.control(), bits::clear(c, RESET));
     }
 }
 
 // Where the count of timer k starts in a microframe.
 #[tactic(auto, using(crate::proofs::Laws::range), unfolding(crate::specs::Timer::start_of))]
-fn start_of(page: &[u8; PAGE], k: usize, t: Option<u64>) -> u64
-    requires k_bound { k < 2 }
+fn start_of(page: &[u8; PAGE], k: Which, t: Option<u64>) -> u64
     requires t_value { T.in_range t ≡ true }
-    ensures { (result ≡ T.start_of k t page.now) × ((1000 ≤ result) × (result ≤ T.HIGHEST)) }
+    ensures { (result ≡ T.start_of (index_of k) t page.now) × ((1000 ≤ result) × (result ≤ T.HIGHEST)) }
 {
     match t {
         Some(count) => count,
@@ -97,21 +127,20 @@ fn start_of(page: &[u8; PAGE], k: usize, t: Option<u64>) -> u64
 
 // Stops timer k unless it repeats: the control word is stored as first read, without its run bit.
 #[tactic(auto, unfolding(crate::specs::Timer::stopping, usbdev::specs::Registers::store))]
-fn stop(page: &mut [u8; PAGE], k: usize, c: u32)
-    requires { k < 2 }
-    ensures { (l : Bool) → registers page.new l ≡ done (T.stopping k c) (registers page.old l) }
+fn stop(page: &mut [u8; PAGE], k: Which, c: u32)
+    ensures { (l : Bool) → registers page.new l ≡ done (T.stopping (index_of k) c) (registers page.old l) }
 {
     if bits::any(c, REPEAT) {
         return;
     }
-    put_at(page, 0x84 + 8 * k, bits::clear(c, RUN));
+    put_at(page, k.control(), bits::clear(c, RUN));
 }
 
 // How timer k stands after it expired with `left` below zero.
 #[tactic(auto, unfolding(crate::specs::Timer::next))]
-fn next_of(page: &[u8; PAGE], k: usize, c: u32, left: u64) -> Option<u64>
-    requires { (k < 2) × (left < T.ZERO) }
-    ensures { result ≡ T.next k c left page.now }
+fn next_of(page: &[u8; PAGE], k: Which, c: u32, left: u64) -> Option<u64>
+    requires { left < T.ZERO }
+    ensures { result ≡ T.next (index_of k) c left page.now }
 {
     if bits::any(c, REPEAT) {
         return Some(left + 1 + load_of(page, k));
@@ -119,32 +148,31 @@ fn next_of(page: &[u8; PAGE], k: usize, c: u32, left: u64) -> Option<u64>
     None
 }
 
-// The bit of USBSTS of timer k.
-fn bit_of(k: usize) -> u32
-    requires { k < 2 }
-    ensures { result ≡ 2 ^ (24 + k) }
-{
-    1 << (24 + k)
-}
-
 // Timer k expires with `left` below zero.
 #[tactic(auto, using(usbdev::proofs::Laws::done_then), unfolding(crate::specs::Timer::expiring, crate::specs::Timer::expired))]
-fn expire(page: &mut [u8; PAGE], k: usize, c: u32, left: u64, flag: bool) -> Timed
-    requires { (k < 2) × (left < T.ZERO) }
-    ensures { (registers page.new result.line ≡ done (T.expiring k c) (registers page.old flag)) × (result.timer ≡ T.expired k c left (registers page.old flag)) }
+fn expire(page: &mut [u8; PAGE], k: Which, c: u32, left: u64, flag: bool) -> Timed<Option<u64>>
+    requires { left < T.ZERO }
+    ensures { (registers page.new result.line ≡ done (T.expiring (index_of k) c) (registers page.old flag)) × (result.next ≡ T.expired (index_of k) c left (registers page.old flag)) }
 {
-    let line = usbdev::raise(page, bit_of(k), flag);
-    let timer = next_of(&*page, k, c, left);
+    let line = usbdev::raise(page, k.bit(), flag);
+    let next = next_of(&*page, k, c, left);
     stop(page, k, c);
-    Timed { timer, line }
+    Timed { next, line }
 }
 
 // Timer k after the reset, in one microframe of `step` microseconds.
 #[tactic(auto, unfolding(crate::specs::Timer::counted, crate::specs::Timer::counted_timer))]
-fn count(page: &mut [u8; PAGE], k: usize, c: u32, t: Option<u64>, step: u64, flag: bool) -> Timed
-    requires k_bound { (k < 2) × (step ≤ 1000) }
+fn count(
+    page: &mut [u8; PAGE],
+    k: Which,
+    c: u32,
+    t: Option<u64>,
+    step: u64,
+    flag: bool,
+) -> Timed<Option<u64>>
+    requires step_bound { step ≤ 1000 }
     requires t_value { T.in_range t ≡ true }
-    ensures { (registers page.new result.line ≡ done (T.counted step k c t) (registers page.old flag)) × (result.timer ≡ T.counted_timer step k c t (registers page.old flag)) }
+    ensures { (registers page.new result.line ≡ done (T.counted step (index_of k) c t) (registers page.old flag)) × (result.next ≡ T.counted_timer step (index_of k) c t (registers page.old flag)) }
 {
     if bits::any(c, RUN) {
         let left = start_of(&*page, k, t) - step;
@@ -152,24 +180,30 @@ fn count(page: &mut [u8; PAGE], k: usize, c: u32, t: Option<u64>, step: u64, fla
             return expire(page, k, c, left, flag);
         }
         return Timed {
-            timer: Some(left),
+            next: Some(left),
             line: flag,
         };
     }
     Timed {
-        timer: t,
+        next: t,
         line: flag,
     }
 }
 
 // One microframe of timer k.
 #[tactic(auto, using(crate::proofs::Laws::range_reset, usbdev::proofs::Laws::done_then), unfolding(crate::specs::Timer::ticking, crate::specs::Timer::ticked))]
-fn gptimer(page: &mut [u8; PAGE], k: usize, t: Option<u64>, step: u64, flag: bool) -> Timed
-    requires k_bound { (k < 2) × (step ≤ 1000) }
+fn gptimer(
+    page: &mut [u8; PAGE],
+    k: Which,
+    t: Option<u64>,
+    step: u64,
+    flag: bool,
+) -> Timed<Option<u64>>
+    requires step_bound { step ≤ 1000 }
     requires t_value { T.in_range t ≡ true }
-    ensures { (registers page.new result.line ≡ done (T.ticking step k t) (registers page.old flag)) × (result.timer ≡ T.ticked step k t (registers page.old flag)) }
+    ensures { (registers page.new result.line ≡ done (T.ticking step (index_of k) t) (registers page.old flag)) × (result.next ≡ T.ticked step (index_of k) t (registers page.old flag)) }
 {
-    let c = word_at(&*page, 0x84 + 8 * k);
+    let c = word_at(&*page, k.control());
     reset(page, k, c);
     let kept = after_reset(t, c);
     count(page, k, c, kept, step, flag)
@@ -177,17 +211,17 @@ fn gptimer(page: &mut [u8; PAGE], k: usize, t: Option<u64>, step: u64, flag: boo
 
 // Both timers in one microframe of `step` microseconds; the line's flag goes in and comes out.
 #[tactic(auto, using(usbdev::proofs::Laws::done_then), unfolding(crate::specs::Timer::ticking_both, crate::specs::Timer::ticked_both))]
-pub fn gptimers(page: &mut [u8; PAGE], ts: Timers, step: u64, flag: bool) -> TimedBoth
+pub fn gptimers(page: &mut [u8; PAGE], ts: Timers, step: u64, flag: bool) -> Timed<Timers>
     requires step_bound { step ≤ 1000 }
     requires zero_value { (T.in_range ts.zero ≡ true) × (T.in_range ts.one ≡ true) }
-    ensures { (registers page.new result.line ≡ done (T.ticking_both step ts) (registers page.old flag)) × (result.timers ≡ T.ticked_both step ts (registers page.old flag)) }
+    ensures { (registers page.new result.line ≡ done (T.ticking_both step ts) (registers page.old flag)) × (result.next ≡ T.ticked_both step ts (registers page.old flag)) }
 {
-    let first = gptimer(page, 0, ts.zero, step, flag);
-    let second = gptimer(page, 1, ts.one, step, first.line);
-    TimedBoth {
-        timers: Timers {
-            zero: first.timer,
-            one: second.timer,
+    let first = gptimer(page, Which::Zero, ts.zero, step, flag);
+    let second = gptimer(page, Which::One, ts.one, step, first.line);
+    Timed {
+        next: Timers {
+            zero: first.next,
+            one: second.next,
         },
         line: second.line,
     }
@@ -195,7 +229,7 @@ pub fn gptimers(page: &mut [u8; PAGE], ts: Timers, step: u64, flag: bool) -> Tim
 
 // Both timers in one microframe at high speed, on a page of any length and with any counts. A refusal leaves timers, flag and page.
 #[tactic(auto, unfolding(crate::specs::Checked::refusal, crate::specs::Checked::ticked_answer, crate::specs::Checked::ticked_page))]
-pub fn checked_gptimers(page: &mut [u8], ts: Timers, flag: bool) -> Result<TimedBoth, Refusal>
+pub fn checked_gptimers(page: &mut [u8], ts: Timers, flag: bool) -> Result<Timed<Timers>, Refusal>
     ensures { (ticked_of ts flag result ≡ C.ticked_answer ts (registers page.old flag)) × (page.new ≡ C.ticked_page ts (registers page.old flag)) }
 {
     let page = page.as_mut_array::<PAGE>().ok_or(Refusal::Windows)?;

@@ -65,7 +65,7 @@ impl Leaves {
         words.end()?;
         match gptimers::checked_gptimers(page, self.timers, self.line) {
             Ok(timed) => {
-                self.timers = timed.timers;
+                self.timers = timed.next;
                 self.line = timed.line;
                 show_timers(self.timers, self.line, out);
             }

@@ -272,15 +272,15 @@ fn put_packet(queue: &mut [u8], at: usize, cable: u8, packet: Packet)
     queue[at + 3] = packet.third;
 }
 
-// The packer after a run of bytes, and the place past their packets.
+// What an accepted send leaves: the next packer, and the bytes then held in the queue.
 #[derive(Clone, Copy)]
-struct Placed {
-    packer: Packer,
-    held: usize,
+pub struct Sent {
+    pub packer: Packer,
+    pub held: usize,
 }
 
 // The packets of `bytes`, each put once, from the place `held` on.
-fn put_packets(p: Packer, cable: u8, bytes: &[u8], queue: &mut [u8], held: usize) -> Placed
+fn put_packets(p: Packer, cable: u8, bytes: &[u8], queue: &mut [u8], held: usize) -> Sent
     requires { held + 4 * packet_count p bytes.now ≤ length queue.old }
     ensures { Puts cable p bytes.now held queue.old queue.new result.packer result.held }
 {
@@ -294,14 +294,7 @@ fn put_packets(p: Packer, cable: u8, bytes: &[u8], queue: &mut [u8], held: usize
         }
         packer = fed.next;
     }
-    Placed { packer, held: at }
-}
-
-// What an accepted send leaves: the next packer, and the bytes then held in the queue.
-#[derive(Clone, Copy)]
-pub struct Sent {
-    pub packer: Packer,
-    pub held: usize,
+    Sent { packer, held: at }
 }
 
 // Counts the packets of `bytes` and puts them behind the `held` bytes of the queue, or changes nothing where there is no such cable or they do not fit.
@@ -319,10 +312,5 @@ pub fn send(
     refusal::unless(held <= QUEUE, Refusal::Space)?;
     let count = count_packets(p, bytes);
     refusal::unless(count <= (QUEUE - held) / 4, Refusal::Space)?;
-    let placed = put_packets(p, cable, bytes, queue, held);
-    let packer = placed.packer;
-    Ok(Sent {
-        packer,
-        held: placed.held,
-    })
+    Ok(put_packets(p, cable, bytes, queue, held))
 }

@@ -63,7 +63,7 @@ pub fn timers(mut s: State, page: &mut [u8; PAGE]) -> State
     ensures { Paged M.ticks s page.old result page.new }
 {
     let both = gptimers::gptimers(page, s.timers, gptimers::STEP, s.port.line);
-    s.timers = both.timers;
+    s.timers = both.next;
     s.port.line = both.line;
     s
 }

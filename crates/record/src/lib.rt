@@ -195,6 +195,15 @@ pub struct Answer {
     pub retired: u64,
 }
 
+impl Answer {
+    // That of a microframe in which nothing came, was lost or was retired.
+    pub const NONE: Answer = Answer {
+        received: 0,
+        dropped: 0,
+        retired: 0,
+    };
+}
+
 // All of these.
 #[derive(Clone, Copy, Debug, PartialEq, Eq)]
 pub struct State {

@@ -51,11 +51,8 @@ fn stopped(t: Turn, next: u32) -> Turn
 {
     Turn {
         next,
-        done: t.done,
-        moved: t.moved,
-        retired: t.retired,
-        dropped: t.dropped,
         stop: true,
+        ..t
     }
 }
 

@@ -127,18 +127,17 @@ twelve_in l at h = omega (arith, length-take 12 (drop (at * 12) l), length-drop 
 
 -- where a loop over a frame's words stands
 pub record Channels (from : ℕ) (ws b₀ b : List ℕ) (c : ℕ) : Type 0 where
-  pub long : length b ≡ length b₀
   pub begun : (p : List ℕ) → length p ≡ from → Begun b₀ p → Begun b (p ++ channel_bytes c ws)
 
 pub channels_none : (from : ℕ) (ws b : List ℕ) → Channels from ws b b 0
 unfolding channel_bytes
-channels_none from ws b = record { long = refl; begun = λ p e g. subst (Begun b) (sym (append-nil p)) g }
+channels_none from ws b = record { begun = λ p e g. subst (Begun b) (sym (append-nil p)) g }
 
 module _ {from : ℕ} {ws b₀ b : List ℕ} {c : ℕ} (inv : Channels from ws b₀ b c) where
   pub channels_step : (at v : ℕ) → at ≡ from + 4 * c → v ≡ get_or ws c 0 → v < 2 ^ 32 → from + 4 * c + 4 ≤ 2048
-      → (b' : List ℕ) → b' ≡ word_put b at v → length b' ≡ length b → Channels from ws b₀ b' (c + 1)
-  channels_step at v ea ev less room b' eb long =
-      record { long = long ∙ inv.long; begun = λ p e g. step p e g }
+      → (b' : List ℕ) → b' ≡ word_put b at v → Channels from ws b₀ b' (c + 1)
+  channels_step at v ea ev less room b' eb =
+      record { begun = λ p e g. step p e g }
     where
       step : (p : List ℕ) → length p ≡ from → Begun b₀ p → Begun b' (p ++ channel_bytes (c + 1) ws)
       step p e g =
@@ -222,20 +221,19 @@ frame_fits f channels h room =
 
 -- where a loop over the frames stands
 pub record Frames (channels : ℕ) (sending : List ℕ) (r : Ring) (b₀ b : List ℕ) (f : ℕ) : Type 0 where
-  pub long : length b ≡ length b₀
   pub begun : (w : World) (p : List ℕ) → length p ≡ 32 → Begun b₀ p → Begun b (p ++ frame_bytes 0 f (at_sending w r channels sending))
 
 pub frames_none : (channels : ℕ) (sending : List ℕ) (r : Ring) (b : List ℕ) → Frames channels sending r b b 0
 unfolding frame_bytes
-frames_none channels sending r b = record { long = refl; begun = λ w p e g. subst (Begun b) (sym (append-nil p)) g }
+frames_none channels sending r b = record { begun = λ w p e g. subst (Begun b) (sym (append-nil p)) g }
 
 module _ {channels : ℕ} {sending : List ℕ} {r : Ring} {b₀ b : List ℕ} {f : ℕ} (inv : Frames channels sending r b₀ b f) where
   pub frames_step : (capacity at : ℕ) → capacity ≡ length sending / 12 → at ≡ (r.start + f) % capacity → f < r.len
-      → (b' : List ℕ) → length b' ≡ length b
+      → (b' : List ℕ)
       → ((p : List ℕ) → length p ≡ 32 + 4 * (f * channels) → Begun b p → Begun b' (p ++ channel_bytes channels (take 12 (drop (at * 12) sending))))
       → Frames channels sending r b₀ b' (f + 1)
-  frames_step capacity at ec ea less b' long puts =
-      record { long = long ∙ inv.long; begun = λ w p e g. step w p e g }
+  frames_step capacity at ec ea less b' puts =
+      record { begun = λ w p e g. step w p e g }
     where
       step : (w : World) (p : List ℕ) → length p ≡ 32 → Begun b₀ p → Begun b' (p ++ frame_bytes 0 (f + 1) (at_sending w r channels sending))
       step w p e g =

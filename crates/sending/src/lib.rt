@@ -9,8 +9,11 @@ ghost use Rattle.sending.specs.Promises.{Begun, Sends, header_of, at_sending};
 
 use record::{Audio, Ring};
 
+// Bytes of the longest block.
+pub const LONGEST: usize = 2048;
+
 // The start of a block of zeros: 07 FF, and the stream counter.
-fn encode_header(block: &mut [u8], counter: u16)
+fn encode_header(block: &mut [u8; LONGEST], counter: u16)
     requires { block.old ≡ replicate 2048 0 }
     ensures { Begun block.new (header_of counter) }
 {
@@ -21,8 +24,8 @@ fn encode_header(block: &mut [u8], counter: u16)
 }
 
 // The words of the frame at a place of the sending ring go to the block from index `from` on; past its twelve words the block keeps its zeros.
-fn encode_frame(block: &mut [u8], from: usize, channels: usize, sending: &[u32], at: usize)
-    requires block_len { (length block.old ≡ 2048) × (from + 4 * channels ≤ 2048) }
+fn encode_frame(block: &mut [u8; LONGEST], from: usize, channels: usize, sending: &[u32], at: usize)
+    requires from_bound { from + 4 * channels ≤ 2048 }
     requires at_in_bounds { (at * 12 + 12 ≤ length sending.now) × (at < Sizes.FRAMES) }
     ensures { (p : List ℕ) → length p ≡ from → Begun block.old p → Begun block.new (p ++ channel_bytes channels (take 12 (drop (at * 12) sending.now))) }
 {
@@ -32,8 +35,14 @@ fn encode_frame(block: &mut [u8], from: usize, channels: usize, sending: &[u32],
 }
 
 // Up to seven frames of the sending ring go to the block; where it holds fewer the block keeps its zeros.
-fn encode_frames(block: &mut [u8], channels: usize, sending: &[u32], ring: Ring, capacity: usize)
-    requires block_len { (length block.old ≡ 2048) × (32 + 28 * channels ≤ 2048) }
+fn encode_frames(
+    block: &mut [u8; LONGEST],
+    channels: usize,
+    sending: &[u32],
+    ring: Ring,
+    capacity: usize,
+)
+    requires channels_bound { 32 + 28 * channels ≤ 2048 }
     requires sends { Sends ring capacity sending.now }
     ensures { (w : World) (p : List ℕ) → length p ≡ 32 → Begun block.old p → Begun block.new (p ++ frame_bytes 0 7 (at_sending w ring channels sending.now)) }
 {
@@ -45,7 +54,7 @@ fn encode_frames(block: &mut [u8], channels: usize, sending: &[u32], ring: Ring,
 
 // A block of zeros becomes the block that is sent, and zeros behind it.
 pub fn encode(
-    block: &mut [u8],
+    block: &mut [u8; LONGEST],
     counter: u16,
     channels: usize,
     sending: &[u32],

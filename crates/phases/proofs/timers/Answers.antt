@@ -19,5 +19,5 @@ returns c =
       leads = λ w.
           from_here _ (at_page w a.s a.page.now)
           (in_turn (once _ _ _ (ap (λ (ts : Timers). at_page w (with_timers a.s ts) a.page.now) c.gptimers-both.ensures.1))
-          (on_page_lem (ticking_both STEP a.s.timers) w (with_timers a.s c.gptimers-both.result.timers) a.page.now _ _ (inside_both STEP a.s.timers (registers a.page.now a.s.port.line)) c.gptimers-both.ensures.0));
+          (on_page_lem (ticking_both STEP a.s.timers) w (with_timers a.s c.gptimers-both.result.next) a.page.now _ _ (inside_both STEP a.s.timers (registers a.page.now a.s.port.line)) c.gptimers-both.ensures.0));
     }

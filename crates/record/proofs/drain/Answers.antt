@@ -1,5 +1,5 @@
 -- `record::drain` meets its contract.
-use Rattle.std.proofs.Common.{◌≡◌, ℕ, ◌+◌, ◌-◌, ◌++◌, List, take, drop, ap, ◌∙◌, arith}
+use Rattle.std.proofs.Common.{◌≡◌, ℕ, ◌+◌, ◌-◌, ◌++◌, take, drop, ap, ◌∙◌, arith}
 use Rattle.record.specs.Change.{drained}
 use Rattle.record.proofs.drain.Goals as goal
 

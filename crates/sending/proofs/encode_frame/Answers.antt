@@ -16,7 +16,7 @@ loop-c-preserved c =
     let l = c.loop-c in
     let less : l.c < 12 = omega (arith, l.invariant.0, c.loop-c-test.true) in
     let fits = c.type_inv.sending (12 * a.at + l.c) in
-    (l.invariant.0, channels_step l.invariant.1 _ (get_or a.sending.now (12 * a.at + l.c) 0) refl (word_in a.sending.now a.at l.c less) (omega (arith, fits)) (omega (arith, c.requires.block_len.1, l.invariant.0, c.loop-c-test.true)) _ c.put_at.ensures c.put_at.auto.s)
+    (l.invariant.0, channels_step l.invariant.1 _ (get_or a.sending.now (12 * a.at + l.c) 0) refl (word_in a.sending.now a.at l.c less) (omega (arith, fits)) (omega (arith, c.requires.from_bound, l.invariant.0, c.loop-c-test.true)) _ c.put_at.ensures)
 
 pub returns : goal.returns
 returns c = channels_end c.loop-c.invariant.1 _ (omega arith) (twelve_in c.args.sending.now c.args.at (search rules)) (search rules)

@@ -12,7 +12,7 @@ pub loop-f-preserved : goal.loop-f-preserved
 loop-f-preserved c =
     let l = c.loop-f in
     let less : l.f < c.args.ring.len = omega (arith, l.invariant.0, c.loop-f-test.true) in
-    (l.invariant.0, frames_step l.invariant.1 _ _ c.requires.sends.is c.place-at.ensures less _ c.encode_frame.auto.block c.encode_frame.ensures)
+    (l.invariant.0, frames_step l.invariant.1 _ _ c.requires.sends.is c.place-at.ensures less _ c.encode_frame.ensures)
 
 pub returns : goal.returns
 returns c = frames_end c.loop-f.invariant.1 (omega arith) (search rules)
