@@ -45,6 +45,15 @@ pub struct Host {
     device: [u8; DEVICE],
 }
 
+// The record by the parts that a call reads: its state, how many gone spans it has, its packers, and the setups that wait.
+#[derive(Clone, Copy)]
+pub struct Parts<'a> {
+    pub state: State,
+    pub spans: usize,
+    pub packers: [Packer; CABLES],
+    pub setups: &'a [u8; SETUP_BYTES],
+}
+
 // A frame taken, or none from an empty ring, and what is next: the record, or its state.
 #[derive(Clone, Copy)]
 pub struct Taken<T> {
@@ -200,50 +209,41 @@ fn new_host(c: Settings) -> Host
 
 // Numbers 3 and 5 of a record.
 fn record_passes(
-    s: State,
-    spans: usize,
-    packers: [Packer; CABLES],
-    setups: &[u8; SETUP_BYTES],
+    parts: Parts<'_>,
 ) -> Result<(), Refusal>
-    ensures { number_of result ≡ unless 3 (leb spans 16) (unless 5 (in_bounds s packers setups.now) 0) }
+    ensures { number_of result ≡ unless 3 (leb parts.entry.spans 16) (unless 5 (in_bounds parts.entry.state parts.entry.packers parts.entry.setups.now) 0) }
 {
-    refusal::unless(spans <= 16, Refusal::Spans)?;
-    refusal::unless(bounds::in_bounds(s, packers, setups), Refusal::Bounds)
+    refusal::unless(parts.spans <= 16, Refusal::Spans)?;
+    refusal::unless(bounds::in_bounds(parts.state, parts.packers, parts.setups), Refusal::Bounds)
 }
 
 // Numbers 3, 8 and 5 of a send on a cable.
 fn cable_passes(
-    s: State,
-    spans: usize,
-    packers: [Packer; CABLES],
+    parts: Parts<'_>,
     cable: u8,
-    setups: &[u8; SETUP_BYTES],
 ) -> Result<(), Refusal>
-    ensures { number_of result ≡ unless 3 (leb spans 16) (unless 8 (is_cable cable) (unless 5 (in_bounds s packers setups.now) 0)) }
+    ensures { number_of result ≡ unless 3 (leb parts.entry.spans 16) (unless 8 (is_cable cable) (unless 5 (in_bounds parts.entry.state parts.entry.packers parts.entry.setups.now) 0)) }
 {
-    refusal::unless(spans <= 16, Refusal::Spans)?;
+    refusal::unless(parts.spans <= 16, Refusal::Spans)?;
     refusal::unless(usize::from(cable) < CABLES, Refusal::Cable)?;
-    refusal::unless(bounds::in_bounds(s, packers, setups), Refusal::Bounds)
+    refusal::unless(bounds::in_bounds(parts.state, parts.packers, parts.setups), Refusal::Bounds)
 }
 
 // Sends MIDI bytes on a cable: their packets go behind those that wait.
 pub fn send_midi(
-    s: State,
-    spans: usize,
-    packers: [Packer; CABLES],
+    parts: Parts<'_>,
     cable: u8,
     bytes: &[u8],
-    setups: &[u8; SETUP_BYTES],
     midi: &mut [u8; QUEUE],
 ) -> Result<MidiSent, Refusal>
-    ensures { MidiPromise s spans packers cable bytes.now setups.now midi.old (midi_sent_by s packers result) midi.new }
+    ensures { MidiPromise parts.entry.state parts.entry.spans parts.entry.packers cable bytes.now parts.entry.setups.now midi.old (midi_sent_by parts.entry.state parts.entry.packers result) midi.new }
 {
-    cable_passes(s, spans, packers, cable, setups)?;
+    cable_passes(parts, cable)?;
     let place = usize::from(cable);
-    let sent = midi::send(packers[place], cable, bytes, midi, s.lengths.midi)?;
-    let mut fed = packers;
+    let sent = midi::send(parts.packers[place], cable, bytes, midi, parts.state.lengths.midi)?;
+    let mut fed = parts.packers;
     fed[place] = sent.packer;
-    let mut next = s;
+    let mut next = parts.state;
     next.lengths.midi = sent.held;
     Ok(MidiSent {
         state: next,
@@ -253,20 +253,17 @@ pub fn send_midi(
 
 // Sends serial bytes: they go behind those that wait.
 pub fn send_serial(
-    s: State,
-    spans: usize,
-    packers: [Packer; CABLES],
+    parts: Parts<'_>,
     bytes: &[u8],
-    setups: &[u8; SETUP_BYTES],
     serial: &mut [u8; QUEUE],
 ) -> Result<State, Refusal>
-    ensures { SerialPromise s spans packers bytes.now setups.now serial.old (sent_by s result) serial.new }
+    ensures { SerialPromise parts.entry.state parts.entry.spans parts.entry.packers bytes.now parts.entry.setups.now serial.old (sent_by parts.entry.state result) serial.new }
 {
-    record_passes(s, spans, packers, setups)?;
-    let held = s.lengths.serial;
+    record_passes(parts)?;
+    let held = parts.state.lengths.serial;
     refusal::unless(bytes.len() <= QUEUE - held, Refusal::Space)?;
     bus::put_all(serial, held, bytes);
-    let mut next = s;
+    let mut next = parts.state;
     next.lengths.serial = held + bytes.len();
     Ok(next)
 }
@@ -282,21 +279,18 @@ fn sending_length(n: usize) -> bool
 // Numbers 2, 3, 5 and 7 of a frame given.
 #[tactic(auto, unfolding(crate::specs::Calls::give_number, bounds::specs::Bounds::in_bounds, bounds::specs::Bounds::enumerating_ok, bounds::specs::Bounds::counts_ok))]
 fn give_passes(
-    s: State,
-    spans: usize,
-    packers: [Packer; CABLES],
+    parts: Parts<'_>,
     frame: &[u32],
-    setups: &[u8; SETUP_BYTES],
     sending: &[u32],
 ) -> Result<(), Refusal>
-    ensures { number_of result ≡ give_number (bare s spans packers setups.now) frame.now sending.now }
+    ensures { number_of result ≡ give_number (bare parts.entry.state parts.entry.spans parts.entry.packers parts.entry.setups.now) frame.now sending.now }
 {
     let right = sending_length(sending.len());
     refusal::unless(right & (frame.len() == Host::CHANNELS), Refusal::Areas)?;
-    refusal::unless(spans <= 16, Refusal::Spans)?;
-    let ring = s.audio.sending;
+    refusal::unless(parts.spans <= 16, Refusal::Spans)?;
+    let ring = parts.state.audio.sending;
     let capacity = sending.len() / Host::CHANNELS;
-    let bounded = bounds::in_bounds(s, packers, setups);
+    let bounded = bounds::in_bounds(parts.state, parts.packers, parts.setups);
     let inside = bounds::ring_ok(ring, capacity);
     refusal::unless(bounded & inside, Refusal::Bounds)?;
     refusal::unless(ring.len < capacity, Refusal::Space)
@@ -304,22 +298,19 @@ fn give_passes(
 
 // Gives a frame to the sending ring: it goes behind the newest.
 pub fn give_frame(
-    s: State,
-    spans: usize,
-    packers: [Packer; CABLES],
+    parts: Parts<'_>,
     frame: &[u32],
-    setups: &[u8; SETUP_BYTES],
     sending: &mut [u32],
 ) -> Result<State, Refusal>
-    ensures { GivePromise s spans packers frame.now setups.now sending.old (sent_by s result) sending.new }
+    ensures { GivePromise parts.entry.state parts.entry.spans parts.entry.packers frame.now parts.entry.setups.now sending.old (sent_by parts.entry.state result) sending.new }
 {
-    give_passes(s, spans, packers, frame, setups, &*sending)?;
+    give_passes(parts, frame, &*sending)?;
     let capacity = sending.len() / Host::CHANNELS;
-    let start = s.audio.sending.start;
-    let held = s.audio.sending.len;
+    let start = parts.state.audio.sending.start;
+    let held = parts.state.audio.sending.len;
     let at = (start + held) % capacity * Host::CHANNELS;
     bus::put_all(sending, at, frame);
-    let mut next = s;
+    let mut next = parts.state;
     next.audio.sending.len = held + 1;
     Ok(next)
 }
@@ -327,18 +318,15 @@ pub fn give_frame(
 // Numbers 2, 3 and 5 of a frame taken.
 #[tactic(auto, unfolding(crate::specs::Calls::take_number, bounds::specs::Bounds::in_bounds, bounds::specs::Bounds::enumerating_ok, bounds::specs::Bounds::counts_ok))]
 fn take_passes(
-    s: State,
-    spans: usize,
-    packers: [Packer; CABLES],
-    setups: &[u8; SETUP_BYTES],
+    parts: Parts<'_>,
     received: &[u32],
 ) -> Result<(), Refusal>
-    ensures { number_of result ≡ take_number (bare s spans packers setups.now) received.now }
+    ensures { number_of result ≡ take_number (bare parts.entry.state parts.entry.spans parts.entry.packers parts.entry.setups.now) received.now }
 {
     refusal::unless(received.len() == RING, Refusal::Areas)?;
-    refusal::unless(spans <= 16, Refusal::Spans)?;
-    let bounded = bounds::in_bounds(s, packers, setups);
-    let inside = bounds::ring_ok(s.audio.received, RING_FRAMES);
+    refusal::unless(parts.spans <= 16, Refusal::Spans)?;
+    let bounded = bounds::in_bounds(parts.state, parts.packers, parts.setups);
+    let inside = bounds::ring_ok(parts.state.audio.received, RING_FRAMES);
     refusal::unless(bounded & inside, Refusal::Bounds)
 }
 
@@ -468,25 +456,22 @@ pub fn run_microframe(
 
 // Takes the oldest frame from the received ring, or finds it empty.
 pub fn take_frame(
-    s: State,
-    spans: usize,
-    packers: [Packer; CABLES],
-    setups: &[u8; SETUP_BYTES],
+    parts: Parts<'_>,
     received: &[u32],
 ) -> Result<Taken<State>, Refusal>
-    ensures { TakePromise s spans packers setups.now received.now (taken_by s result) }
+    ensures { TakePromise parts.entry.state parts.entry.spans parts.entry.packers parts.entry.setups.now received.now (taken_by parts.entry.state result) }
 {
-    take_passes(s, spans, packers, setups, received)?;
-    let start = s.audio.received.start;
-    let held = s.audio.received.len;
+    take_passes(parts, received)?;
+    let start = parts.state.audio.received.start;
+    let held = parts.state.audio.received.len;
     if held == 0 {
         return Ok(Taken {
             frame: None,
-            next: s,
+            next: parts.state,
         });
     }
     let frame = frame_at(received, start * Host::CHANNELS);
-    let mut next = s;
+    let mut next = parts.state;
     next.audio.received = Ring {
         start: (start + 1) % RING_FRAMES,
         len: held - 1,
@@ -500,55 +485,46 @@ pub fn take_frame(
 // Numbers 1, 3, 4 and 5 of a device access, and what a read at its place gives.
 #[tactic(auto, unfolding(usbdev::specs::Access::reading, usbdev::specs::Access::refusal))]
 fn access(
-    s: State,
-    spans: usize,
-    packers: [Packer; CABLES],
-    setups: &[u8; SETUP_BYTES],
+    parts: Parts<'_>,
     page: &[u8],
     off: u32,
     size: u32,
 ) -> Result<u32, Refusal>
-    ensures number { number_of result ≡ unless 1 (eqb (length page.now) 4096) (unless 3 (leb spans 16) (unless 4 (fits off size) (unless 5 (in_bounds s packers setups.now) 0))) }
+    ensures number { number_of result ≡ unless 1 (eqb (length page.now) 4096) (unless 3 (leb parts.entry.spans 16) (unless 4 (fits off size) (unless 5 (in_bounds parts.entry.state parts.entry.packers parts.entry.setups.now) 0))) }
     ensures value { IfOk result (λ v. v ≡ read_sized page.now off size) }
 {
     refusal::unless(page.len() == PAGE, Refusal::Windows)?;
-    refusal::unless(spans <= 16, Refusal::Spans)?;
+    refusal::unless(parts.spans <= 16, Refusal::Spans)?;
     let value = usbdev::read(page, off, size)?;
-    refusal::unless(bounds::in_bounds(s, packers, setups), Refusal::Bounds)?;
+    refusal::unless(bounds::in_bounds(parts.state, parts.packers, parts.setups), Refusal::Bounds)?;
     Ok(value)
 }
 
 // What the device reads on the register page.
 pub fn read_device(
-    s: State,
-    spans: usize,
-    packers: [Packer; CABLES],
-    setups: &[u8; SETUP_BYTES],
+    parts: Parts<'_>,
     page: &[u8],
     off: u32,
     size: u32,
 ) -> Result<u32, Refusal>
-    ensures { ReadPromise s spans packers setups.now page.now off size (value_of result) }
+    ensures { ReadPromise parts.entry.state parts.entry.spans parts.entry.packers parts.entry.setups.now page.now off size (value_of result) }
 {
-    access(s, spans, packers, setups, page, off, size)
+    access(parts, page, off, size)
 }
 
 // What the device writes on the register page.
 pub fn write_device(
-    s: State,
-    spans: usize,
-    packers: [Packer; CABLES],
-    setups: &[u8; SETUP_BYTES],
+    parts: Parts<'_>,
     page: &mut [u8],
     off: u32,
     size: u32,
     v: u32,
 ) -> Result<State, Refusal>
-    ensures { WritePromise s spans packers setups.now page.old off size v (sent_by s result) page.new }
+    ensures { WritePromise parts.entry.state parts.entry.spans parts.entry.packers parts.entry.setups.now page.old off size v (sent_by parts.entry.state result) page.new }
 {
-    access(s, spans, packers, setups, &*page, off, size)?;
-    let line = usbdev::write(page, off, size, v, s.port.line)?;
-    let mut next = s;
+    access(parts, &*page, off, size)?;
+    let line = usbdev::write(page, off, size, v, parts.state.port.line)?;
+    let mut next = parts.state;
     next.port.line = line;
     Ok(next)
 }
@@ -690,15 +666,13 @@ impl Host {
     pub fn midi_send(mut self, cable: u8, bytes: &[u8]) -> Result<Host, Refusal>
         ensures { sent_by self result ≡ midi_sent self cable bytes.now }
     {
-        let sent = send_midi(
-            self.state(),
-            self.settings.spans,
-            self.packers,
-            cable,
-            bytes,
-            &self.setups,
-            &mut self.midi,
-        )?;
+        let parts = Parts {
+            state: self.state(),
+            spans: self.settings.spans,
+            packers: self.packers,
+            setups: &self.setups,
+        };
+        let sent = send_midi(parts, cable, bytes, &mut self.midi)?;
         let packers = sent.packers;
         self.packers = packers;
         Ok(self.with_state(sent.state))
@@ -708,14 +682,13 @@ impl Host {
     pub fn serial_send(mut self, bytes: &[u8]) -> Result<Host, Refusal>
         ensures { sent_by self result ≡ serial_sent self bytes.now }
     {
-        let state = send_serial(
-            self.state(),
-            self.settings.spans,
-            self.packers,
-            bytes,
-            &self.setups,
-            &mut self.serial,
-        )?;
+        let parts = Parts {
+            state: self.state(),
+            spans: self.settings.spans,
+            packers: self.packers,
+            setups: &self.setups,
+        };
+        let state = send_serial(parts, bytes, &mut self.serial)?;
         Ok(self.with_state(state))
     }
 
@@ -723,9 +696,13 @@ impl Host {
     pub fn frame_give(self, frame: &[u32], sending: &mut [u32]) -> Result<Host, Refusal>
         ensures { (sent_by self result ≡ given self frame.now sending.old) × (sending.new ≡ given_ring self frame.now sending.old) }
     {
-        let s = self.state();
-        let spans = self.settings.spans;
-        let state = give_frame(s, spans, self.packers, frame, &self.setups, sending)?;
+        let parts = Parts {
+            state: self.state(),
+            spans: self.settings.spans,
+            packers: self.packers,
+            setups: &self.setups,
+        };
+        let state = give_frame(parts, frame, sending)?;
         Ok(self.with_state(state))
     }
 
@@ -733,9 +710,13 @@ impl Host {
     pub fn frame_take(self, received: &[u32]) -> Result<Taken<Host>, Refusal>
         ensures { taken_by self result ≡ taken_frame self received.now }
     {
-        let s = self.state();
-        let spans = self.settings.spans;
-        let taken = take_frame(s, spans, self.packers, &self.setups, received)?;
+        let parts = Parts {
+            state: self.state(),
+            spans: self.settings.spans,
+            packers: self.packers,
+            setups: &self.setups,
+        };
+        let taken = take_frame(parts, received)?;
         Ok(Taken {
             frame: taken.frame,
             next: self.with_state(taken.next),
@@ -746,18 +727,26 @@ impl Host {
     pub fn device_read(self, page: &[u8], off: u32, size: u32) -> Result<u32, Refusal>
         ensures { read_by self result ≡ device_read self page.now off size }
     {
-        let s = self.state();
-        let spans = self.settings.spans;
-        read_device(s, spans, self.packers, &self.setups, page, off, size)
+        let parts = Parts {
+            state: self.state(),
+            spans: self.settings.spans,
+            packers: self.packers,
+            setups: &self.setups,
+        };
+        read_device(parts, page, off, size)
     }
 
     // What the device writes on the register page.
     pub fn device_write(self, page: &mut [u8], off: u32, size: u32, v: u32) -> Result<Host, Refusal>
         ensures { (sent_by self result ≡ device_written self page.old off size v) × (page.new ≡ written_page self page.old off size v) }
     {
-        let s = self.state();
-        let spans = self.settings.spans;
-        let state = write_device(s, spans, self.packers, &self.setups, page, off, size, v)?;
+        let parts = Parts {
+            state: self.state(),
+            spans: self.settings.spans,
+            packers: self.packers,
+            setups: &self.setups,
+        };
+        let state = write_device(parts, page, off, size, v)?;
         Ok(self.with_state(state))
     }
 }

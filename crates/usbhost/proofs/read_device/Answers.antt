@@ -5,4 +5,4 @@ use Rattle.usbhost.proofs.read_device.Goals as goal
 pub returns : goal.returns
 returns c =
     let a = c.args in
-    read_promise a.s a.spans a.packers a.setups.now a.page.now a.off a.size _ c.access.ensures.number c.access.ensures.value
+    read_promise a.parts.state a.parts.spans a.parts.packers a.parts.setups.now a.page.now a.off a.size _ c.access.ensures.number c.access.ensures.value

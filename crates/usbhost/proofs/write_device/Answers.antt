@@ -11,16 +11,16 @@ pub returns-in_err-access : goal.returns-in_err-access
 returns-in_err-access c =
     let a = c.args in
     let p = err_from_is_err_and c.from_residual.result c.from_residual.ensures.1 in
-    rw (p.1, p.2) (write_stops a.s a.spans a.packers a.setups.now a.page.now a.off a.size c.in_err-access.ensures.number a.v (refused _))
+    rw (p.1, p.2) (write_stops a.parts.state a.parts.spans a.parts.packers a.parts.setups.now a.page.now a.off a.size c.in_err-access.ensures.number a.v (refused _))
 
 pub returns-in_err-line : goal.returns-in_err-line
 unfolding writing
 returns-in_err-line c =
     let a = c.args in
-    let none = accepts a.s a.spans a.packers a.setups.now a.page.now a.off a.size c.in_ok-access.ensures.number refl in
+    let none = accepts a.parts.state a.parts.spans a.parts.packers a.parts.setups.now a.page.now a.off a.size c.in_ok-access.ensures.number refl in
     absurd (refused _ (ap (λ (w : Written). w.refusal) c.in_err-line.ensures.0 ∙ none))
 
 pub returns : goal.returns
 returns c =
     let a = c.args in
-    write_goes a.s a.spans a.packers a.setups.now a.page.now a.off a.size c.in_ok-access.ensures.number a.v refl _ _ c.in_ok-line.ensures
+    write_goes a.parts.state a.parts.spans a.parts.packers a.parts.setups.now a.page.now a.off a.size c.in_ok-access.ensures.number a.v refl _ _ c.in_ok-line.ensures

@@ -5,4 +5,4 @@ use Rattle.usbhost.proofs.Host.device_read.Goals as goal
 pub returns : goal.returns
 returns c =
     let a = c.args in
-    read_answer a.self c.state-s.ensures a.page.now a.off a.size _ c.read_device.ensures
+    read_answer a.self c.state.ensures a.page.now a.off a.size _ c.read_device.ensures

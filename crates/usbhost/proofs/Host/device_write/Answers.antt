@@ -11,10 +11,10 @@ unfolding device_written
 returns-in_err-state c =
     let a = c.args in
     let p = err_from_is_err_and c.from_residual.result c.from_residual.ensures.1 in
-    let entry = write_entry a.self c.state-s.ensures a.page.now a.off a.size a.v _ _ c.in_err-state.ensures refl in
+    let entry = write_entry a.self c.state.ensures a.page.now a.off a.size a.v _ _ c.in_err-state.ensures refl in
     rw (p.1, p.2) (sent_refused _ _ _ entry.0, entry.1)
 
 pub returns : goal.returns
 returns c =
     let a = c.args in
-    write_entry a.self c.state-s.ensures a.page.now a.off a.size a.v _ _ c.in_ok-state.ensures c.with_state.ensures
+    write_entry a.self c.state.ensures a.page.now a.off a.size a.v _ _ c.in_ok-state.ensures c.with_state.ensures

@@ -11,10 +11,10 @@ unfolding given
 returns-in_err-state c =
     let a = c.args in
     let p = err_from_is_err_and c.from_residual.result c.from_residual.ensures.1 in
-    let entry = give_entry a.self c.state-s.ensures a.frame.now a.sending.now _ _ c.in_err-state.ensures refl in
+    let entry = give_entry a.self c.state.ensures a.frame.now a.sending.now _ _ c.in_err-state.ensures refl in
     rw (p.1, p.2) (sent_refused _ _ _ entry.0, entry.1)
 
 pub returns : goal.returns
 returns c =
     let a = c.args in
-    give_entry a.self c.state-s.ensures a.frame.now a.sending.now _ _ c.in_ok-state.ensures c.with_state.ensures
+    give_entry a.self c.state.ensures a.frame.now a.sending.now _ _ c.in_ok-state.ensures c.with_state.ensures
