@@ -13,12 +13,13 @@ pub struct Memory {
     pub sram: [u8; bus::SRAM],
     pub page: [u8; bus::PAGE],
     length: usize,
+    ghost inside: { length ≤ 65536 },
 }
 
 impl Memory {
     // Memory of zeros, and the shortest length.
     pub fn new() -> Self
-        ensures { Zeros 4096 result }
+        ensures { Zeros 4096 result.dynamic result.sram result.page result.length }
     {
         Memory {
             dynamic: [0; 65536],
@@ -30,15 +31,15 @@ impl Memory {
 
     // How long dynamic memory is.
     pub fn length(&self) -> usize
-        ensures { result ≤ 65536 }
+        ensures { (result ≡ self.now.length) × (result ≤ 65536) }
     {
-        self.length.min(self.dynamic.len())
+        self.length
     }
 
     // Memory of zeros; a length that no run has, or above that of dynamic memory's array, leaves it as it is.
     pub fn restart(&mut self, length: usize) -> Option<()>
         ensures begun { IsSome result ↔ ((is_power length ≡ true) × (length ≤ 65536)) }
-        ensures zeros { IfSome result (λ u. Zeros length self.new) }
+        ensures zeros { IfSome result (λ u. Zeros length self.new.dynamic self.new.sram self.new.page self.new.length) }
         ensures kept { IfNone result (self.new ≡ self.old) }
     {
         if self.dynamic.len() < length || !bus::power(length) {
