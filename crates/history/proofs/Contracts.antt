@@ -65,7 +65,7 @@ use Rattle.usbhost.proofs.Host.new.Reads as New·contract
 use Rattle.usbhost.proofs.Host.new.Statement as New·code
 use Rattle.usbhost.proofs.Host.new.Met as New·proof
 use Rattle.refusal.specs.declared.Refusal.{Refusal}
-use Rattle.thin.specs.declared.Answered.{Answered}
+use Rattle.record.specs.declared.Answer.{Answer}
 use Rattle.thin.specs.Thin.{answered}
 use Rattle.history.specs.Calls.{Call, microframe, midi_send, serial_send, frame_give, frame_take, device_read, device_write, step}
 use Rattle.history.specs.Accepts.{number_of, BytesLent}
@@ -136,7 +136,7 @@ pub thin_ensures : {M : Type 1} {𝓤 : Ura M} (𝓛 : Logic 𝓤) (mem : Memory
 thin_ensures 𝓛 mem run κs a r s = refl
 
 -- the record of its answer, refused or not
-answered_host : (r : Result Answered Refusal) (h : Host) → (answered r h).host ≡ h
+answered_host : (r : Result Answer Refusal) (h : Host) → (answered r h).host ≡ h
 answered_host (Ok a) h = refl
 answered_host (Err e) h = refl
 

@@ -110,10 +110,10 @@ sends h call number next x n l e =
 
 pub send_midi_follows : (κs : Lfts 3) (a : Dens κs SendMidi.ps) (r : (res_t SendMidi.r κs).Denot) (s : AtExit (ended_of 3 SendMidi.ps SendMidi.r) κs) (c : Settings) (o : Own)
     → SendMidi·contract.Post κs a r s
-    → Follows (whole c a.1.0 a.0 a.1.1.0 (own_midi (own_setups o a.1.1.1.1.1.0.now) a.1.1.1.1.1.1.0.now)) (midi_send a.1.1.1.0 a.1.1.1.1.0.now) (midi_sent_by a.0 a.1.1.0 r).refusal (whole c a.1.0 (midi_sent_by a.0 a.1.1.0 r).state (midi_sent_by a.0 a.1.1.0 r).packers (own_midi (own_setups o a.1.1.1.1.1.0.now) s.1.1.1.1.1.1.0.now))
+    → Follows (whole c a.0.spans a.0.state a.0.packers (own_midi (own_setups o a.0.setups.now) a.1.1.1.0.now)) (midi_send a.1.0 a.1.1.0.now) (midi_sent_by a.0.state a.0.packers r).refusal (whole c a.0.spans (midi_sent_by a.0.state a.0.packers r).state (midi_sent_by a.0.state a.0.packers r).packers (own_midi (own_setups o a.0.setups.now) s.1.1.1.0.now))
 unfolding step number_of midi_sent
 send_midi_follows κs a r s c o q =
-    sends _ (midi_send a.1.1.1.0 a.1.1.1.1.0.now) _ _ _ refl refl (q.done c o)
+    sends _ (midi_send a.1.0 a.1.1.0.now) _ _ _ refl refl (q.done c o)
 
 pub send_midi_met : {M : Type 1} → SendMidi·code.statement M
 send_midi_met = SendMidi·proof.met
@@ -122,10 +122,10 @@ send_midi_met = SendMidi·proof.met
 
 pub send_serial_follows : (κs : Lfts 3) (a : Dens κs SendSerial.ps) (r : (res_t SendSerial.r κs).Denot) (s : AtExit (ended_of 3 SendSerial.ps SendSerial.r) κs) (c : Settings) (o : Own)
     → SendSerial·contract.Post κs a r s
-    → Follows (whole c a.1.0 a.0 a.1.1.0 (own_serial (own_setups o a.1.1.1.1.0.now) a.1.1.1.1.1.0.now)) (serial_send a.1.1.1.0.now) (sent_by a.0 r).refusal (whole c a.1.0 (sent_by a.0 r).next a.1.1.0 (own_serial (own_setups o a.1.1.1.1.0.now) s.1.1.1.1.1.0.now))
+    → Follows (whole c a.0.spans a.0.state a.0.packers (own_serial (own_setups o a.0.setups.now) a.1.1.0.now)) (serial_send a.1.0.now) (sent_by a.0.state r).refusal (whole c a.0.spans (sent_by a.0.state r).next a.0.packers (own_serial (own_setups o a.0.setups.now) s.1.1.0.now))
 unfolding step number_of serial_sent
 send_serial_follows κs a r s c o q =
-    sends _ (serial_send a.1.1.1.0.now) _ _ _ refl refl (q.done c o)
+    sends _ (serial_send a.1.0.now) _ _ _ refl refl (q.done c o)
 
 pub send_serial_met : {M : Type 1} → SendSerial·code.statement M
 send_serial_met = SendSerial·proof.met
@@ -134,10 +134,10 @@ send_serial_met = SendSerial·proof.met
 
 pub give_frame_follows : (κs : Lfts 3) (a : Dens κs GiveFrame.ps) (r : (res_t GiveFrame.r κs).Denot) (s : AtExit (ended_of 3 GiveFrame.ps GiveFrame.r) κs) (c : Settings) (o : Own)
     → GiveFrame·contract.Post κs a r s
-    → Follows (whole c a.1.0 a.0 a.1.1.0 (own_setups o a.1.1.1.1.0.now)) (frame_give a.1.1.1.0.now a.1.1.1.1.1.0.now) (sent_by a.0 r).refusal (whole c a.1.0 (sent_by a.0 r).next a.1.1.0 (own_setups o a.1.1.1.1.0.now))
+    → Follows (whole c a.0.spans a.0.state a.0.packers (own_setups o a.0.setups.now)) (frame_give a.1.0.now a.1.1.0.now) (sent_by a.0.state r).refusal (whole c a.0.spans (sent_by a.0.state r).next a.0.packers (own_setups o a.0.setups.now))
 unfolding step number_of given
 give_frame_follows κs a r s c o q =
-    sends _ (frame_give a.1.1.1.0.now a.1.1.1.1.1.0.now) _ _ _ refl refl (q.done c o)
+    sends _ (frame_give a.1.0.now a.1.1.0.now) _ _ _ refl refl (q.done c o)
 
 pub give_frame_met : {M : Type 1} → GiveFrame·code.statement M
 give_frame_met = GiveFrame·proof.met
@@ -146,7 +146,7 @@ give_frame_met = GiveFrame·proof.met
 
 pub take_frame_follows : (κs : Lfts 2) (a : Dens κs TakeFrame.ps) (r : (res_t TakeFrame.r κs).Denot) (s : AtExit (ended_of 2 TakeFrame.ps TakeFrame.r) κs) (c : Settings) (o : Own)
     → TakeFrame·contract.Post κs a r s
-    → Follows (whole c a.1.0 a.0 a.1.1.0 (own_setups o a.1.1.1.0.now)) (frame_take a.1.1.1.1.0.now) (taken_by a.0 r).refusal (whole c a.1.0 (taken_by a.0 r).next a.1.1.0 (own_setups o a.1.1.1.0.now))
+    → Follows (whole c a.0.spans a.0.state a.0.packers (own_setups o a.0.setups.now)) (frame_take a.1.0.now) (taken_by a.0.state r).refusal (whole c a.0.spans (taken_by a.0.state r).next a.0.packers (own_setups o a.0.setups.now))
 unfolding step number_of taken_frame
 take_frame_follows κs a r s c o q =
     record { answers = ap (λ (x : Taken Host). x.refusal) (q.done c o); leaves = ap (λ (x : Taken Host). x.next) (q.done c o) }
@@ -158,7 +158,7 @@ take_frame_met = TakeFrame·proof.met
 
 pub read_device_follows : (κs : Lfts 2) (a : Dens κs ReadDevice.ps) (r : (res_t ReadDevice.r κs).Denot) (s : AtExit (ended_of 2 ReadDevice.ps ReadDevice.r) κs) (c : Settings) (o : Own)
     → ReadDevice·contract.Post κs a r s
-    → Follows (whole c a.1.0 a.0 a.1.1.0 (own_setups o a.1.1.1.0.now)) (device_read a.1.1.1.1.0.now a.1.1.1.1.1.0 a.1.1.1.1.1.1.0) (value_of r).refusal (whole c a.1.0 a.0 a.1.1.0 (own_setups o a.1.1.1.0.now))
+    → Follows (whole c a.0.spans a.0.state a.0.packers (own_setups o a.0.setups.now)) (device_read a.1.0.now a.1.1.0 a.1.1.1.0) (value_of r).refusal (whole c a.0.spans a.0.state a.0.packers (own_setups o a.0.setups.now))
 unfolding step number_of C.device_read
 read_device_follows κs a r s c o q =
     record { answers = ap (λ (x : Read). x.refusal) (q.done c o); leaves = ap (λ (x : Read). x.host) (q.done c o) }
@@ -170,10 +170,10 @@ read_device_met = ReadDevice·proof.met
 
 pub write_device_follows : (κs : Lfts 2) (a : Dens κs WriteDevice.ps) (r : (res_t WriteDevice.r κs).Denot) (s : AtExit (ended_of 2 WriteDevice.ps WriteDevice.r) κs) (c : Settings) (o : Own)
     → WriteDevice·contract.Post κs a r s
-    → Follows (whole c a.1.0 a.0 a.1.1.0 (own_setups o a.1.1.1.0.now)) (device_write a.1.1.1.1.0.now a.1.1.1.1.1.0 a.1.1.1.1.1.1.0 a.1.1.1.1.1.1.1.0) (sent_by a.0 r).refusal (whole c a.1.0 (sent_by a.0 r).next a.1.1.0 (own_setups o a.1.1.1.0.now))
+    → Follows (whole c a.0.spans a.0.state a.0.packers (own_setups o a.0.setups.now)) (device_write a.1.0.now a.1.1.0 a.1.1.1.0 a.1.1.1.1.0) (sent_by a.0.state r).refusal (whole c a.0.spans (sent_by a.0.state r).next a.0.packers (own_setups o a.0.setups.now))
 unfolding step number_of device_written
 write_device_follows κs a r s c o q =
-    sends _ (device_write a.1.1.1.1.0.now a.1.1.1.1.1.0 a.1.1.1.1.1.1.0 a.1.1.1.1.1.1.1.0) _ _ _ refl refl (q.done c o)
+    sends _ (device_write a.1.0.now a.1.1.0 a.1.1.1.0 a.1.1.1.1.0) _ _ _ refl refl (q.done c o)
 
 pub write_device_met : {M : Type 1} → WriteDevice·code.statement M
 write_device_met = WriteDevice·proof.met

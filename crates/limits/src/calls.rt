@@ -3,6 +3,7 @@ use crate::case::{Field, Row};
 use crate::marks::{MARK, WORD_MARK, changed};
 use refusal::Refusal;
 use std::fmt;
+use usbhost::Parts;
 
 // What a call answered: its refusal, or none, and whether it left what it must.
 #[derive(Clone, Copy)]
@@ -61,6 +62,16 @@ pub fn addresses() -> [u8; record::SETUP_BYTES] {
     std::array::from_fn(address)
 }
 
+// The record of a case by the parts that a call reads.
+fn parts<'a>(row: &Row, setups: &'a [u8; record::SETUP_BYTES]) -> Parts<'a> {
+    Parts {
+        state: row.state(),
+        spans: row.size(Field::Spans),
+        packers: row.packers(),
+        setups,
+    }
+}
+
 // A realtime byte makes a packet whatever the packer holds; another is accepted only by rows in which it makes none.
 fn packet_bytes(bytes: &[u8]) -> usize {
     match bytes {
@@ -75,12 +86,9 @@ pub fn midi_sent(row: &Row) -> Seen {
     let byte = [row.byte(Field::MidiByte)];
     let bytes = row.first(Field::MidiBytes, &byte);
     let sent = usbhost::send_midi(
-        row.state(),
-        row.size(Field::Spans),
-        row.packers(),
+        parts(row, &addresses()),
         row.byte(Field::Cable),
         bytes,
-        &addresses(),
         &mut queue,
     );
     Seen::added(sent, changed(&queue, MARK), packet_bytes(bytes))
@@ -90,25 +98,15 @@ pub fn midi_sent(row: &Row) -> Seen {
 pub fn serial_sent(row: &Row, bytes: &[u8]) -> Seen {
     let mut queue = [MARK; record::QUEUE];
     let part = row.first(Field::Bytes, bytes);
-    let sent = usbhost::send_serial(
-        row.state(),
-        row.size(Field::Spans),
-        row.packers(),
-        part,
-        &addresses(),
-        &mut queue,
-    );
+    let sent = usbhost::send_serial(parts(row, &addresses()), part, &mut queue);
     Seen::added(sent, changed(&queue, MARK), part.len())
 }
 
 // The first of these words given to the first of a ring of marks.
 pub fn given(row: &Row, frame: &[u32], ring: &mut [u32]) -> Seen {
     let done = usbhost::give_frame(
-        row.state(),
-        row.size(Field::Spans),
-        row.packers(),
+        parts(row, &addresses()),
         row.first(Field::Frame, frame),
-        &addresses(),
         row.first_mut(Field::SendingRing, ring),
     );
     Seen::added(done, changed(&*ring, WORD_MARK), 12)
@@ -117,10 +115,7 @@ pub fn given(row: &Row, frame: &[u32], ring: &mut [u32]) -> Seen {
 // A frame taken from the first of a ring.
 pub fn taken(row: &Row, ring: &[u32]) -> Seen {
     let done = usbhost::take_frame(
-        row.state(),
-        row.size(Field::Spans),
-        row.packers(),
-        &addresses(),
+        parts(row, &addresses()),
         row.first(Field::ReceivedRing, ring),
     );
     Seen::judged(done, true)
@@ -128,10 +123,7 @@ pub fn taken(row: &Row, ring: &[u32]) -> Seen {
 
 pub fn device_read(row: &Row, page: &[u8]) -> Seen {
     let done = usbhost::read_device(
-        row.state(),
-        row.size(Field::Spans),
-        row.packers(),
-        &addresses(),
+        parts(row, &addresses()),
         row.first(Field::Page, page),
         row.word(Field::Offset),
         row.word(Field::Size),
@@ -143,10 +135,7 @@ pub fn device_read(row: &Row, page: &[u8]) -> Seen {
 pub fn device_written(row: &Row, page: &mut [u8]) -> Seen {
     let size = row.word(Field::Size);
     let done = usbhost::write_device(
-        row.state(),
-        row.size(Field::Spans),
-        row.packers(),
-        &addresses(),
+        parts(row, &addresses()),
         row.first_mut(Field::Page, page),
         row.word(Field::Offset),
         size,

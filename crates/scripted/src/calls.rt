@@ -5,11 +5,12 @@ use crate::areas::{Areas, first_mut};
 use crate::log;
 use crate::run::{Mode, Run};
 use crate::start::read_flag;
-use record::State;
+use record::{SETUP_BYTES, State};
 use refusal::Refusal;
 use script::words::Words;
 use script::{answers, hash};
 use stdio::Output;
+use usbhost::Parts;
 
 // The number that ends a line.
 fn read_last(words: &mut Words) -> Option<u64> {
@@ -67,6 +68,16 @@ impl Run {
         Some(())
     }
 
+    // The record by the parts that a call reads.
+    fn parts<'a>(&self, setups: &'a [u8; SETUP_BYTES]) -> Parts<'a> {
+        Parts {
+            state: self.state,
+            spans: self.settings.spans,
+            packers: self.packers,
+            setups,
+        }
+    }
+
     // A refused call.
     fn refuse(&mut self, refusal: Refusal, out: &mut Output) {
         self.count_refused();
@@ -96,15 +107,7 @@ impl Run {
         let size = words.word()?;
         let off = words.word()?;
         words.end()?;
-        let read = usbhost::read_device(
-            self.state,
-            self.settings.spans,
-            self.packers,
-            &areas.setups,
-            &areas.page,
-            off,
-            size,
-        );
+        let read = usbhost::read_device(self.parts(&areas.setups), &areas.page, off, size);
         match read {
             Ok(value) => answers::single(out, b'r', u64::from(value)),
             Err(refusal) => self.refuse(refusal, out),
@@ -126,10 +129,7 @@ impl Run {
         let value = words.word()?;
         words.end()?;
         let written = usbhost::write_device(
-            self.state,
-            self.settings.spans,
-            self.packers,
-            &areas.setups,
+            self.parts(&areas.setups),
             &mut areas.page,
             off,
             size,
@@ -151,12 +151,9 @@ impl Run {
     {
         let bytes = words.bytes(&mut areas.bytes)?;
         let sent = usbhost::send_midi(
-            self.state,
-            self.settings.spans,
-            self.packers,
+            self.parts(&areas.setups),
             cable.min(255) as u8,
             bytes,
-            &areas.setups,
             &mut areas.midi,
         );
         if let Ok(sent) = sent {
@@ -177,14 +174,7 @@ impl Run {
         ensures { IsNone result → self.new ≡ self.old }
     {
         let bytes = words.bytes(&mut areas.bytes)?;
-        let sent = usbhost::send_serial(
-            self.state,
-            self.settings.spans,
-            self.packers,
-            bytes,
-            &areas.setups,
-            &mut areas.serial,
-        );
+        let sent = usbhost::send_serial(self.parts(&areas.setups), bytes, &mut areas.serial);
         self.store(sent, out);
         Some(())
     }
@@ -200,11 +190,8 @@ impl Run {
     {
         let frame = read_frame(words)?;
         let given = usbhost::give_frame(
-            self.state,
-            self.settings.spans,
-            self.packers,
+            self.parts(&areas.setups),
             &frame,
-            &areas.setups,
             first_mut(&mut areas.sending, self.sending_words()),
         );
         self.store(given, out);
@@ -213,13 +200,7 @@ impl Run {
 
     // The oldest frame that came, where there is one.
     fn next_frame(&mut self, areas: &Areas) -> Result<Option<[u32; 12]>, Refusal> {
-        let taken = usbhost::take_frame(
-            self.state,
-            self.settings.spans,
-            self.packers,
-            &areas.setups,
-            &areas.received,
-        )?;
+        let taken = usbhost::take_frame(self.parts(&areas.setups), &areas.received)?;
         self.state = taken.next;
         Ok(taken.frame)
     }

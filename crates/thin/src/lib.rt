@@ -7,16 +7,9 @@ ghost use Rattle.record.specs.World.{lent};
 ghost use Rattle.usbhost.specs.Frame.{framed, frame_answer};
 ghost use Rattle.thin.specs.Thin.{answered};
 
+use record::Answer;
 use refusal::Refusal;
 use usbhost::Host;
-
-// A microframe's answer: how many MIDI or serial bytes stand in the receive area, the bytes that no window took, and the descriptors retired.
-#[derive(Clone, Copy)]
-pub struct Answered {
-    pub received: usize,
-    pub dropped: u64,
-    pub retired: u64,
-}
 
 // One microframe of 125 microseconds at a time, on the record behind a reference.
 pub fn microframe(
@@ -31,14 +24,14 @@ pub fn microframe(
     cables: &mut [u8],
     received: &mut [u32],
     sending: &[u32],
-) -> Result<Answered, Refusal>
+) -> Result<Answer, Refusal>
     ensures { (answered result host.new ≡ frame_answer time host.old (lent (shown dynamic.old sram.old page.old) reply.old config.old receive.old cables.old received.old sending.now)) × (lent (shown dynamic.new sram.new page.new) reply.new config.new receive.new cables.new received.new sending.now ≡ (framed time host.old (lent (shown dynamic.old sram.old page.old) reply.old config.old receive.old cables.old received.old sending.now)).lent) }
 {
     let f = Host::microframe(
         *host, time, dynamic, sram, page, reply, config, receive, cables, received, sending,
     )?;
     *host = f.host;
-    Ok(Answered {
+    Ok(Answer {
         received: f.received,
         dropped: f.dropped,
         retired: f.retired,

@@ -9,7 +9,7 @@ use borrow.Author.Tests.{ne_eqb}
 use Rattle.bits.specs.Pick.{pick}
 use Rattle.refusal.specs.declared.Refusal.{Refusal}
 use Rattle.refusal.specs.declared.Refusal.TheVariants.{Windows, Areas, Spans, Access, Bounds, Microframes, Space, Cable}
-use Rattle.refusal.specs.Number.{number}
+use Rattle.refusal.specs.Number.{number, number_of}
 use Rattle.midi.specs.declared.Packer.{Packer}
 use Rattle.record.specs.declared.Settings.{Settings}
 use Rattle.record.specs.declared.State.{State}
@@ -47,6 +47,22 @@ cable_stops true true true x n e h = absurd (h e)
 cable_stops true true false x n e h = sym e
 cable_stops true false b x n e h = sym e
 cable_stops false k b x n e h = sym e
+
+-- numbers 3 and 5, where number 5 asks for more than the record's own bounds
+pub record_stands : (a b k : Bool) (x : ℕ) → unless 3 a (unless 5 b 0) ≡ 0 → unless 3 a (unless 5 (b && k) x) ≡ unless 5 k x
+record_stands true true k x e = refl
+record_stands true false k x e = absurd (omega arith)
+record_stands false b k x e = absurd (omega arith)
+
+pub record_stops : (a b k : Bool) (x n : ℕ) → n ≡ unless 3 a (unless 5 b 0) → (n ≡ 0 → ⊥) → n ≡ unless 3 a (unless 5 (b && k) x)
+record_stops true true k x n e m = absurd (m e)
+record_stops true false k x n e m = e
+record_stops false b k x n e m = e
+
+-- the number of a test
+pub tested : (t : Bool) (r : Refusal) → number_of {A = Unit {0}} (pick t (Ok tt) (Err r)) ≡ unless (number r) t 0
+tested true r = refl
+tested false r = refl
 
 -- a test that gives no number is met
 pub met : (number : ℕ) (t : Bool) (x : ℕ) → 0 < number → unless number t x ≡ 0 → (t ≡ true) × (x ≡ 0)

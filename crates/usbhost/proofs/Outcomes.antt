@@ -2,7 +2,7 @@
 use Rattle.std.specs.Prelude.{Result, Ok, Err, IfOk}
 use mathlib.Core.Path.{◌≡◌, refl, sym, ap, subst, ◌∙◌}
 use mathlib.Core.Bool.{Bool, true, false, ◌&&◌}
-use mathlib.Core.List.{List}
+use mathlib.Core.List.{List, []}
 use Prim.Native.Nat.{ℕ, ◌+◌, ◌*◌, ◌/◌, ◌%◌, ◌≤◌, ◌<◌}
 use native.Mathlib.Nat.{mod-lt}
 use native.Mathlib.Omega.{arith}
@@ -26,13 +26,13 @@ use Rattle.record.specs.declared.State.{State}
 use Rattle.record.specs.Record.{with_lengths, with_midi, with_serial, with_audio, with_received, with_sending, with_port, with_line}
 use Rattle.record.specs.Change.{taken_from}
 use Rattle.bounds.specs.Bounds.{in_bounds, asked_ok, held_ok, counted_ok, audio_ok, queues_ok, packers_ok, received_ok, sending_ok}
-use Rattle.record.specs.World.{Own, own_setups, own_midi, own_serial}
+use Rattle.record.specs.World.{Own, own, own_setups, own_midi, own_serial}
 use Rattle.usbhost.specs.declared.Host.{Host}
-use Rattle.usbhost.specs.Answers.{sent}
-use Rattle.usbhost.specs.Host.{host_of, state_of}
+use Rattle.usbhost.specs.Answers.{sent, Read}
+use Rattle.usbhost.specs.Host.{host_of, state_of, no_settings}
 use Rattle.usbhost.specs.Calls.{unless, few_spans, bounded, midi_number, midi_queued, midi_sent, serial_number, serial_queued, serial_sent, sending_length, give_number, frame_put, frame_given, given, given_ring, take_number, frame_taken, oldest, holds_frame, taken_frame, access_number, device_read, with_flag, device_written, written_page}
 use Rattle.usbhost.specs.Promises.{with_spans, bare, MidiPromise, SerialPromise, GivePromise, TakePromise, ReadPromise, WritePromise}
-use Rattle.usbhost.proofs.Laws.{cable_stands, cable_stops, met, goes, stops, refused, by_test, same_bounds}
+use Rattle.usbhost.proofs.Laws.{cable_stands, cable_stops, record_stands, record_stops, met, goes, stops, refused, by_test, same_bounds}
 
 -- ---- sends
 
@@ -183,6 +183,20 @@ accepted_gives h frame sending e =
       room = ltb-true _ _ (met 7 (ltb h.audio.sending.len (length sending / 12)) 0 (omega arith) bounds.1).0;
     }
 
+module _ (s : State) (spans : ℕ) (packers : List Packer) (setups frame sending : List ℕ) (two : (sending_length (length sending) && eqb (length frame) 12) ≡ true)
+    {n : ℕ} (e : n ≡ unless 3 (leb spans 16) (unless 5 (in_bounds s packers setups) 0)) where
+  -- number 3 or 5 of the record is the call's
+  pub give_asks : (n ≡ 0 → ⊥) → n ≡ give_number (bare s spans packers setups) frame sending
+  unfolding give_number
+  give_asks m =
+      rw (two, same_bounds s (with_spans no_settings spans) packers (own setups [] [] [])) (record_stops (leb spans 16) (in_bounds s packers setups) _ _ n e m)
+
+  -- where neither is met, the ring decides
+  pub give_rest : n ≡ 0 → give_number (bare s spans packers setups) frame sending ≡ unless 5 (sending_ok s (length sending)) (unless 7 (ltb s.audio.sending.len (length sending / 12)) 0)
+  unfolding give_number
+  give_rest z =
+      rw (two, same_bounds s (with_spans no_settings spans) packers (own setups [] [] [])) (record_stands (leb spans 16) (in_bounds s packers setups) _ _ (sym e ∙ z))
+
 -- the place of the next frame
 abbrev pub newest : State → ℕ → ℕ
 newest s n = (s.audio.sending.start + s.audio.sending.len) % (n / 12)
@@ -242,6 +256,13 @@ accepted_takes h received e =
     let bounds = met 5 (bounded h && received_ok (state_of h)) 0 (omega arith) three.1 in
     let ring = in_ring h.audio.received 48000 (and_true (bounded h) _ bounds.0).1 in
     record { long = eqb-true (length received) 576000 two.0; inside = ring.0; few = ring.1 }
+
+-- where numbers 2, 3 and 5 of the record are not met, the ring decides
+pub take_rest : (s : State) (spans : ℕ) (packers : List Packer) (setups received : List ℕ) → eqb (length received) 576000 ≡ true
+    → 0 ≡ unless 3 (leb spans 16) (unless 5 (in_bounds s packers setups) 0) → take_number (bare s spans packers setups) received ≡ unless 5 (received_ok s) 0
+unfolding take_number
+take_rest s spans packers setups received two e =
+    rw (two, same_bounds s (with_spans no_settings spans) packers (own setups [] [] [])) (record_stands (leb spans 16) (in_bounds s packers setups) _ _ (sym e))
 
 module _ (s : State) (spans : ℕ) (packers : List Packer) (setups received : List ℕ) {n : ℕ} (e : n ≡ take_number (bare s spans packers setups) received) where
   pub takes : n ≡ 0 → Takes s received
@@ -339,9 +360,22 @@ module _ (s : State) (spans : ℕ) (packers : List Packer) (setups page : List �
               rw d.1 (simp (right, number));
         }
 
+number_read : (r : Result ℕ Refusal) → number_of r ≡ (value_of r).refusal
+number_read (Ok v) = refl
+number_read (Err r) = refl
+
 -- a read, by what it answers
 pub read_promise : (s : State) (spans : ℕ) (packers : List Packer) (setups page : List ℕ) (off size : ℕ) (r : Result ℕ Refusal)
     → number_of r ≡ unless 1 (eqb (length page) 4096) (unless 3 (leb spans 16) (unless 4 (fits off size) (unless 5 (in_bounds s packers setups) 0)))
     → IfOk r (λ v. v ≡ read_sized page off size) → ReadPromise s spans packers setups page off size (value_of r)
 read_promise s spans packers setups page off size (Ok v) e d = read_goes s spans packers setups page off size e refl v d
 read_promise s spans packers setups page off size (Err r) e d = read_stops s spans packers setups page off size e (refused r)
+
+-- and its number, by the promise
+pub read_number : (s : State) (spans : ℕ) (packers : List Packer) (setups page : List ℕ) (off size : ℕ) (r : Result ℕ Refusal)
+    → ReadPromise s spans packers setups page off size (value_of r)
+    → number_of r ≡ unless 1 (eqb (length page) 4096) (unless 3 (leb spans 16) (unless 4 (fits off size) (unless 5 (in_bounds s packers setups) 0)))
+unfolding device_read access_number
+read_number s spans packers setups page off size r d =
+    let o = own setups [] [] [] in
+    rw (same_bounds s (with_spans no_settings spans) packers o) at (number_read r ∙ ap (λ (x : Read). x.refusal) (d.done no_settings o))

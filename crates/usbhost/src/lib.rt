@@ -207,26 +207,30 @@ fn new_host(c: Settings) -> Host
     }
 }
 
-// Numbers 3 and 5 of a record.
-fn record_passes(
-    parts: Parts<'_>,
-) -> Result<(), Refusal>
-    ensures { number_of result ≡ unless 3 (leb parts.entry.spans 16) (unless 5 (in_bounds parts.entry.state parts.entry.packers parts.entry.setups.now) 0) }
-{
-    refusal::unless(parts.spans <= 16, Refusal::Spans)?;
-    refusal::unless(bounds::in_bounds(parts.state, parts.packers, parts.setups), Refusal::Bounds)
-}
+impl Parts<'_> {
+    // Whether what no area bounds is in its bounds.
+    fn bounded(self) -> bool
+        ensures { result ≡ in_bounds self.entry.state self.entry.packers self.entry.setups.now }
+    {
+        bounds::in_bounds(self.state, self.packers, self.setups)
+    }
 
-// Numbers 3, 8 and 5 of a send on a cable.
-fn cable_passes(
-    parts: Parts<'_>,
-    cable: u8,
-) -> Result<(), Refusal>
-    ensures { number_of result ≡ unless 3 (leb parts.entry.spans 16) (unless 8 (is_cable cable) (unless 5 (in_bounds parts.entry.state parts.entry.packers parts.entry.setups.now) 0)) }
-{
-    refusal::unless(parts.spans <= 16, Refusal::Spans)?;
-    refusal::unless(usize::from(cable) < CABLES, Refusal::Cable)?;
-    refusal::unless(bounds::in_bounds(parts.state, parts.packers, parts.setups), Refusal::Bounds)
+    // Numbers 3 and 5 of a record.
+    fn passes(self) -> Result<(), Refusal>
+        ensures { number_of result ≡ unless 3 (leb self.entry.spans 16) (unless 5 (in_bounds self.entry.state self.entry.packers self.entry.setups.now) 0) }
+    {
+        refusal::unless(self.spans <= 16, Refusal::Spans)?;
+        refusal::unless(self.bounded(), Refusal::Bounds)
+    }
+
+    // Numbers 3, 8 and 5 of a send on a cable.
+    fn cable_passes(self, cable: u8) -> Result<(), Refusal>
+        ensures { number_of result ≡ unless 3 (leb self.entry.spans 16) (unless 8 (is_cable cable) (unless 5 (in_bounds self.entry.state self.entry.packers self.entry.setups.now) 0)) }
+    {
+        refusal::unless(self.spans <= 16, Refusal::Spans)?;
+        refusal::unless(usize::from(cable) < CABLES, Refusal::Cable)?;
+        refusal::unless(self.bounded(), Refusal::Bounds)
+    }
 }
 
 // Sends MIDI bytes on a cable: their packets go behind those that wait.
@@ -238,9 +242,15 @@ pub fn send_midi(
 ) -> Result<MidiSent, Refusal>
     ensures { MidiPromise parts.entry.state parts.entry.spans parts.entry.packers cable bytes.now parts.entry.setups.now midi.old (midi_sent_by parts.entry.state parts.entry.packers result) midi.new }
 {
-    cable_passes(parts, cable)?;
+    parts.cable_passes(cable)?;
     let place = usize::from(cable);
-    let sent = midi::send(parts.packers[place], cable, bytes, midi, parts.state.lengths.midi)?;
+    let sent = midi::send(
+        parts.packers[place],
+        cable,
+        bytes,
+        midi,
+        parts.state.lengths.midi,
+    )?;
     let mut fed = parts.packers;
     fed[place] = sent.packer;
     let mut next = parts.state;
@@ -259,7 +269,7 @@ pub fn send_serial(
 ) -> Result<State, Refusal>
     ensures { SerialPromise parts.entry.state parts.entry.spans parts.entry.packers bytes.now parts.entry.setups.now serial.old (sent_by parts.entry.state result) serial.new }
 {
-    record_passes(parts)?;
+    parts.passes()?;
     let held = parts.state.lengths.serial;
     refusal::unless(bytes.len() <= QUEUE - held, Refusal::Space)?;
     bus::put_all(serial, held, bytes);
@@ -278,30 +288,20 @@ fn sending_length(n: usize) -> bool
 
 // Numbers 2, 3, 5 and 7 of a frame given.
 #[tactic(auto, unfolding(crate::specs::Calls::give_number, bounds::specs::Bounds::in_bounds, bounds::specs::Bounds::enumerating_ok, bounds::specs::Bounds::counts_ok))]
-fn give_passes(
-    parts: Parts<'_>,
-    frame: &[u32],
-    sending: &[u32],
-) -> Result<(), Refusal>
+fn give_passes(parts: Parts<'_>, frame: &[u32], sending: &[u32]) -> Result<(), Refusal>
     ensures { number_of result ≡ give_number (bare parts.entry.state parts.entry.spans parts.entry.packers parts.entry.setups.now) frame.now sending.now }
 {
     let right = sending_length(sending.len());
     refusal::unless(right & (frame.len() == Host::CHANNELS), Refusal::Areas)?;
-    refusal::unless(parts.spans <= 16, Refusal::Spans)?;
+    parts.passes()?;
     let ring = parts.state.audio.sending;
     let capacity = sending.len() / Host::CHANNELS;
-    let bounded = bounds::in_bounds(parts.state, parts.packers, parts.setups);
-    let inside = bounds::ring_ok(ring, capacity);
-    refusal::unless(bounded & inside, Refusal::Bounds)?;
+    refusal::unless(bounds::ring_ok(ring, capacity), Refusal::Bounds)?;
     refusal::unless(ring.len < capacity, Refusal::Space)
 }
 
 // Gives a frame to the sending ring: it goes behind the newest.
-pub fn give_frame(
-    parts: Parts<'_>,
-    frame: &[u32],
-    sending: &mut [u32],
-) -> Result<State, Refusal>
+pub fn give_frame(parts: Parts<'_>, frame: &[u32], sending: &mut [u32]) -> Result<State, Refusal>
     ensures { GivePromise parts.entry.state parts.entry.spans parts.entry.packers frame.now parts.entry.setups.now sending.old (sent_by parts.entry.state result) sending.new }
 {
     give_passes(parts, frame, &*sending)?;
@@ -317,17 +317,13 @@ pub fn give_frame(
 
 // Numbers 2, 3 and 5 of a frame taken.
 #[tactic(auto, unfolding(crate::specs::Calls::take_number, bounds::specs::Bounds::in_bounds, bounds::specs::Bounds::enumerating_ok, bounds::specs::Bounds::counts_ok))]
-fn take_passes(
-    parts: Parts<'_>,
-    received: &[u32],
-) -> Result<(), Refusal>
+fn take_passes(parts: Parts<'_>, received: &[u32]) -> Result<(), Refusal>
     ensures { number_of result ≡ take_number (bare parts.entry.state parts.entry.spans parts.entry.packers parts.entry.setups.now) received.now }
 {
     refusal::unless(received.len() == RING, Refusal::Areas)?;
-    refusal::unless(parts.spans <= 16, Refusal::Spans)?;
-    let bounded = bounds::in_bounds(parts.state, parts.packers, parts.setups);
+    parts.passes()?;
     let inside = bounds::ring_ok(parts.state.audio.received, RING_FRAMES);
-    refusal::unless(bounded & inside, Refusal::Bounds)
+    refusal::unless(inside, Refusal::Bounds)
 }
 
 // The lengths of the areas that a microframe is lent.
@@ -355,33 +351,29 @@ impl AreaLengths {
     }
 
     // Whether a record is in its bounds, with areas of these lengths.
-    fn bound(self, s: State, packers: [Packer; CABLES], setups: &[u8; SETUP_BYTES]) -> bool
-        ensures { result ≡ (in_bounds s packers setups.now && (areas_ok s self.reply self.config && (received_ok s && sending_ok s self.sending))) }
+    fn bound(self, parts: Parts<'_>) -> bool
+        ensures { result ≡ (in_bounds parts.entry.state parts.entry.packers parts.entry.setups.now && (areas_ok parts.entry.state self.reply self.config && (received_ok parts.entry.state && sending_ok parts.entry.state self.sending))) }
     {
-        let bounded = bounds::in_bounds(s, packers, setups);
-        let areas = bounds::areas_ok(s, self.reply, self.config);
-        let heard = bounds::ring_ok(s.audio.received, RING_FRAMES);
-        let sent = bounds::ring_ok(s.audio.sending, self.sending / Host::CHANNELS);
-        bounded & (areas & (heard & sent))
+        let areas = bounds::areas_ok(parts.state, self.reply, self.config);
+        let heard = bounds::ring_ok(parts.state.audio.received, RING_FRAMES);
+        let sent = bounds::ring_ok(parts.state.audio.sending, self.sending / Host::CHANNELS);
+        parts.bounded() & (areas & (heard & sent))
     }
 }
 
 // Numbers 2, 3, 5 and 6 of a microframe: the lengths of the areas, and the record.
 #[tactic(auto, using(crate::proofs::Frame::lengths_long))]
-fn microframe_passes(
-    lengths: AreaLengths,
-    s: State,
-    spans: usize,
-    packers: [Packer; CABLES],
-    setups: &[u8; SETUP_BYTES],
-) -> Result<(), Refusal>
-    ensures number { number_of result ≡ unless 2 (lengths_ok lengths.reply lengths.config lengths.receive lengths.cables lengths.received lengths.sending) (unless 3 (leb spans 16) (unless 5 (in_bounds s packers setups.now && (areas_ok s lengths.reply lengths.config && (received_ok s && sending_ok s lengths.sending))) (unless 6 (ltb s.port.uf MOST) 0))) }
+fn microframe_passes(lengths: AreaLengths, parts: Parts<'_>) -> Result<(), Refusal>
+    ensures number { number_of result ≡ unless 2 (lengths_ok lengths.reply lengths.config lengths.receive lengths.cables lengths.received lengths.sending) (unless 3 (leb parts.entry.spans 16) (unless 5 (in_bounds parts.entry.state parts.entry.packers parts.entry.setups.now && (areas_ok parts.entry.state lengths.reply lengths.config && (received_ok parts.entry.state && sending_ok parts.entry.state lengths.sending))) (unless 6 (ltb parts.entry.state.port.uf MOST) 0))) }
     ensures long { OnOk result (Long lengths.reply lengths.config lengths.receive lengths.cables lengths.received lengths.sending) }
 {
     refusal::unless(lengths.long(), Refusal::Areas)?;
-    refusal::unless(spans <= 16, Refusal::Spans)?;
-    refusal::unless(lengths.bound(s, packers, setups), Refusal::Bounds)?;
-    refusal::unless(s.port.uf < 1_099_511_627_776, Refusal::Microframes)
+    refusal::unless(parts.spans <= 16, Refusal::Spans)?;
+    refusal::unless(lengths.bound(parts), Refusal::Bounds)?;
+    refusal::unless(
+        parts.state.port.uf < 1_099_511_627_776,
+        Refusal::Microframes,
+    )
 }
 
 // The state with nothing received, dropped or retired yet.
@@ -430,7 +422,13 @@ pub fn run_microframe(
         received: received.len(),
         sending: sending.len(),
     };
-    microframe_passes(lengths, fresh, c.spans, packers, &*setups)?;
+    let parts = Parts {
+        state: fresh,
+        spans: c.spans,
+        packers,
+        setups: &*setups,
+    };
+    microframe_passes(lengths, parts)?;
     let sram = sram.as_mut_array::<SRAM>().unwrap();
     let page = page.as_mut_array::<PAGE>().unwrap();
     let received = received.as_mut_array::<RING>().unwrap();
@@ -455,10 +453,7 @@ pub fn run_microframe(
 }
 
 // Takes the oldest frame from the received ring, or finds it empty.
-pub fn take_frame(
-    parts: Parts<'_>,
-    received: &[u32],
-) -> Result<Taken<State>, Refusal>
+pub fn take_frame(parts: Parts<'_>, received: &[u32]) -> Result<Taken<State>, Refusal>
     ensures { TakePromise parts.entry.state parts.entry.spans parts.entry.packers parts.entry.setups.now received.now (taken_by parts.entry.state result) }
 {
     take_passes(parts, received)?;
@@ -482,34 +477,15 @@ pub fn take_frame(
     })
 }
 
-// Numbers 1, 3, 4 and 5 of a device access, and what a read at its place gives.
-#[tactic(auto, unfolding(usbdev::specs::Access::reading, usbdev::specs::Access::refusal))]
-fn access(
-    parts: Parts<'_>,
-    page: &[u8],
-    off: u32,
-    size: u32,
-) -> Result<u32, Refusal>
-    ensures number { number_of result ≡ unless 1 (eqb (length page.now) 4096) (unless 3 (leb parts.entry.spans 16) (unless 4 (fits off size) (unless 5 (in_bounds parts.entry.state parts.entry.packers parts.entry.setups.now) 0))) }
-    ensures value { IfOk result (λ v. v ≡ read_sized page.now off size) }
+// What the device reads on the register page.
+pub fn read_device(parts: Parts<'_>, page: &[u8], off: u32, size: u32) -> Result<u32, Refusal>
+    ensures { ReadPromise parts.entry.state parts.entry.spans parts.entry.packers parts.entry.setups.now page.now off size (value_of result) }
 {
     refusal::unless(page.len() == PAGE, Refusal::Windows)?;
     refusal::unless(parts.spans <= 16, Refusal::Spans)?;
     let value = usbdev::read(page, off, size)?;
-    refusal::unless(bounds::in_bounds(parts.state, parts.packers, parts.setups), Refusal::Bounds)?;
+    refusal::unless(parts.bounded(), Refusal::Bounds)?;
     Ok(value)
-}
-
-// What the device reads on the register page.
-pub fn read_device(
-    parts: Parts<'_>,
-    page: &[u8],
-    off: u32,
-    size: u32,
-) -> Result<u32, Refusal>
-    ensures { ReadPromise parts.entry.state parts.entry.spans parts.entry.packers parts.entry.setups.now page.now off size (value_of result) }
-{
-    access(parts, page, off, size)
 }
 
 // What the device writes on the register page.
@@ -522,7 +498,7 @@ pub fn write_device(
 ) -> Result<State, Refusal>
     ensures { WritePromise parts.entry.state parts.entry.spans parts.entry.packers parts.entry.setups.now page.old off size v (sent_by parts.entry.state result) page.new }
 {
-    access(parts, &*page, off, size)?;
+    read_device(parts, &*page, off, size)?;
     let line = usbdev::write(page, off, size, v, parts.state.port.line)?;
     let mut next = parts.state;
     next.port.line = line;
