@@ -23,16 +23,7 @@ use refusal::{Refusal, unless};
 pub fn pointers(view: View<'_>, td: u32) -> [u32; 9]
     ensures { result ≡ T.pointers (viewed view.entry) td }
 {
-    let p0 = view.peek32(td.wrapping_add(8));
-    let p1 = view.peek32(td.wrapping_add(12));
-    let p2 = view.peek32(td.wrapping_add(16));
-    let p3 = view.peek32(td.wrapping_add(20));
-    let p4 = view.peek32(td.wrapping_add(24));
-    let p5 = view.peek32(td.wrapping_add(28));
-    let p6 = view.peek32(td.wrapping_add(32));
-    let p7 = view.peek32(td.wrapping_add(36));
-    let p8 = view.peek32(td.wrapping_add(40));
-    [p0, p1, p2, p3, p4, p5, p6, p7, p8]
+    std::array::from_fn(|i| view.peek32(td.wrapping_add(8 + 4 * (i as u32))))
 }
 
 // The page pointers that the first total bytes of the dTD at td use; an entry that is not read is 0.
