@@ -74,11 +74,7 @@ impl Run {
             match turn(&*self, state, areas, time) {
                 Ok(next) => state = next,
                 Err(_) => {
-                    state.answer = Answer {
-                        received: 0,
-                        dropped: 0,
-                        retired: 0,
-                    };
+                    state.answer = Answer::NONE;
                     self.count_refused();
                 }
             }

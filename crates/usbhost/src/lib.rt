@@ -176,11 +176,7 @@ pub fn new_state() -> State
             device: 0,
             config: 0,
         },
-        answer: Answer {
-            received: 0,
-            dropped: 0,
-            retired: 0,
-        },
+        answer: Answer::NONE,
     }
 }
 
@@ -380,13 +376,8 @@ fn microframe_passes(lengths: AreaLengths, parts: Parts<'_>) -> Result<(), Refus
 fn unanswered(s: State) -> State
     ensures { result ≡ unanswered s }
 {
-    let none = Answer {
-        received: 0,
-        dropped: 0,
-        retired: 0,
-    };
     let mut next = s;
-    next.answer = none;
+    next.answer = Answer::NONE;
     next
 }
 
@@ -569,11 +560,7 @@ impl Host {
             timers: self.timers,
             stats,
             lengths: self.lengths,
-            answer: Answer {
-                received: 0,
-                dropped: 0,
-                retired: 0,
-            },
+            answer: Answer::NONE,
         }
     }
 
