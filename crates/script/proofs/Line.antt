@@ -1,10 +1,11 @@
 -- Digits, and the numbers that they make.
-use Rattle.std.proofs.Common.{◌≡◌, ℕ, ◌+◌, ◌*◌, ◌%◌, ◌^◌, ◌<◌, ◌≤◌, List, [], ◌∷◌, suc, length, get_or, drop, ap, ◌∙◌, arith, lit<}
+use Rattle.std.proofs.Common.{◌≡◌, ℕ, ◌+◌, ◌*◌, ◌%◌, ◌^◌, ◌<◌, ◌≤◌, Option, None, Some, List, [], ◌∷◌, suc, length, get_or, take, drop, sym, ap, ◌∙◌, add-one, arith, lit<}
 use Rattle.std.proofs.Math.Nat.{mul-le-mul_right, pow-le-pow_right, pow-suc}
-use Rattle.std.specs.Prelude.{unwrap_or, bit_or}
+use Rattle.std.specs.Prelude.{is_some, unwrap_or, bit_or}
+use Rattle.bits.specs.Pick.{pick}
 use Rattle.std.proofs.lemmas.Nat.{or_shifted}
-use Rattle.std.proofs.lemmas.List.{at_drop_more}
-use Rattle.script.specs.Line.{digit, byte, hex, bytes}
+use Rattle.std.proofs.lemmas.List.{at_drop_more, length-take}
+use Rattle.script.specs.Line.{digit, byte, run, hex, bytes}
 
 pub worth_lt : (b : ℕ) → unwrap_or (digit b) 0 < 16
 worth_lt b = grind arith
@@ -49,3 +50,29 @@ bytes_more ds k h =
   where
     two : k + 1 + 1 ≡ k + 2
     two = omega arith
+
+-- the digits that a text begins with
+abbrev pub leading : List ℕ → List ℕ
+leading ds = take (run ds) ds
+
+-- a text that begins with a digit
+pub digit_more : (b d : ℕ) (bs : List ℕ) → digit b ≡ Some d → (run (b ∷ bs) ≡ run bs + 1) × (leading (b ∷ bs) ≡ b ∷ leading bs)
+unfolding run
+digit_more b d bs e =
+    let one : run (b ∷ bs) ≡ run bs + 1 = ap (λ (o : Option ℕ). pick (is_some o) (run bs + 1) 0) e in
+    let next : run (b ∷ bs) ≡ suc (run bs) = one ∙ add-one _ in
+    (one, ap (λ (n : ℕ). take n (b ∷ bs)) next)
+
+-- and one that does not
+pub digit_none : (b : ℕ) (bs : List ℕ) → digit b ≡ None → run (b ∷ bs) ≡ 0
+unfolding run
+digit_none b bs e = ap (λ (o : Option ℕ). pick (is_some o) (run bs + 1) 0) e
+
+-- at the last of the digits that a text begins with, the number so far is theirs
+pub number_ends : (ds : List ℕ) (i v : ℕ) → run ds ≡ i → run (drop i ds) ≡ 0 → hex v (leading (drop i ds)) % 2 ^ 64 ≡ hex 0 (leading ds) % 2 ^ 64 → v < 2 ^ 64 → i ≤ 16 → v ≡ hex 0 (leading ds)
+unfolding hex
+number_ends ds i v count ends e small few =
+    let none : leading (drop i ds) ≡ [] = ap (λ (n : ℕ). take n (drop i ds)) ends in
+    let now : v % 2 ^ 64 ≡ hex 0 (leading ds) % 2 ^ 64 = sym (ap (λ (bs : List ℕ). hex v bs % 2 ^ 64) none) ∙ e in
+    let whole : hex 0 (leading ds) % 2 ^ 64 ≡ hex 0 (leading ds) = hex_fits (leading ds) (omega (arith, length-take (run ds) ds)) in
+    omega arith

@@ -1,5 +1,5 @@
 // The words of a line: numbers and byte strings in lower-case hexadecimal.
-ghost use Rattle.std.specs.Prelude.{◌≡◌, ◌+◌, ◌*◌, ◌/◌, ◌%◌, ◌^◌, ◌<◌, ◌≤◌, ◌↔◌, [], drop, length, IsSome, IfSome, IfNone, None, option_map, option_copied};
+ghost use Rattle.std.specs.Prelude.{◌≡◌, ◌+◌, ◌*◌, ◌/◌, ◌%◌, ◌^◌, ◌<◌, ◌≤◌, ◌↔◌, [], take, drop, length, IsSome, IfSome, IfNone, None, option_map, option_copied};
 ghost use Rattle.script.specs.Line as L;
 
 // The letter that a line begins with, where a space or the end follows it.
@@ -32,30 +32,20 @@ pub fn byte(high: u8, low: u8) -> Option<u8>
     Some(digit(high)? * 16 + digit(low)?)
 }
 
-// With how many digits a text begins.
-#[tactic(auto, unfolding(crate::specs::Line::run))]
-fn run(text: &[u8]) -> usize
-    ensures value { result ≡ L.run text.now }
-    ensures inside { result ≤ length text.now }
-{
-    for (i, b) in text.iter().enumerate() {
-        if digit(*b).is_none() {
-            return i;
-        }
-    }
-    text.len()
-}
-
-// The number that at most sixteen digits make.
-fn value(digits: &[u8]) -> u64
-    requires { length digits.now ≤ 16 }
-    ensures { result ≡ L.hex 0 digits.now }
+// With how many digits a text begins, and the number that they make where they are at most sixteen.
+fn read(text: &[u8]) -> (usize, u64)
+    ensures count { result.0 ≡ L.run text.now }
+    ensures inside { result.0 ≤ length text.now }
+    ensures value { result.0 ≤ 16 → result.1 ≡ L.hex 0 (take (L.run text.now) text.now) }
 {
     let mut value: u64 = 0;
-    for b in digits {
-        value = (value << 4) | u64::from(digit(*b).unwrap_or(0));
+    for (i, b) in text.iter().enumerate() {
+        let Some(d) = digit(*b) else {
+            return (i, value);
+        };
+        value = (value << 4) | u64::from(d);
     }
-    value
+    (text.len(), value)
 }
 
 // Stores the bytes of some digits, two for each.
@@ -110,10 +100,10 @@ impl<'a> Words<'a> {
     {
         self.space()?;
         let text = &self.line[self.next..];
-        let count = run(text);
+        let (count, value) = read(text);
         self.next += count;
         if 1 <= count && count <= 16 {
-            Some(value(&text[..count]))
+            Some(value)
         } else {
             None
         }
@@ -162,7 +152,7 @@ impl<'a> Words<'a> {
         ensures inside { IfSome result (λ text. length text.now ≤ length self.old.line.now) }
     {
         let text = self.pairs()?;
-        if run(text) < text.len() {
+        if read(text).0 < text.len() {
             return None;
         }
         Some(text)
