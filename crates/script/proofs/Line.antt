@@ -1,11 +1,11 @@
 -- Digits, and the numbers that they make.
 use Rattle.std.proofs.Common.{◌≡◌, ℕ, ◌+◌, ◌*◌, ◌%◌, ◌^◌, ◌<◌, ◌≤◌, Option, None, Some, List, [], ◌∷◌, suc, length, get_or, take, drop, sym, ap, ◌∙◌, add-one, arith, lit<}
 use Rattle.std.proofs.Math.Nat.{mul-le-mul_right, pow-le-pow_right, pow-suc}
-use Rattle.std.specs.Prelude.{is_some, unwrap_or, bit_or}
+use Rattle.std.specs.Prelude.{Bool, is_some, unwrap_or, bit_or, ◌==◌, ◌&&◌}
 use Rattle.bits.specs.Pick.{pick}
 use Rattle.std.proofs.lemmas.Nat.{or_shifted}
 use Rattle.std.proofs.lemmas.List.{at_drop_more, length-take}
-use Rattle.script.specs.Line.{digit, byte, run, hex, bytes}
+use Rattle.script.specs.Line.{digit, byte_of, byte, run, hex, bytes}
 
 pub worth_lt : (b : ℕ) → unwrap_or (digit b) 0 < 16
 worth_lt b = grind arith
@@ -76,3 +76,26 @@ number_ends ds i v count ends e small few =
     let now : v % 2 ^ 64 ≡ hex 0 (leading ds) % 2 ^ 64 = sym (ap (λ (bs : List ℕ). hex v bs % 2 ^ 64) none) ∙ e in
     let whole : hex 0 (leading ds) % 2 ^ 64 ≡ hex 0 (leading ds) = hex_fits (leading ds) (omega (arith, length-take (run ds) ds)) in
     omega arith
+
+-- whether a text is digits to its end
+abbrev pub whole : List ℕ → Bool
+whole ds = run ds == length ds
+
+both : (o p : Option ℕ) (n k : ℕ) → (pick (is_some o) (pick (is_some p) (n + 1) 0 + 1) 0 == suc (suc k)) ≡ (is_some (byte_of o p) && (n == k))
+both None None n k = grind arith
+both None (Some d) n k = grind arith
+both (Some d) None n k = grind arith
+both (Some d) (Some e) n k = grind arith
+
+-- two characters more
+pub whole_more : (ds : List ℕ) (k : ℕ) → k + 1 < length ds
+    → whole (drop k ds) ≡ (is_some (byte (get_or ds k 0) (get_or ds (k + 1) 0)) && whole (drop (k + 2) ds))
+unfolding run
+whole_more ds k h =
+    at_drop_more whole ds k 0 (omega arith)
+    ∙ at_drop_more (λ (l : List ℕ). whole (get_or ds k 0 ∷ l)) ds (k + 1) 0 h
+    ∙ ap (λ (n : ℕ). whole (get_or ds k 0 ∷ get_or ds (k + 1) 0 ∷ drop n ds)) two
+    ∙ both (digit (get_or ds k 0)) (digit (get_or ds (k + 1) 0)) (run (drop (k + 2) ds)) (length (drop (k + 2) ds))
+  where
+    two : k + 1 + 1 ≡ k + 2
+    two = omega arith

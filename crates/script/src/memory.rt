@@ -43,12 +43,12 @@ fn store(windows: &mut Windows<'_>, a: u32, digits: &[u8])
     let count = digits.len() / 2;
     if let Some(place) = place_in(windows.dynamic.len(), 0x4000_0000, a, count) {
         let dynamic = &mut *windows.dynamic;
-        words::put_digits(&mut dynamic[place..place + count], digits);
+        let _ = words::put_digits(&mut dynamic[place..place + count], digits);
         return;
     }
     if let Some(place) = place_in(PAGE, 0xFC0B_0000, a, count) {
         let page = &mut *windows.page;
-        words::put_digits(&mut page[place..place + count], digits);
+        let _ = words::put_digits(&mut page[place..place + count], digits);
         return;
     }
     poke_digits(windows, a, digits);

@@ -1,5 +1,5 @@
 // The words of a line: numbers and byte strings in lower-case hexadecimal.
-ghost use Rattle.std.specs.Prelude.{◌≡◌, ◌+◌, ◌*◌, ◌/◌, ◌%◌, ◌^◌, ◌<◌, ◌≤◌, ◌↔◌, [], take, drop, length, IsSome, IfSome, IfNone, None, option_map, option_copied};
+ghost use Rattle.std.specs.Prelude.{◌≡◌, ◌==◌, ◌+◌, ◌*◌, ◌/◌, ◌%◌, ◌^◌, ◌<◌, ◌≤◌, ◌↔◌, [], take, drop, length, IsSome, IfSome, IfNone, None, option_map, option_copied};
 ghost use Rattle.script.specs.Line as L;
 
 // The letter that a line begins with, where a space or the end follows it.
@@ -48,14 +48,19 @@ fn read(text: &[u8]) -> (usize, u64)
     (text.len(), value)
 }
 
-// Stores the bytes of some digits, two for each.
-pub(crate) fn put_digits(part: &mut [u8], digits: &[u8])
-    requires { length digits.now ≡ 2 * length part.old }
-    ensures { part.new ≡ L.bytes digits.now }
+// Stores the bytes that pairs of characters make, nothing for a pair that is not two digits, and whether all are digits.
+pub(crate) fn put_digits(part: &mut [u8], text: &[u8]) -> bool
+    requires { length text.now ≡ 2 * length part.old }
+    ensures all { result ≡ (L.run text.now == length text.now) }
+    ensures value { part.new ≡ L.bytes text.now }
 {
+    let mut all = true;
     for i in 0..part.len() {
-        part[i] = byte(digits[2 * i], digits[2 * i + 1]).unwrap_or(0);
+        let b = byte(text[2 * i], text[2 * i + 1]);
+        all &= b.is_some();
+        part[i] = b.unwrap_or(0);
     }
+    all
 }
 
 // A place in a line, from which its words are taken.
@@ -166,9 +171,11 @@ impl<'a> Words<'a> {
         if into.len() < self.line.len() / 2 {
             return None;
         }
-        let text = self.digits()?;
+        let text = self.pairs()?;
         let part = &mut into[..text.len() / 2];
-        put_digits(part, text);
+        if !put_digits(part, text) {
+            return None;
+        }
         Some(part)
     }
 }
