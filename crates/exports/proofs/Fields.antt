@@ -13,7 +13,7 @@ use Rattle.config.specs.Table.{table_of}
 use Rattle.config.proofs.Cases.{by_test}
 use Rattle.config.proofs.Sizes.{sizes_small}
 use Rattle.midi.specs.declared.Packer.{Packer}
-use Rattle.midi.specs.Packer.{Sent, is_cable, sent_of, fresh, room_for, packet_count, AllBytes, PackerBound, PackerBytes}
+use Rattle.midi.specs.Packer.{Sent, is_cable, sent_of, sent_on, fresh, room_for, packet_count, AllBytes, PackerBound, PackerBytes}
 use Rattle.midi.proofs.Bounds.{fed_all_bytes, sent_bound}
 use Rattle.bounds.specs.Bounds.{packer_ok}
 use Rattle.bounds.proofs.Laws.{packer_bound, packer_ok_lem}
@@ -44,6 +44,10 @@ sent_held p bs held h =
     by_test (room_for p bs held)
     (λ e. let few = leb-true (held + 4 * packet_count p bs) 4096 e in rw e (omega arith))
     (λ e. rw e h)
+
+pub sent_on_held : (cable : ℕ) (p : Packer) (bs : List ℕ) (held : ℕ) → held < 65536 → (sent_on cable p bs held).held < 65536
+unfolding sent_on
+sent_on_held cable p bs held h = pick_both (λ (s : Sent). s.held < 65536) (is_cable cable) (sent_held p bs held h) h
 
 pub midi_sent_held : (cable : ℕ) (p : Packer) (bs : List ℕ) (held : ℕ) → held < 65536 → (midi_sent cable p bs held).held < 65536
 unfolding midi_sent

@@ -39,6 +39,10 @@ bounded_of s a =
       running = λ e. record { alone = a.alone e; short = a.short e; inside = a.inside e };
     }
 
+-- another page of the same length
+pub sized_page : (dynamic sram page page' : List ℕ) → Sized (memory dynamic sram page) → length page' ≡ 4096 → Sized (memory dynamic sram page')
+sized_page dynamic sram page page' z e = record { dynamic_length = z.dynamic_length; sram_length = z.sram_length; page_length = e }
+
 -- ---- a step keeps the length of the page
 
 length_kept : (f : Step) (w v : World) → Leads f w v → length v.lent.memory.page ≡ length w.lent.memory.page
@@ -51,14 +55,11 @@ pub queued_length : (c : Settings) (f : Step) (s s' : State) (p q p' q' : List �
 queued_length c f s s' p q p' q' l e = length_kept _ _ _ (l.leads (some c s [])) ∙ e
 
 module _ (c : Settings) {d m p p' : List ℕ} (z : Sized (memory d m p)) where
-  sized_page : length p' ≡ 4096 → Sized (memory d m p')
-  sized_page e = record { dynamic_length = z.dynamic_length; sram_length = z.sram_length; page_length = e }
-
   pub sized_paged : {f : Step} {s s' : State} → Paged f s p s' p' → Sized (memory d m p')
-  sized_paged l = sized_page (paged_length c _ _ _ _ _ l z.page_length)
+  sized_paged l = sized_page d m p _ z (paged_length c _ _ _ _ _ l z.page_length)
 
   sized_queued : {f : Step} {s s' : State} {q q' : List ℕ} → Queued f s p q s' p' q' → Sized (memory d m p')
-  sized_queued l = sized_page (queued_length c _ _ _ _ _ _ _ l z.page_length)
+  sized_queued l = sized_page d m p _ z (queued_length c _ _ _ _ _ _ _ l z.page_length)
 
 -- ---- start of frame, control and streams
 

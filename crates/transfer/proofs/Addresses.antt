@@ -5,8 +5,9 @@ use Rattle.bits.specs.Pick.{pick}
 use Rattle.bits.specs.Word.{clear}
 use Rattle.bus.specs.Memory.{Memory, after, peek32}
 use Rattle.bus.specs.Stores.{Bus}
-use Rattle.transfer.specs.Transfer.{pointers, pointers_for, source_addr, data_addr, bytes_in, received, sending}
-use Rattle.transfer.proofs.Laws.{get_d_tabulate, bytes_same, received_same, sending_same}
+use Rattle.bus.proofs.WordLaws.{Bytes, peek32_lt}
+use Rattle.transfer.specs.Transfer.{pointers, pointers_for, source_addr, data_addr, bytes_in, bytes_from, received, sending}
+use Rattle.transfer.proofs.Laws.{get_d_tabulate, bytes_same, from_same, received_same, sending_same}
 
 -- a pointer with its low 12 bits cleared
 cleared : (p : ℕ) → p < 2 ^ 32 → clear p 0xFFF ≡ p / 4096 * 4096
@@ -50,6 +51,20 @@ addr_source ps k h =
 -- nine pointers are enough: the page of each byte of a total of at most 32,767 is one of theirs
 pub page_lt : (p k : ℕ) → k ≤ 32766 → 1 + (k - (4096 - bit_and p 0xFFF)) / 4096 < 9
 page_lt p k h = omega (arith, and_mask p 12)
+
+-- words are below 2^32, and so are the pointers of memory that holds bytes
+pub pointers_lt : {m : Memory} → Bytes m → (td i : ℕ) → get_or (pointers m td) i 0 < 2 ^ 32
+unfolding pointers
+pointers_lt b td zero = peek32_lt b _
+pointers_lt b td (suc zero) = peek32_lt b _
+pointers_lt b td (suc (suc zero)) = peek32_lt b _
+pointers_lt b td (suc (suc (suc zero))) = peek32_lt b _
+pointers_lt b td (suc (suc (suc (suc zero)))) = peek32_lt b _
+pointers_lt b td (suc (suc (suc (suc (suc zero))))) = peek32_lt b _
+pointers_lt b td (suc (suc (suc (suc (suc (suc zero)))))) = peek32_lt b _
+pointers_lt b td (suc (suc (suc (suc (suc (suc (suc zero))))))) = peek32_lt b _
+pointers_lt b td (suc (suc (suc (suc (suc (suc (suc (suc zero)))))))) = peek32_lt b _
+pointers_lt b td (suc (suc (suc (suc (suc (suc (suc (suc (suc i))))))))) = lit< tt
 
 -- within a page the addresses of a transfer follow each other
 pub addr_shift : (ps : List ℕ) (i k : ℕ) → data_addr ps i % 4096 + k < 4096 → data_addr ps (i + k) ≡ data_addr ps i + k
@@ -104,6 +119,9 @@ addr_for m td total k bound less =
 module _ (m : Memory) (td total : ℕ) (bound : total ≤ 32767) where
   pub bytes_for : (m' : Memory) (n : ℕ) → n ≤ total → bytes_in m' (pointers_for m td total) n ≡ bytes_in m' (pointers m td) n
   bytes_for m' n h = bytes_same (pointers_for m td total) (pointers m td) total (λ k less. addr_for m td total k bound less) m' n h
+
+  pub from_for : (m' : Memory) (s n : ℕ) → s + n ≤ total → bytes_from m' (pointers_for m td total) s n ≡ bytes_from m' (pointers m td) s n
+  from_for m' s n h = from_same (pointers_for m td total) (pointers m td) total (λ k less. addr_for m td total k bound less) m' s n h
 
   pub received_for : (m' : Memory) (n : ℕ) (out : List ℕ) (at : ℕ) → n ≤ total
       → received m' (pointers_for m td total) n out at ≡ received m' (pointers m td) n out at

@@ -1,9 +1,11 @@
 -- The laws of a transfer's definitions: lengths, elements, and the bytes from one on as a part of all.
-use Rattle.std.proofs.Common.{◌≡◌, ℕ, zero, suc, ◌+◌, ◌<◌, ◌≤◌, List, ◌∷◌, ◌++◌, length, get_or, take, drop, sym, refl, ap, ◌∙◌, subst, ap₂, le_of_eq, le_refl, le_of_suc-le-suc, not-suc-le-zero, arith, length-drop, length-take-le, get_or-drop, take_all, get_or-take, ext_get_or}
+use Rattle.std.proofs.Common.{◌≡◌, ℕ, zero, suc, ◌+◌, ◌<◌, ◌≤◌, List, ◌∷◌, ◌++◌, length, get_or, take, drop, sym, refl, ap, ◌∙◌, subst, ap₂, le_of_eq, le_refl, le_of_suc-le-suc, not-suc-le-zero, arith, length-append, length-drop, length-take-le, get_or-drop, take_all, get_or-take, ext_get_or}
 use Rattle.bus.specs.Memory.{Memory, peek8}
+use Rattle.bus.proofs.Places.{Kept, kept_refl, kept_trans, kept_poke8}
 use Rattle.bus.specs.Stores.{Bus, Store, byte}
 use Rattle.bus.proofs.Words.{dropped8_le}
-use Rattle.transfer.specs.Transfer.{data_addr, tabulate, bytes_in, bytes_from, received, stores, sending, dropped_out}
+use Rattle.bus.proofs.WordLaws.{Bytes, peek8_lt, bytes_poke8}
+use Rattle.transfer.specs.Transfer.{data_addr, tabulate, bytes_in, bytes_from, received, stores, sending, written, dropped_out}
 
 pub length_tabulate : (n : ℕ) (f : ℕ → ℕ) → length (tabulate n f) ≡ n
 unfolding tabulate
@@ -65,6 +67,27 @@ module _ (m : Memory) (ps : List ℕ) where
   pub in_take : (n total : ℕ) → n ≤ total → bytes_in m ps n ≡ take n (bytes_in m ps total)
   in_take n total h = sym (from_first n) ∙ from_in 0 n total (omega arith)
 
+  -- an area keeps its length
+  pub length_received : (n : ℕ) (out : List ℕ) (at : ℕ) → at + n ≤ length out → length (received m ps n out at) ≡ length out
+  unfolding received
+  length_received n out at h =
+      let room : length (take at out) ≡ at = length-take-le at out (omega arith) in
+      simp (length-append, room, length-drop, length_bytes_in) (omega arith)
+
+  -- what memory holds is bytes, and so is what is read
+  pub bytes_in_lt : Bytes m → (n i : ℕ) → i < n → get_or (bytes_in m ps n) i 0 < 256
+  bytes_in_lt b n i h = subst (λ (x : ℕ). x < 256) (sym (get_or_bytes_in n i h)) (peek8_lt b (data_addr ps i))
+
+  pub bytes_written : Bytes m → (s : List ℕ) → ((i : ℕ) → get_or s i 0 < 256) → (n : ℕ) → Bytes (written m ps s n)
+  unfolding written
+  bytes_written b s h zero = b
+  bytes_written b s h (suc n) = bytes_poke8 (bytes_written b s h n) (data_addr ps n) (get_or s n 0) (h n)
+
+  pub kept_written : (s : List ℕ) (n : ℕ) → Kept m (written m ps s n)
+  unfolding written
+  kept_written s zero = kept_refl m
+  kept_written s (suc n) = kept_trans (kept_written s n) (kept_poke8 _ _ _)
+
 pub dropped_le : (ps : List ℕ) (n : ℕ) → dropped_out ps n ≤ n
 unfolding dropped_out
 dropped_le ps zero = le_refl 0
@@ -76,6 +99,10 @@ module _ (ps qs : List ℕ) (total : ℕ) (same : (k : ℕ) → k < total → da
   pub bytes_same : (m : Memory) (n : ℕ) → n ≤ total → bytes_in m ps n ≡ bytes_in m qs n
   unfolding bytes_in
   bytes_same m n h = tabulate_same n _ _ (λ k b. ap (peek8 m) (same k (omega arith)))
+
+  pub from_same : (m : Memory) (s n : ℕ) → s + n ≤ total → bytes_from m ps s n ≡ bytes_from m qs s n
+  unfolding bytes_from
+  from_same m s n h = tabulate_same n _ _ (λ k b. ap (peek8 m) (same (s + k) (omega arith)))
 
   pub received_same : (m : Memory) (n : ℕ) (out : List ℕ) (at : ℕ) → n ≤ total → received m ps n out at ≡ received m qs n out at
   unfolding received

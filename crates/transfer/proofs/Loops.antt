@@ -13,7 +13,7 @@ use Rattle.transfer.proofs.Addresses.{addr_shift}
 use Rattle.transfer.proofs.Runs.{lost_at}
 
 -- how long a part is
-part_count : (l : List ℕ) (i n : ℕ) → i + n ≤ length l → length (take (i + n - i) (drop i l)) ≡ n
+pub part_count : (l : List ℕ) (i n : ℕ) → i + n ≤ length l → length (take (i + n - i) (drop i l)) ≡ n
 part_count l i n room = length-take-le (i + n - i) (drop i l) (omega (arith, length-drop i l)) ∙ count
   where
     count : i + n - i ≡ n
@@ -41,7 +41,7 @@ paste_part d at s i n hd hs =
         ∙ ap (λ (x : ℕ). drop x d) count
 
 -- a run within a page, as a part of the bytes from one on
-run_from : (m : Memory) (ps : List ℕ) (s total i n : ℕ) → i + n ≤ total → data_addr ps (s + i) % 4096 + n ≤ 4096
+pub run_from : (m : Memory) (ps : List ℕ) (s total i n : ℕ) → i + n ≤ total → data_addr ps (s + i) % 4096 + n ≤ 4096
     → run_in m (data_addr ps (s + i)) n ≡ take n (drop i (bytes_from m ps s total))
 unfolding run_in
 run_from m ps s total i n room h =

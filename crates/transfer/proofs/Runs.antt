@@ -21,7 +21,7 @@ use Rattle.bus.proofs.Pages.{shift, at_shift, Ends, ends}
 -- ---- reading
 
 -- the n bytes from a place on, as a part of its window
-abbrev part : Memory → Place → ℕ → List ℕ
+abbrev pub part : Memory → Place → ℕ → List ℕ
 part m (Dynamic i) n = take (i + n - i) (drop i m.dynamic)
 part m (Static i) n = take (i + n - i) (drop i m.sram)
 part m (Page i) n = take (i + n - i) (drop i m.page)
@@ -51,7 +51,7 @@ part_run m Nowhere n f h g =
     ext_get_or 0 (replicate n 0) (tabulate n f) (length-replicate n 0 ∙ sym (length_tabulate n f))
     (λ k b. let b' : k < n = subst (λ (x : ℕ). k < x) (length-replicate n 0) b in get_or-replicate n k 0 0 b' ∙ sym (g k b') ∙ sym (get_d_tabulate n f k 0 b'))
 
-run_part : (m : Memory) (a n : ℕ) (q : Place) → at m a ≡ q → Sized m → a % 4096 + n ≤ 4096 → part m q n ≡ run_in m a n
+pub run_part : (m : Memory) (a n : ℕ) (q : Place) → at m a ≡ q → Sized m → a % 4096 + n ≤ 4096 → part m q n ≡ run_in m a n
 unfolding run_in
 run_part m a n q e s h =
     part_run m q n (λ k. peek8 m (a + k)) (ends m a n q e s h)
@@ -59,13 +59,13 @@ run_part m a n q e s h =
 
 -- ---- writing
 
-kept_run_out : (m : Memory) (a : ℕ) (s : List ℕ) (n : ℕ) → Kept m (run_out m a s n)
+pub kept_run_out : (m : Memory) (a : ℕ) (s : List ℕ) (n : ℕ) → Kept m (run_out m a s n)
 unfolding run_out
 kept_run_out m a s zero = kept_refl m
 kept_run_out m a s (suc n) = kept_trans (kept_run_out m a s n) (kept_poke8 _ _ _)
 
 -- the memory with the first n elements of s in place of the n bytes from a place on
-abbrev pasted : Memory → Place → List ℕ → ℕ → Memory
+abbrev pub pasted : Memory → Place → List ℕ → ℕ → Memory
 pasted m (Dynamic i) s n = memory (paste m.dynamic i s n) m.sram m.page
 pasted m (Static i) s n = memory m.dynamic (paste m.sram i s n) m.page
 pasted m (Page i) s n = memory m.dynamic m.sram (paste m.page i s n)
@@ -85,7 +85,7 @@ pasted_turn m (Static i) s k h b = ap (λ (l : List ℕ). memory m.dynamic l m.p
 pasted_turn m (Page i) s k h b = ap (λ (l : List ℕ). memory m.dynamic m.sram l) (paste-suc m.page i s k 0 h b)
 pasted_turn m Nowhere s k h b = refl
 
-run_pasted : (m : Memory) (a : ℕ) (s : List ℕ) (n : ℕ) (q : Place) → at m a ≡ q → Sized m → a % 4096 + n ≤ 4096 → n ≤ length s
+pub run_pasted : (m : Memory) (a : ℕ) (s : List ℕ) (n : ℕ) (q : Place) → at m a ≡ q → Sized m → a % 4096 + n ≤ 4096 → n ≤ length s
     → run_out m a s n ≡ pasted m q s n
 unfolding run_out
 run_pasted m a s zero q e z h b = pasted_none m q s

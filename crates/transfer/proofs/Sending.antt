@@ -40,6 +40,12 @@ pub sending_is : (ps s : List ℕ) (n : ℕ) (b : Bus) → exec store (sending p
 unfolding sending
 sending_is ps s n b = stores_is ps s n b
 
+pub sending_memory : (ps s : List ℕ) (n : ℕ) (b : Bus) → (exec store (sending ps s n) b).memory ≡ written b.memory ps s n
+sending_memory ps s n b = ap (λ (x : Bus). x.memory) (sending_is ps s n b)
+
+pub sending_line : (ps s : List ℕ) (n : ℕ) (b : Bus) → (exec store (sending ps s n) b).line ≡ b.line
+sending_line ps s n b = ap (λ (x : Bus). x.line) (sending_is ps s n b)
+
 pub sending_dropped : (ps s : List ℕ) (n : ℕ) (b : Bus) → dropped_by (sending ps s n b) ≡ dropped_out ps n
 unfolding sending
 sending_dropped ps s n b = stores_dropped ps s n
