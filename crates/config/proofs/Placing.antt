@@ -10,7 +10,7 @@ use Rattle.std.proofs.Math.Seq.{take-set-lt}
 use borrow.Author.Tests.{lt-ltb, ltb-true}
 use lib.Dec.{leb-suc-suc}
 use Rattle.config.specs.Config.{member, placed, interfaces}
-use Rattle.config.specs.Pairs.{pair_of, no_pair, listed, OneEach, Holds}
+use Rattle.config.specs.Pairs.{pair_of, place_of, no_pair, listed, OneEach, Holds}
 use Rattle.config.specs.declared.Pair.{Pair}
 use Rattle.config.proofs.Cases.{by_test}
 use Rattle.config.proofs.Few.{one_each_placed, one_each_few}
@@ -47,6 +47,17 @@ module _ (i : ℕ) where
         by_test (eqb p.interface i)
         (λ h. cc (rw h at e))
         (λ h. rw h (ap (λ (l : List (ℕ × ℕ)). pair_of p ∷ l) (placed_nowhere ps (rw h at e))))
+
+  -- a pair's place in a list of structs
+  where_is : (ps : List Pair) → position_or_len (λ p. eqb p.0 i) (listed ps) ≡ position_or_len is_here ps
+  where_is [] = refl
+  where_is (p ∷ ps) =
+      by_test (eqb p.interface i)
+      (λ e. rw e refl)
+      (λ e. rw e (ap (λ (k : ℕ). 1 + k) (where_is ps)))
+
+  pub place_is : (ps : List Pair) → position is_here ps ≡ place_of i (listed ps)
+  place_is ps = rw (where_is ps, length-map ps pair_of) refl
 
   -- what the search for the place says
   module _ (ps : List Pair) where

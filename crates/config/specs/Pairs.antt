@@ -1,5 +1,5 @@
 -- Pairs as the code keeps them, and what is true of them.
-use Rattle.std.specs.Prelude.{◌≡◌, ℕ, ◌-◌, ◌<◌, ◌≤◌, List, [], ◌∷◌, ◌++◌, map, length, take, drop, replicate}
+use Rattle.std.specs.Prelude.{◌≡◌, ℕ, ◌-◌, ◌<◌, ◌≤◌, Option, position, eqb, List, [], ◌∷◌, ◌++◌, map, length, take, drop, replicate}
 use Rattle.config.specs.Config.{Distinct, interfaces}
 use Rattle.config.specs.declared.Pair.{Pair}
 
@@ -10,14 +10,18 @@ pair_of p = (p.interface, p.alternate)
 abbrev pub listed : List Pair → List (ℕ × ℕ)
 listed ps = map pair_of ps
 
+-- the place of an interface's pair
+abbrev pub place_of : ℕ → List (ℕ × ℕ) → Option ℕ
+place_of i ps = position (λ p. eqb p.0 i) ps
+
 abbrev pub pair_at : ℕ × ℕ → Pair
 pair_at p = record { interface = p.0; alternate = p.1 }
 
 -- what stands behind the last pair
 abbrev pub no_pair : Pair
-no_pair = record { interface = 0; alternate = 0 }
+no_pair = record { interface = 0; alternate = 1 }
 
--- pairs in 256 places, those behind the last zero
+-- pairs in 256 places, no pair behind the last
 abbrev pub placed_in : List (ℕ × ℕ) → List Pair
 placed_in ps = map pair_at ps ++ replicate (256 - length ps) no_pair
 

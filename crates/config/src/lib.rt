@@ -1,10 +1,10 @@
 // The interface choice of a configuration descriptor.
 #![tactic(auto)]
 
-ghost use Rattle.std.specs.Prelude.{◌≡◌, ◌&&◌, ◌≤◌, [], length, position, eqb};
+ghost use Rattle.std.specs.Prelude.{◌≡◌, ◌&&◌, ◌≤◌, [], length, position, is_some, eqb};
 ghost use Rattle.bits.specs.Pick.{pick};
 ghost use Rattle.config.specs.Config.{member, interfaces, is_endpoint, counts, packet_size, placed, chosen, step, parsed};
-ghost use Rattle.config.specs.Pairs.{listed};
+ghost use Rattle.config.specs.Pairs.{listed, place_of};
 ghost use Rattle.config.specs.Table.{info_of, choice_of, reading_of, walk_of, endpoint_read, SplitsWhole};
 
 use std::marker::Model;
@@ -45,12 +45,13 @@ impl Pairs {
     fn none() -> Self
         ensures { result ≡ [] }
     {
-        let zero = Pair {
+        // its two bytes differ, so that the places are filled without the C library's memset, which the archive for C would then need
+        let filler = Pair {
             interface: 0,
-            alternate: 0,
+            alternate: 1,
         };
         Pairs {
-            places: [zero; 256],
+            places: [filler; 256],
             count: 0,
         }
     }
@@ -63,22 +64,24 @@ impl Pairs {
         &self.places[..self.count]
     }
 
-    // Whether an interface has a pair.
-    fn has(&self, interface: u8) -> bool
-        ensures { result ≡ member interface (interfaces self.now) }
+    // The place of an interface's pair.
+    fn find(&self, interface: u8) -> Option<usize>
+        ensures place { result ≡ place_of interface self.now }
+        ensures known { is_some result ≡ member interface (interfaces self.now) }
     {
-        find(self.as_slice(), interface).is_some()
+        find(self.as_slice(), interface)
     }
 
-    // The pair of an interface takes the alternate; an interface that has no pair yet gets one, at the end.
-    fn place(&mut self, interface: u8, alternate: u8)
+    // The pair of an interface, whose place was found, takes the alternate; an interface that has no pair yet gets one, at the end.
+    fn place(&mut self, found: Option<usize>, interface: u8, alternate: u8)
+        requires { found ≡ place_of interface self.old }
         ensures { self.new ≡ placed interface alternate self.old }
     {
         let pair = Pair {
             interface,
             alternate,
         };
-        match find(self.as_slice(), interface) {
+        match found {
             Some(k) => {
                 self.places[k] = pair;
             }
@@ -122,11 +125,12 @@ impl ConfigInfo {
     fn choose(&mut self, reading: Interface, input: bool, size: u32)
         ensures { choice_of self.new ≡ chosen (reading_of reading) input size (choice_of self.old) }
     {
-        let known = self.pairs.has(reading.number);
+        let found = self.pairs.find(reading.number);
+        let known = found.is_some();
         if known & (size < self.size(input)) {
             return;
         }
-        self.pairs.place(reading.number, reading.alternate);
+        self.pairs.place(found, reading.number, reading.alternate);
         if input {
             self.ob_in_packet = size;
         } else {
