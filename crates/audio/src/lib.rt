@@ -1,8 +1,10 @@
 // The audio stream of a host: one descriptor of input a microframe, paced by a budget, and one block of output, where credit is left.
 #![tactic(auto)]
 
-ghost use Rattle.std.specs.Prelude.{◌≡◌, ◌≤◌};
+ghost use Rattle.std.specs.Prelude.{◌≡◌, ◌≤◌, true, length};
 ghost use Rattle.bus.specs.Windows.{viewed, memory_of, SameWindows};
+ghost use Rattle.bus.specs.Memory.{shown};
+ghost use Rattle.bus.specs.Sized.{is_power};
 ghost use Rattle.dtd.specs.Dtd as D;
 ghost use Rattle.dtd.specs.declared.Found.TheVariants.{Active};
 ghost use Rattle.model.specs.Audio as Steps;
@@ -10,7 +12,7 @@ ghost use Rattle.blocks.specs.Promises.{InRing, with_decoded};
 ghost use Rattle.audio.specs.Promises as P;
 
 use blocks::Decoded;
-use bus::{View, Windows};
+use bus::{PAGE, SRAM, View, Windows};
 use dtd::{Descriptor, Found};
 use record::{Audio, Counter, RING, Ring, State};
 use sending::encode;
@@ -196,11 +198,11 @@ fn send_block(s: State, windows: &mut Windows<'_>, sending: &[u32], descriptor: 
 }
 
 // A list that has ended is un-primed.
-fn unprime(s: State, windows: &mut Windows<'_>) -> State
-    ensures left { P.Unprimes s (memory_of windows.old) result (memory_of windows.new) }
-    ensures same { SameWindows windows.old windows.new }
+fn unprime(s: State, dynamic: &[u8], sram: &[u8; SRAM], page: &mut [u8; PAGE]) -> State
+    requires { is_power (length dynamic.now) ≡ true }
+    ensures { P.Unprimes s (shown dynamic.now sram.now page.old) result (shown dynamic.now sram.now page.new) }
 {
-    let line = dtd::settle(windows, AUDIO_OUT, 1, false, s.port.line);
+    let line = dtd::settle(dynamic, sram, page, AUDIO_OUT, 1, false, s.port.line);
     let mut next = s;
     next.port.line = line;
     next
@@ -217,7 +219,10 @@ pub fn stream_out(s: State, windows: &mut Windows<'_>, sending: &[u32]) -> State
     }
     match dtd::find(windows.view(), 3, false) {
         Found::Unprimed => s,
-        Found::Ended => unprime(s, windows),
+        Found::Ended => {
+            let dynamic = &mut *windows.dynamic;
+            unprime(s, dynamic, windows.sram, windows.page)
+        }
         Found::Active(descriptor) => send_block(s, windows, sending, descriptor),
     }
 }

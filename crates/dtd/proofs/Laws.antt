@@ -1,5 +1,5 @@
 -- What the proofs on descriptors cite.
-use Rattle.std.proofs.Common.{◌≡◌, ℕ, ◌≤◌, Bool, List, ap, ◌∙◌, arith}
+use Rattle.std.proofs.Common.{◌≡◌, ℕ, ◌≤◌, Bool, List, arith}
 use Rattle.bits.specs.Pick.{pick_both}
 use Rattle.bus.specs.Memory.{Memory, memory, after, dropped32}
 use Rattle.bus.specs.Sized.{Sized}
@@ -43,11 +43,11 @@ pub complete_steps : (tok bit : ℕ) (w : Windows) {p : List ℕ} → ((l : Bool
 complete_steps tok bit w e l = on_page (completing tok bit) (sized_of w) (inside_completing tok bit (registers w.page.now l)) (e l)
 
 -- what follows the last descriptor, in the steps that the code takes
-pub settle_steps : (bit n : ℕ) (completed : Bool) (w : Windows) {ends flag line : Bool} {m : Memory} {p₁ p₂ : List ℕ} → m ≡ memory_of w → ends ≡ list_ends n m
-    → ((l : Bool) → registers p₁ l ≡ done (unpriming ends bit) (registers w.page.now l)) → registers p₂ line ≡ done (reporting completed) (registers p₁ flag)
-    → Does (settling bit n completed) (bus (memory_of w) flag) (bus (memory w.dynamic.now w.sram.now p₂) line) 0
+pub settle_steps : (bit n : ℕ) (completed : Bool) {ends flag line : Bool} {m : Memory} {p₁ p₂ : List ℕ} → Sized m → ends ≡ list_ends n m
+    → ((l : Bool) → registers p₁ l ≡ done (unpriming ends bit) (registers m.page l)) → registers p₂ line ≡ done (reporting completed) (registers p₁ flag)
+    → Does (settling bit n completed) (bus m flag) (bus (memory m.dynamic m.sram p₂) line) 0
 unfolding settling
-settle_steps bit n completed w {ends} {flag} {line} {m} {p₁} same e u r =
-    let first = on_page (unpriming ends bit) (sized_of w) (inside_unpriming ends bit (registers w.page.now flag)) (u flag) in
-    does_then (does_reading (list_ends n) (λ (t : Bool). lifted (unpriming t bit)) ends (e ∙ ap (list_ends n) same) first)
+settle_steps bit n completed {ends} {flag} {m = m} {p₁} z e u r =
+    let first = on_page (unpriming ends bit) z (inside_unpriming ends bit (registers m.page flag)) (u flag) in
+    does_then (does_reading (list_ends n) (λ (t : Bool). lifted (unpriming t bit)) ends e first)
     (on_page (reporting completed) first.sized (inside_reporting completed (registers p₁ flag)) r)

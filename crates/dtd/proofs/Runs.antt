@@ -228,6 +228,10 @@ serve_steps {input} {flag} {d} {bs} {f = f} {f'} {m} {m₁} {m₂} moved finishe
       holds = moved.holds;
     })
 
+-- what is left to send, by how many bytes have moved
+pub moved_unsent : {input : Bool} {d : Descriptor} {bs bs' : List ℕ} {f f' : List ℕ → Held} {m m' : Memory} {p : Moved} → Moves input d bs bs' f f' m m' p → bs' ≡ drop p.bytes bs
+moved_unsent {bs = bs} moved = moved.left 0 ∙ ap (λ (n : ℕ). drop n bs) (sym (moved.bytes 0))
+
 -- a run that begins at an active descriptor, and one that is over before
 pub run_served : (ep : ℕ) (input : Bool) {flag : Bool} {d : Descriptor} {bs : List ℕ} {f f' : List ℕ → Held} {m m₁ : Memory} {b' : Bus} {r : Ran} → 0 < ep → Begins (endpoint ep input) flag m m₁ (Ok d) → Sized m
     → Serves input d bs f f' m₁ (bus m₁ flag) b' r → RunsOver (endpoint ep input) bs f f' (bus m flag) b' r
@@ -240,8 +244,12 @@ run_served ep input {flag} {d} {bs} {f} {f'} {m} {b' = b'} {r} some begun z p =
     let bytes = active_bytes e bs (bus m flag) one d.queue_head d.pointer d.token is.0 ∙ ap (λ (t : ℕ). pick input (bytes_in m (pointers m (descriptor d.pointer)) (total_of t)) []) (sym is.0.token) in
     record { runs = runs_active e bs m flag z one d.queue_head d.pointer d.token (says_found e m begun.0) d.bit is.1 (q.turns ep); holds = ap f (bytes ∙ sym (append-nil _)) ∙ q.holds [] }
 
-pub run_idle : {e : Endpoint} {bs : List ℕ} (f : List ℕ → Held) {b b' : Bus} {r : Ran} → Idle e bs b b' r → RunsOver e bs f f b b' r
-run_idle f i = record { runs = i.runs; holds = ap f i.bytes }
+pub run_idle : {e : Endpoint} {bs : List ℕ} (f : List ℕ → Held) {f' : List ℕ → Held} {b b' : Bus} {r : Ran} → f [] ≡ f' [] → Idle e bs b b' r → RunsOver e bs f f' b b' r
+run_idle f same i = record { runs = i.runs; holds = ap f i.bytes ∙ same }
+
+-- one that is over leaves all to send
+pub idle_unsent : {e : Endpoint} {bs : List ℕ} {b b' : Bus} {r : Ran} (sent : List ℕ) → Idle e bs b b' r → sent ≡ drop r.moved sent
+idle_unsent sent i = sym (ap (λ (x : Ran). drop x.moved sent) i.nothing)
 
 -- an answer by another name
 pub idle_as : {e : Endpoint} {bs : List ℕ} {b : Bus} {m : Memory} {r r' : Ran} → r ≡ r' → Idle e bs b (bus m r'.line) r' → Idle e bs b (bus m r.line) r

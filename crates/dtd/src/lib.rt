@@ -1,9 +1,10 @@
 // Queue heads and transfer descriptors (dTDs): finding the next one, retiring it, and runs over an endpoint's list.
 #![tactic(auto)]
 
-ghost use Rattle.std.specs.Prelude.{◌≡◌, ℕ, ◌<◌, ◌≤◌, Bool, true, false, [], length};
+ghost use Rattle.std.specs.Prelude.{◌≡◌, ℕ, ◌<◌, ◌≤◌, Bool, true, false, [], length, drop};
 ghost use Rattle.bus.specs.Windows.{viewed, memory_of, SameWindows};
-ghost use Rattle.bus.specs.Memory.{peek32 as Memory·peek32};
+ghost use Rattle.bus.specs.Memory.{shown, peek32 as Memory·peek32};
+ghost use Rattle.bus.specs.Sized.{is_power};
 ghost use Rattle.bus.specs.Stores.{bus as Stores·bus, Does};
 ghost use Rattle.bus.specs.Steps.{exec};
 ghost use Rattle.usbdev.specs.Registers.{registers, done};
@@ -14,7 +15,7 @@ mod side;
 
 use crate::side::Counted;
 pub use crate::side::{Moved, Side, Source};
-use bus::{PAGE, View, Windows, put_at, word_at};
+use bus::{PAGE, SRAM, View, Windows, put_at, word_at};
 use usbdev::{EPCOMPLETE, EPLISTADDR, EPSR, FRINDEX};
 
 // An active descriptor: the queue head of its endpoint, the pointer that names it, its token, and the endpoint's bit of EPSR.
@@ -207,13 +208,26 @@ fn report(page: &mut [u8; PAGE], completed: bool, flag: bool) -> bool
 }
 
 // What follows the last descriptor of a run that ended at the pointer n; the line's flag goes in and comes out.
-pub fn settle(windows: &mut Windows<'_>, bit: u32, n: u32, completed: bool, flag: bool) -> bool
-    ensures left { Does (D.settling bit n completed) (Stores·bus (memory_of windows.old) flag) (Stores·bus (memory_of windows.new) result) 0 }
-    ensures same { SameWindows windows.old windows.new }
+pub fn settle(
+    dynamic: &[u8],
+    sram: &[u8; SRAM],
+    page: &mut [u8; PAGE],
+    bit: u32,
+    n: u32,
+    completed: bool,
+    flag: bool,
+) -> bool
+    requires { is_power (length dynamic.now) ≡ true }
+    ensures { Does (D.settling bit n completed) (Stores·bus (shown dynamic.now sram.now page.old) flag) (Stores·bus (shown dynamic.now sram.now page.new) result) 0 }
 {
-    let ends = list_ends(windows.view(), n);
-    unprime(windows.page, ends, bit);
-    report(windows.page, completed, flag)
+    let view = View {
+        dynamic,
+        sram,
+        page: &*page,
+    };
+    let ends = list_ends(view, n);
+    unprime(page, ends, bit);
+    report(page, completed, flag)
 }
 
 // A run of one descriptor after its bytes have moved: whether a completion was flagged, the bytes dropped, and the line's flag.
@@ -231,7 +245,16 @@ pub fn finish(windows: &mut Windows<'_>, descriptor: Descriptor, moved: u32, fla
 {
     let retired = retire(windows, descriptor, moved);
     let completed = bits::any(descriptor.token, 0x8000);
-    let line = settle(windows, descriptor.bit, retired.next, completed, flag);
+    let dynamic = &mut *windows.dynamic;
+    let line = settle(
+        dynamic,
+        windows.sram,
+        windows.page,
+        descriptor.bit,
+        retired.next,
+        completed,
+        flag,
+    );
     Finished {
         done: completed,
         dropped: retired.dropped,
@@ -288,6 +311,7 @@ pub fn serve_one<S: Side>(
     ensures left { P.Serves S.input descriptor (S.to_send side.old) (S.holds side.old) (S.holds side.new) (memory_of windows.old) (Stores·bus (memory_of windows.old) flag) (Stores·bus (memory_of windows.new) result.line) result }
     ensures same { SameWindows windows.old windows.new }
     ensures held { S.Same side.old side.new }
+    ensures unsent { S.to_send side.new ≡ drop result.moved (S.to_send side.old) }
 {
     let moved = side.move_bytes(windows, descriptor);
     finish(windows, descriptor, moved.bytes, flag).ran(moved.bytes, moved.lost)
@@ -322,7 +346,12 @@ pub fn begin(
 {
     match find(windows.view(), ep, dir_in) {
         Found::Unprimed => Err(none_ran(flag)),
-        Found::Ended => Err(none_ran(settle(windows, bit_of(ep, dir_in), 1, false, flag))),
+        Found::Ended => {
+            let bit = bit_of(ep, dir_in);
+            let dynamic = &mut *windows.dynamic;
+            let line = settle(dynamic, windows.sram, windows.page, bit, 1, false, flag);
+            Err(none_ran(line))
+        }
         Found::Active(descriptor) => Ok(descriptor),
     }
 }
@@ -333,6 +362,7 @@ pub fn run<S: Side>(windows: &mut Windows<'_>, side: &mut S, ep: u32, flag: bool
     ensures left { P.RunsOver (D.endpoint ep S.input) (S.to_send side.old) (S.holds side.old) (S.holds side.new) (Stores·bus (memory_of windows.old) flag) (Stores·bus (memory_of windows.new) result.line) result }
     ensures same { SameWindows windows.old windows.new }
     ensures held { S.Same side.old side.new }
+    ensures unsent { S.to_send side.new ≡ drop result.moved (S.to_send side.old) }
 {
     match begin(windows, ep, side.is_input(), flag) {
         Ok(descriptor) => serve_one(windows, side, descriptor, flag),

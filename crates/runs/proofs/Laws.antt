@@ -6,6 +6,7 @@ use mathlib.Core.Path.{◌≡◌, refl, sym, ap, ap₂, subst, ◌∙◌}
 use native.Mathlib.Omega.{arith}
 use lib.ListN.{length, drop}
 use lib.Seq.{drop-nil}
+use Rattle.std.proofs.lemmas.List.{drop-drop}
 use Rattle.bits.proofs.Tests.{or_false}
 use Rattle.bus.specs.Memory.{Memory}
 use Rattle.bus.specs.Sized.{Sized}
@@ -21,7 +22,7 @@ use Rattle.dtd.specs.declared.Retired.{Retired}
 use Rattle.dtd.specs.declared.Ran.{Ran}
 use Rattle.dtd.specs.Dtd.{Endpoint, endpoint, bit_of, descriptor, terminates, token_of, is_active, interrupts, moves, bytes_of, data_out, retiring, turning, followed, following, Run, ended, joined, turns, most, primed, queue_head, next_of, next_dtd, settling, settled, run_dtds}
 use Rattle.dtd.specs.Promises.{Retires, none_ran, running, Held, Moves, RunsOver}
-use Rattle.dtd.proofs.Runs.{run_unprimed, runs_none}
+use Rattle.dtd.proofs.Runs.{run_unprimed, runs_none, moved_unsent}
 use Rattle.runs.specs.declared.Turn.{Turn}
 use Rattle.dtd.specs.declared.side.Moved.{Moved}
 use Rattle.runs.specs.Turns.{kept, kept_end, first_turn, stopped_at, Same, rest, filled, Turned, Looped, RunsIn, answer_of}
@@ -139,6 +140,11 @@ module _ (ep : ℕ) (input : Bool) (qh : ℕ) {bit : ℕ} {bs bs' : List ℕ} {f
         holds = λ l k. ap (λ (x : Run). f x.bytes) (whole l k) ∙ moved.holds (later l k).bytes;
         grown = record { moved = omega (arith, moved.few.0); retired = omega arith; dropped = omega (arith, retired.few, moved.few.1) };
       }
+
+-- what is left to send, of what stood to be sent before the first turn
+pub turn_unsent : {input : Bool} {d : Descriptor} {bs bs' : List ℕ} {f f' : List ℕ → Held} {m m' : Memory} {p : Moved} (before : ℕ) → Moves input d bs bs' f f' m m' p
+    → (bs₀ : List ℕ) → bs ≡ drop before bs₀ → bs' ≡ drop (before + p.bytes) bs₀
+turn_unsent {p = p} before moved bs₀ h = moved_unsent moved ∙ ap (drop p.bytes) h ∙ drop-drop p.bytes before bs₀
 
 -- ---- a turn that ends the run: it retires nothing more, whatever is left of its turns
 

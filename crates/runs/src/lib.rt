@@ -1,7 +1,7 @@
 // Runs over whole lists of descriptors: endpoint 0 both ways, and input into a lent area.
 #![tactic(auto)]
 
-ghost use Rattle.std.specs.Prelude.{◌≡◌, ℕ, ◌+◌, ◌<◌, ◌≤◌, Bool, true, false, List, [], length, refl};
+ghost use Rattle.std.specs.Prelude.{◌≡◌, ℕ, ◌+◌, ◌<◌, ◌≤◌, Bool, true, false, List, [], length, drop, refl};
 ghost use Rattle.bus.specs.Windows.{memory_of, SameWindows};
 ghost use Rattle.bus.specs.Stores.{bus as Stores·bus};
 ghost use Rattle.dtd.specs.Dtd as D;
@@ -62,6 +62,7 @@ fn next_turn<S: Side>(windows: &mut Windows<'_>, side: &mut S, qh: u32, t: Turn)
     ensures left { T.Turned (D.endpoint 0 S.input) qh (S.to_send side.old) (S.to_send side.new) (S.holds side.old) (S.holds side.new) (memory_of windows.old) (memory_of windows.new) t result }
     ensures same { SameWindows windows.old windows.new }
     ensures held { S.Same side.old side.new }
+    ensures unsent { (bs : List ℕ) → S.to_send side.old ≡ drop t.moved bs → S.to_send side.new ≡ drop result.moved bs }
 {
     let next = t.next;
     if bits::any(next, 1) {
@@ -94,6 +95,7 @@ fn run_list<S: Side>(windows: &mut Windows<'_>, side: &mut S, qh: u32, first: u3
     ensures left { T.Looped (D.endpoint 0 S.input) qh first (S.to_send side.old) (S.holds side.old) (S.holds side.new) (memory_of windows.old) (memory_of windows.new) result }
     ensures same { SameWindows windows.old windows.new }
     ensures held { S.Same side.old side.new }
+    ensures unsent { S.to_send side.new ≡ drop result.moved (S.to_send side.old) }
 {
     let mut t = first_turn(first);
     for i in 0..64u32 {
@@ -123,6 +125,7 @@ fn run0<S: Side>(windows: &mut Windows<'_>, side: &mut S, flag: bool) -> Ran
     ensures left { P.RunsOver (D.endpoint 0 S.input) (S.to_send side.old) (S.holds side.old) (S.holds side.new) (Stores·bus (memory_of windows.old) flag) (Stores·bus (memory_of windows.new) result.line) result }
     ensures same { SameWindows windows.old windows.new }
     ensures held { S.Same side.old side.new }
+    ensures unsent { S.to_send side.new ≡ drop result.moved (S.to_send side.old) }
 {
     let dir_in = side.is_input();
     let bit = dtd::bit_of(0, dir_in);
@@ -130,7 +133,16 @@ fn run0<S: Side>(windows: &mut Windows<'_>, side: &mut S, flag: bool) -> Ran
         let qh = dtd::qh(windows.registers(), 0, dir_in);
         let first = dtd::next_dtd(windows.view(), qh);
         let t = run_list(windows, side, qh, first);
-        let line = dtd::settle(windows, bit, t.next, t.done, flag);
+        let dynamic = &mut *windows.dynamic;
+        let line = dtd::settle(
+            dynamic,
+            windows.sram,
+            windows.page,
+            bit,
+            t.next,
+            t.done,
+            flag,
+        );
         return answer(t, line);
     }
     dtd::none_ran(flag)

@@ -10,4 +10,4 @@ pub returns-in-Unprimed-clause-left : goal.returns-in-Unprimed-clause-left
 returns-in-Unprimed-clause-left c = out_unprimed _ _ _ (sized_of c.args.windows.now) c.requires (cc)
 
 pub returns-in-Ended-clause-left : goal.returns-in-Ended-clause-left
-returns-in-Ended-clause-left c = out_ended _ _ _ (sized_of c.args.windows.now) c.requires c.if-s.false (cc) _ _ c.unprime.ensures.left
+returns-in-Ended-clause-left c = out_ended _ _ _ (sized_of c.args.windows.now) c.requires c.if-s.false (cc) _ _ c.unprime.ensures

@@ -18,5 +18,5 @@ pub returns-in-Ended-clause-left : goal.returns-in-Ended-clause-left
 returns-in-Ended-clause-left c =
     let e = endpoint c.args.ep c.args.dir_in in
     let f = sym (c.in-Ended.ensures ∙ ap (found e) c.view.ensures) in
-    let settled = does_as (ap (λ (x : ℕ). settling x 1 false (bus (memory_of c.args.windows.now) c.args.flag)) c.bit_of.ensures) c.settle.ensures.left in
+    let settled = does_as (ap (λ (x : ℕ). settling x 1 false (bus (memory_of c.args.windows.now) c.args.flag)) c.bit_of-bit.ensures) c.settle-line.ensures in
     λ bs. idle_as c.none_ran-in-Ended.ensures (idle_ended e bs (memory_of c.args.windows.now) c.args.flag (sized_of c.args.windows.now) (single c.args.ep c.args.dir_in c.requires.0) f settled)

@@ -3,7 +3,7 @@ use mathlib.Core.Path.{sym, ap, ◌∙◌}
 use mathlib.Core.Bool.{Bool}
 use Rattle.bus.specs.Windows.{memory_of}
 use Rattle.dtd.specs.Dtd.{endpoint, bit_of}
-use Rattle.runs.proofs.Laws.{turn_moved, turn_ends, turn_inactive, turned_as}
+use Rattle.runs.proofs.Laws.{turn_moved, turn_unsent, turn_ends, turn_inactive, turned_as}
 use Rattle.runs.proofs.next_turn.Goals as goal
 
 pub returns-then-any-clause-left : goal.returns-then-any-clause-left
@@ -20,3 +20,6 @@ returns-clause-left g c =
     turn_moved 0 g.S.Side.input c.args.qh c.args.t _
     (sym c.any.ensures ∙ c.if-any.false) (rw c.view.ensures at c.token_of-token.ensures) (sym c.any-2.ensures ∙ c.if-not-any.false) c.any-3.ensures
     (c.bit_of.ensures ∙ ap (λ (x : Bool). bit_of (endpoint 0 x)) c.is_input.ensures) c.move_bytes-moved.ensures.left c.retire-retired.ensures.left
+
+pub returns-clause-unsent : goal.returns-clause-unsent
+returns-clause-unsent g c = turn_unsent c.args.t.moved c.move_bytes-moved.ensures.left

@@ -13,7 +13,7 @@ unfolding primed
 returns-then-any-clause-left g c =
     let up = ap₂ (λ (x y : ℕ). any x y) (sym (rw c.registers.ensures at c.word_at.ensures)) (sym (rw c.is_input-dir_in.ensures at c.bit_of-bit.ensures)) ∙ sym c.any.ensures ∙ c.if-any.true in
     over_as c.answer.ensures
-    (run_loops (endpoint 0 g.S.Side.input) _ _ _ (memory_of c.args.windows.now) _ _ c.args.flag _ _ _ _ refl up (rw (c.registers-then-any.ensures, c.is_input-dir_in.ensures) at c.qh-qh.ensures) (rw c.view.ensures at c.next_dtd-first.ensures) c.run_list-t.ensures.left (rw (c.bit_of-bit.ensures, c.is_input-dir_in.ensures) at c.settle-line.ensures.left))
+    (run_loops (endpoint 0 g.S.Side.input) _ _ _ (memory_of c.args.windows.now) _ _ c.args.flag _ _ _ _ refl up (rw (c.registers-then-any.ensures, c.is_input-dir_in.ensures) at c.qh-qh.ensures) (rw c.view.ensures at c.next_dtd-first.ensures) c.run_list-t.ensures.left (rw (c.bit_of-bit.ensures, c.is_input-dir_in.ensures) at c.settle-line.ensures))
 
 pub returns-clause-left : goal.returns-clause-left
 unfolding primed
