@@ -1,5 +1,5 @@
 -- `framing::midi_in` meets its contract.
-use Rattle.std.proofs.Common.{refl, sym, ap, ◌∙◌}
+use Rattle.std.proofs.Common.{◌≡◌, true, false, refl, sym, ap, ◌∙◌}
 use borrow.Author.Tests.{not-true, not-false}
 use Rattle.bus.specs.Windows.{memory_of}
 use Rattle.bus.proofs.Lengths.{sized_of}
@@ -7,7 +7,7 @@ use Rattle.record.specs.declared.State.{State}
 use Rattle.record.specs.Record.{midi_asleep}
 use Rattle.record.proofs.Laws.{by_true, by_false, unchanged}
 use Rattle.record.proofs.Counters.{counts_one}
-use Rattle.model.specs.Phases.{sleeps}
+use Rattle.model.specs.Phases.{sleeps, within}
 use Rattle.model.specs.Streams.{midi_in}
 use Rattle.streams.proofs.Laws.{fewer_same}
 use Rattle.midiin.specs.Promises.{at_cabled}
@@ -25,7 +25,7 @@ pub returns-then-in_span-clause-left : goal.returns-then-in_span-clause-left
 unfolding midi_in sleeps
 returns-then-in_span-clause-left c =
     let a = c.args in
-    let asleep = sym c.in_span.ensures ∙ c.if-in_span.true in
+    let asleep : within a.c.sleep a.time ≡ true = sym c.in_span.ensures ∙ c.if-in_span.true in
     record {
       leads = λ w. by_true _ _ _ (not-false _ c.if-not-c.false) (rw asleep (counts_one midi_asleep 1 (at_cabled w a.s (memory_of a.windows.now) a.receive.now a.cables.now) c.count.ensures));
       sized = sized_of a.windows.now;
@@ -35,5 +35,5 @@ returns-then-in_span-clause-left c =
 pub returns-clause-left : goal.returns-clause-left
 returns-clause-left c =
     let heard = c.midi_step.ensures.left in
-    let awake = sym c.in_span.ensures ∙ c.if-in_span.false in
+    let awake : within c.args.c.sleep c.args.time ≡ false = sym c.in_span.ensures ∙ c.if-in_span.false in
     record { leads = λ w. by_true _ _ _ (not-false _ c.if-not-c.false) (rw awake (heard.leads w)); sized = heard.sized; few = heard.few }
