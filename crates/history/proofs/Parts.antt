@@ -19,6 +19,7 @@ use Rattle.bus.specs.Memory.{memory}
 use Rattle.midi.specs.declared.Packer.{Packer}
 use Rattle.record.specs.declared.Settings.{Settings}
 use Rattle.record.specs.declared.State.{State}
+use Rattle.refusal.specs.Number.{number_of as result_number}
 use Rattle.usbdev.specs.Answers.{value_of}
 use Rattle.usbhost.specs.declared.Host.{Host}
 use Rattle.usbhost.specs.Answers.{Sent, sent, Taken, Read, midi_sent_by, sent_by, taken_by}
@@ -27,7 +28,7 @@ use Rattle.usbhost.specs.Calls as C
 use Rattle.usbhost.specs.Calls.{midi_sent, serial_sent, given, taken_frame, device_written}
 use Rattle.usbhost.specs.Frame.{host_in}
 use Rattle.record.specs.World.{Own, Lent, own, lent, own_setups, own_midi, own_serial}
-use Rattle.usbhost.specs.Promises.{with_spans, unanswered}
+use Rattle.usbhost.specs.Promises.{with_spans}
 use Rattle.usbhost.proofs.run_microframe.Kinds as RunMicroframe
 use Rattle.usbhost.proofs.run_microframe.Reads as RunMicroframe·contract
 use Rattle.usbhost.proofs.run_microframe.Statement as RunMicroframe·code
@@ -65,13 +66,13 @@ use Rattle.history.proofs.Contracts.{Follows}
 
 -- ---- `run_microframe`
 
-abbrev pub parts_lent : (κs : Lfts 13) → Dens κs RunMicroframe.ps → Lent
+abbrev pub parts_lent : (κs : Lfts 14) → Dens κs RunMicroframe.ps → Lent
 parts_lent κs a =
     lent (memory a.1.1.1.1.1.1.1.0.now a.1.1.1.1.1.1.1.1.0.now a.1.1.1.1.1.1.1.1.1.0.now) a.1.1.1.1.1.1.1.1.1.1.0.now a.1.1.1.1.1.1.1.1.1.1.1.0.now a.1.1.1.1.1.1.1.1.1.1.1.1.0.now a.1.1.1.1.1.1.1.1.1.1.1.1.1.0.now a.1.1.1.1.1.1.1.1.1.1.1.1.1.1.0.now a.1.1.1.1.1.1.1.1.1.1.1.1.1.1.1.0.now
 
-pub run_microframe_follows : (κs : Lfts 13) (a : Dens κs RunMicroframe.ps) (r : (res_t RunMicroframe.r κs).Denot) (s : AtExit (ended_of 13 RunMicroframe.ps RunMicroframe.r) κs)
+pub run_microframe_follows : (κs : Lfts 14) (a : Dens κs RunMicroframe.ps) (r : (res_t RunMicroframe.r κs).Denot) (s : AtExit (ended_of 14 RunMicroframe.ps RunMicroframe.r) κs)
     → RunMicroframe·contract.Post κs a r s
-    → Follows (host_of a.0 a.1.0 a.1.1.0 (own a.1.1.1.0.now a.1.1.1.1.0.now a.1.1.1.1.1.0.now a.1.1.1.1.1.1.0.now)) (microframe a.1.1.1.1.1.1.1.1.1.1.1.1.1.1.1.1.0 (parts_lent κs a)) (sent_by (unanswered a.0) r).refusal (host_of (sent_by (unanswered a.0) r).next a.1.0 a.1.1.0 (own s.1.1.1.0.now s.1.1.1.1.0.now s.1.1.1.1.1.0.now s.1.1.1.1.1.1.0.now))
+    → Follows (host_of a.0.now a.1.0 a.1.1.0 (own a.1.1.1.0.now a.1.1.1.1.0.now a.1.1.1.1.1.0.now a.1.1.1.1.1.1.0.now)) (microframe a.1.1.1.1.1.1.1.1.1.1.1.1.1.1.1.1.0 (parts_lent κs a)) (result_number r) (host_of s.0.now a.1.0 a.1.1.0 (own s.1.1.1.0.now s.1.1.1.1.0.now s.1.1.1.1.1.0.now s.1.1.1.1.1.1.0.now))
 unfolding step number_of
 run_microframe_follows κs a r s p = record { answers = p.number; leaves = ap host_in p.outcome }
 
@@ -82,12 +83,12 @@ run_microframe_met = RunMicroframe·proof.met
 module _ {M : Type 1} {𝓤 : Ura M} (𝓛 : Logic 𝓤) where
   open 𝓛 use {H}
 
-  pub run_microframe_bytes : (κs : Lfts 13) (qs : Shares 13) (a : Args RunMicroframe·spec.signature κs)
-      → Tells 𝓛 13 κs qs (types_at (RunMicroframe·spec.signature).params κs) a (BytesLent (parts_lent κs a))
+  pub run_microframe_bytes : (κs : Lfts 14) (qs : Shares 14) (a : Args RunMicroframe·spec.signature κs)
+      → Tells 𝓛 14 κs qs (types_at (RunMicroframe·spec.signature).params κs) a (BytesLent (parts_lent κs a))
   run_microframe_bytes κs qs a =
       let Ts = types_at (RunMicroframe·spec.signature).params κs in
-      later_tells 𝓛 13 κs qs 7 Ts a _
-      (lent_bytes 𝓛 13 κs qs 4 5 6 7 tt tt tt tt (types_from 11 Ts) (denots_from 7 Ts a) a.1.1.1.1.1.1.1.1.1.1.1.0.now a.1.1.1.1.1.1.1.1.1.1.1.1.0.now a.1.1.1.1.1.1.1.1.1.1.1.1.1.0.now a.1.1.1.1.1.1.1.1.1.1.1.1.1.1.0.now a.1.1.1.1.1.1.1.1.1.1.1.1.1.1.1.0.now)
+      later_tells 𝓛 14 κs qs 7 Ts a _
+      (lent_bytes 𝓛 14 κs qs 5 6 7 8 tt tt tt tt (types_from 11 Ts) (denots_from 7 Ts a) a.1.1.1.1.1.1.1.1.1.1.1.0.now a.1.1.1.1.1.1.1.1.1.1.1.1.0.now a.1.1.1.1.1.1.1.1.1.1.1.1.1.0.now a.1.1.1.1.1.1.1.1.1.1.1.1.1.1.0.now a.1.1.1.1.1.1.1.1.1.1.1.1.1.1.1.0.now)
 
   pub run_microframe_met_bytes : (𝓜 : Model 𝓤 H) (𝓡 : Running 𝓤 H 𝓜) → Wired 𝓡.env RunMicroframe·symbol.code
       → Meets 𝓛 RunMicroframe·spec.signature (𝓡.run (𝓡.env RunMicroframe·symbol.name)) (also RunMicroframe·spec.signature (RunMicroframe·spec.spec 𝓛 𝓜.mem 𝓡.returns) (λ κs a. BytesLent (parts_lent κs a)))

@@ -36,8 +36,10 @@ fn run(row: &Row, areas: &mut Areas, sending: &[u32]) -> Seen {
     let mut midi = [MARK; record::QUEUE];
     let mut serial = [MARK; record::QUEUE];
     let mut device = [MARK; record::DEVICE];
+    let before = row.state();
+    let mut state = before;
     let done = usbhost::run_microframe(
-        row.state(),
+        &mut state,
         row.settings(),
         row.packers(),
         &mut setups,
@@ -57,7 +59,7 @@ fn run(row: &Row, areas: &mut Areas, sending: &[u32]) -> Seen {
     );
     let queues = (changed(&midi, MARK) == 0) & (changed(&serial, MARK) == 0);
     let arrays = (setups == addresses()) & queues & (changed(&device, MARK) == 0);
-    Seen::judged(done, arrays & areas.are_marks())
+    Seen::judged(done, (state == before) & arrays & areas.are_marks())
 }
 
 pub fn microframe(row: &Row) -> Seen {

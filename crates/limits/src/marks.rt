@@ -8,7 +8,11 @@ pub const WORD_MARK: u32 = 0xEEEE_EEEE;
 
 // How many are not the mark.
 pub fn changed<T: PartialEq + Drop>(items: &[T], mark: T) -> usize {
-    items.iter().filter(|item| **item != mark).count()
+    let mut changed: usize = 0;
+    for item in items {
+        changed = changed.wrapping_add(usize::from(*item != mark));
+    }
+    changed
 }
 
 // A ring of marks, longer than the longest. Its length alone is told, so that a caller's proof does not look at each word.

@@ -27,7 +27,7 @@ use Rattle.usbhost.specs.Answers.{Sent, sent, Framed}
 use Rattle.usbhost.specs.Host.{state_of, host_of, own_of, host_with}
 use Rattle.usbhost.specs.Calls.{unless, bounded, few_spans, sending_length}
 use Rattle.usbhost.specs.Frame.{world_of, lengths_ok, Long, area_lengths, bounds_ok, frame_bounds, frame_number, framed, frame_answer}
-use Rattle.usbhost.specs.Promises.{bare, unanswered, FramePromise}
+use Rattle.usbhost.specs.Promises.{bare, FramePromise}
 use Rattle.usbhost.proofs.Laws.{refused}
 
 -- ---- an accepted microframe
@@ -179,8 +179,8 @@ module _ (t : ℕ) (h : Host) (l : Lent) (m : frame_number h l ≡ 0 → ⊥) wh
   lent_refused = ap (λ (w : World). w.lent) stays
 
 -- the call by value, where it is refused
-pub frame_entry_refused : (t : ℕ) (h : Host) (l : Lent) {s : State} → s ≡ state_of h → (r : Refusal) (o : Own) (l' : Lent)
-    → FramePromise t (host_with h s) l (sent (number r) (unanswered s)) o l'
+pub frame_entry_refused : (t : ℕ) (h : Host) (l : Lent) {s s' : State} → s ≡ state_of h → (r : Refusal) (o : Own) (l' : Lent)
+    → FramePromise t (host_with h s) l (sent (number r) s') o l'
     → ◌≡◌ {A = Framed} (record { refusal = number r; received = 0; dropped = 0; retired = 0; host = h }) (frame_answer t h l) × (l' ≡ (framed t h l).lent)
 frame_entry_refused t h l e r o l' d =
     let p = rw e at d in

@@ -93,7 +93,7 @@ new_host c =
       device = replicate DEVICE 0;
     }
 
--- number 3: more than 16 gone spans; the answer's host is then that of no settings
+-- number 3: more than 16 gone spans; the host beside it is then that of no settings, which the code hands out to no one
 unfoldable pub created : Settings → Created
 created c =
     pick (leb c.spans 16) (record { refusal = 0; host = new_host (settled c) }) (record { refusal = 3; host = new_host no_settings })

@@ -8,7 +8,7 @@ ghost use Rattle.usbdev.specs.Answers.{value_of};
 ghost use Rattle.midi.specs.Packer.{is_cable};
 ghost use Rattle.bounds.specs.Bounds.{MOST, in_bounds, areas_ok, received_ok, sending_ok};
 ghost use Rattle.model.specs.Microframe.{streaming as Microframe·streaming};
-ghost use Rattle.usbhost.specs.Answers.{sent_by, taken_by, read_by, framed_by, midi_sent_by};
+ghost use Rattle.usbhost.specs.Answers.{sent, sent_by, taken_by, read_by, framed_by, midi_sent_by};
 ghost use Rattle.usbhost.specs.Calls.{unless, sending_length, midi_sent, serial_sent, given, given_ring, give_number, taken_frame, take_number, device_read, device_written, written_page};
 ghost use Rattle.usbhost.specs.Promises.{bare, unanswered, MidiPromise, SerialPromise, GivePromise, TakePromise, ReadPromise, WritePromise, FramePromise};
 ghost use Rattle.usbhost.specs.Frame.{lengths_ok, Long, framed, frame_answer};
@@ -381,9 +381,9 @@ fn unanswered(s: State) -> State
     next
 }
 
-// One microframe of 125 microseconds at a time; the answer is in the state.
+// One microframe of 125 microseconds at a time; the answer is in the state, zeros where it is refused.
 pub fn run_microframe(
-    s: State,
+    s: &mut State,
     c: Settings,
     packers: [Packer; CABLES],
     setups: &mut [u8; SETUP_BYTES],
@@ -400,10 +400,11 @@ pub fn run_microframe(
     received: &mut [u32],
     sending: &[u32],
     time: u64,
-) -> Result<State, Refusal>
-    ensures { FramePromise time (host_of s c packers (own setups.old midi.old serial.old device.old)) (lent (shown dynamic.old sram.old page.old) reply.old config.old receive.old cables.old received.old sending.now) (sent_by (unanswered s) result) (own setups.new midi.new serial.new device.new) (lent (shown dynamic.new sram.new page.new) reply.new config.new receive.new cables.new received.new sending.now) }
+) -> Result<(), Refusal>
+    ensures { FramePromise time (host_of s.old c packers (own setups.old midi.old serial.old device.old)) (lent (shown dynamic.old sram.old page.old) reply.old config.old receive.old cables.old received.old sending.now) (sent (number_of result) s.new) (own setups.new midi.new serial.new device.new) (lent (shown dynamic.new sram.new page.new) reply.new config.new receive.new cables.new received.new sending.now) }
 {
-    let fresh = unanswered(s);
+    let fresh = unanswered(*s);
+    *s = fresh;
     bus::accept(&*dynamic, &*sram, &*page)?;
     let lengths = AreaLengths {
         reply: reply.len(),
@@ -440,7 +441,8 @@ pub fn run_microframe(
         received,
         sending,
     };
-    Ok(frames::microframe(fresh, c, &mut windows, &mut areas, time))
+    *s = frames::microframe(fresh, c, &mut windows, &mut areas, time);
+    Ok(())
 }
 
 // Takes the oldest frame from the received ring, or finds it empty.
@@ -597,8 +599,9 @@ impl Host {
     ) -> Result<Framed, Refusal>
         ensures { (framed_by self result ≡ frame_answer time self (lent (shown dynamic.old sram.old page.old) reply.old config.old receive.old cables.old received.old sending.now)) × (lent (shown dynamic.new sram.new page.new) reply.new config.new receive.new cables.new received.new sending.now ≡ (framed time self (lent (shown dynamic.old sram.old page.old) reply.old config.old receive.old cables.old received.old sending.now)).lent) }
     {
-        let state = run_microframe(
-            self.state(),
+        let mut state = self.state();
+        run_microframe(
+            &mut state,
             self.settings,
             self.packers,
             &mut self.setups,
