@@ -70,6 +70,7 @@ pub fn run<P: Part + Drop>(rt: HostRuntime, part: P, program: &str) {
         if long || bench.call(line, &mut out).is_none() {
             answers::bad_line(&mut out);
         }
+        out.make_room();
         if long || out.failed() {
             break;
         }

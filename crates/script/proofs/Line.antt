@@ -87,6 +87,16 @@ both None (Some d) n k = grind arith
 both (Some d) None n k = grind arith
 both (Some d) (Some e) n k = grind arith
 
+one : (o : Option ℕ) (n k : ℕ) → (pick (is_some o) (n + 1) 0 == suc k) ≡ (is_some o && (n == k))
+one None n k = grind arith
+one (Some d) n k = grind arith
+
+-- a character more
+pub whole_next : (ds : List ℕ) (k : ℕ) → k < length ds
+    → whole (drop k ds) ≡ (is_some (digit (get_or ds k 0)) && whole (drop (k + 1) ds))
+unfolding run
+whole_next ds k h = at_drop_more whole ds k 0 h ∙ one (digit (get_or ds k 0)) (run (drop (k + 1) ds)) (length (drop (k + 1) ds))
+
 -- two characters more
 pub whole_more : (ds : List ℕ) (k : ℕ) → k + 1 < length ds
     → whole (drop k ds) ≡ (is_some (byte (get_or ds k 0) (get_or ds (k + 1) 0)) && whole (drop (k + 2) ds))

@@ -67,7 +67,7 @@ pub fn pair(out: &mut Output, b: u8)
     ensures behind { Behind 2 out.old out.new }
     ensures both { length out.old.bytes + 2 ≤ 65536 → length out.new.bytes ≡ length out.old.bytes + 2 }
 {
-    out.append_first(&[glyph(b / 16), glyph(b % 16)], 2);
+    out.put_both(glyph(b / 16), glyph(b % 16));
 }
 
 // A letter, one number and the line's end.

@@ -1,8 +1,9 @@
 // The lines of a run script that go through the three memory windows: stores, fills and looks. A bad line has no answer, and stores nothing.
-ghost use Rattle.std.specs.Prelude.{◌≡◌, ◌+◌, ◌≤◌, ◌%◌, ◌⊎◌, length, IsSome, IsSomeAnd, IfSome};
+ghost use Rattle.std.specs.Prelude.{◌≡◌, ◌+◌, ◌*◌, ◌≤◌, ◌%◌, ◌⊎◌, length, IsSome, IsSomeAnd, IfSome};
 ghost use Rattle.bus.specs.Memory.{shown};
 ghost use Rattle.script.specs.Kept.{Unsized};
 ghost use Rattle.script.specs.Line.{second};
+ghost use Rattle.stdio.specs.Behind.{Behind};
 
 use crate::answers;
 use crate::words::{self, Words};
@@ -43,12 +44,12 @@ fn store(windows: &mut Windows<'_>, a: u32, digits: &[u8])
     let count = digits.len() / 2;
     if let Some(place) = place_in(windows.dynamic.len(), 0x4000_0000, a, count) {
         let dynamic = &mut *windows.dynamic;
-        let _ = words::put_digits(&mut dynamic[place..place + count], digits);
+        words::put_tested(&mut dynamic[place..place + count], digits);
         return;
     }
     if let Some(place) = place_in(PAGE, 0xFC0B_0000, a, count) {
         let page = &mut *windows.page;
-        let _ = words::put_digits(&mut page[place..place + count], digits);
+        words::put_tested(&mut page[place..place + count], digits);
         return;
     }
     poke_digits(windows, a, digits);
@@ -104,7 +105,9 @@ pub fn fill_line(line: &[u8], dynamic: &mut [u8], sram: &mut [u8], page: &mut [u
 }
 
 // `count` bytes as they are seen from the address `a` on: 0 in windows of wrong lengths.
-fn show(dynamic: &[u8], sram: &[u8], page: &[u8], a: u32, count: u32, out: &mut Output) {
+fn show(dynamic: &[u8], sram: &[u8], page: &[u8], a: u32, count: u32, out: &mut Output)
+    ensures { Behind (2 * count) out.old out.new }
+{
     let view = View::of(dynamic, sram, page).ok();
     for i in 0..count {
         let seen = match view {

@@ -1,5 +1,5 @@
 // The words of a line: numbers and byte strings in lower-case hexadecimal.
-ghost use Rattle.std.specs.Prelude.{◌≡◌, ◌==◌, ◌+◌, ◌*◌, ◌/◌, ◌%◌, ◌^◌, ◌<◌, ◌≤◌, ◌↔◌, [], take, drop, length, IsSome, IfSome, IfNone, None, option_map, option_copied};
+ghost use Rattle.std.specs.Prelude.{◌≡◌, ◌==◌, ◌+◌, ◌*◌, ◌/◌, ◌%◌, ◌^◌, ◌<◌, ◌≤◌, ◌↔◌, [], take, drop, length, IsSome, IfSome, IfNone, None, true, is_some, unwrap_or, option_map, option_copied};
 ghost use Rattle.script.specs.Line as L;
 
 // The letter that a line begins with, where a space or the end follows it.
@@ -23,6 +23,46 @@ pub fn digit(b: u8) -> Option<u8>
         b'a'..=b'f' => Some(b - 87),
         _ => None,
     }
+}
+
+// Whether a character is a digit.
+fn is_digit(b: u8) -> bool
+    ensures { result ≡ is_some (L.digit b) }
+{
+    matches!(b, b'0'..=b'9' | b'a'..=b'f')
+}
+
+// What a digit is worth, without asking which kind it is: what comes next in a text cannot be foreseen.
+fn worth(b: u8) -> u8
+    ensures small { result ≤ 42 }
+    ensures value { is_some (L.digit b) ≡ true → result ≡ unwrap_or (L.digit b) 0 }
+{
+    b % 16 + b / 64 * 9
+}
+
+// The byte of two characters, and whether they are digits; 0 where they are not.
+fn pair(high: u8, low: u8) -> (u8, bool)
+    ensures value { result.0 ≡ unwrap_or (L.byte high low) 0 }
+    ensures both { result.1 ≡ is_some (L.byte high low) }
+{
+    let both = is_digit(high) & is_digit(low);
+    if both {
+        (worth(high) * 16 + worth(low), both)
+    } else {
+        (0, both)
+    }
+}
+
+// Whether a text is digits to its end.
+fn all_digits(text: &[u8]) -> bool
+    ensures { result ≡ (L.run text.now == length text.now) }
+{
+    for i in 0..text.len() {
+        if !is_digit(text[i]) {
+            return false;
+        }
+    }
+    true
 }
 
 // The byte of two digits.
@@ -56,11 +96,28 @@ pub(crate) fn put_digits(part: &mut [u8], text: &[u8]) -> bool
 {
     let mut all = true;
     for i in 0..part.len() {
-        let b = byte(text[2 * i], text[2 * i + 1]);
-        all &= b.is_some();
-        part[i] = b.unwrap_or(0);
+        let (value, both) = pair(text[2 * i], text[2 * i + 1]);
+        all &= both;
+        part[i] = value;
     }
     all
+}
+
+// The byte of two digits, without a test of them.
+fn made(high: u8, low: u8) -> u8
+    ensures { is_some (L.byte high low) ≡ true → result ≡ unwrap_or (L.byte high low) 0 }
+{
+    worth(high) % 16 * 16 + worth(low) % 16
+}
+
+// Stores the bytes of pairs of digits that were tested.
+pub(crate) fn put_tested(part: &mut [u8], text: &[u8])
+    requires { length text.now ≡ 2 * length part.old }
+    ensures { (L.run text.now == length text.now) ≡ true → part.new ≡ L.bytes text.now }
+{
+    for i in 0..part.len() {
+        part[i] = made(text[2 * i], text[2 * i + 1]);
+    }
 }
 
 // A place in a line, from which its words are taken.
@@ -157,7 +214,7 @@ impl<'a> Words<'a> {
         ensures inside { IfSome result (λ text. length text.now ≤ length self.old.line.now) }
     {
         let text = self.pairs()?;
-        if read(text).0 < text.len() {
+        if !all_digits(text) {
             return None;
         }
         Some(text)

@@ -1,8 +1,14 @@
 -- What calls put into an output, one behind the other.
-use Rattle.std.proofs.Common.{◌≡◌, ℕ, ◌+◌, ◌<◌, ◌≤◌, List, [], ◌∷◌, ◌++◌, length, take, ap, ◌∙◌, append_assoc, length-append, length-take, lit≤, arith}
+use Rattle.std.proofs.Common.{◌≡◌, ℕ, ◌+◌, ◌<◌, ◌≤◌, List, [], ◌∷◌, ◌++◌, length, take, sym, ap, ◌∙◌, append_assoc, append-nil, length-append, length-take, lit≤, arith}
 use Rattle.stdio.specs.Held as H
 use Rattle.stdio.specs.Held.{Held}
 use Rattle.stdio.specs.Behind.{Behind}
+
+-- nothing
+pub behind_none : {h : Held} → Behind 0 h h
+behind_none {h} = record {
+  more = λ room. ([], (lit≤ tt, sym (ap (λ (l : List ℕ). record { bytes = l; failed = h.failed }) (append-nil h.bytes))));
+}
 
 -- a text that is known
 pub behind_text : {old new : Held} (text : List ℕ) → (length old.bytes + length text ≤ 65536 → new ≡ H.more old text) → Behind (length text) old new

@@ -89,6 +89,17 @@ impl Output {
         self.held = 0;
     }
 
+    // Writes what the buffer holds once that is more than 40,000 bytes. Called behind each line of answers that is at most 25,536 bytes long, it lets no write end inside one.
+    pub fn make_room(&mut self)
+        ensures room { length self.new.bytes ≤ 40000 }
+        ensures kept { length self.old.bytes ≤ 40000 → self.new ≡ self.old }
+        ensures stays { Stays self.old self.new }
+    {
+        if 40000 < self.held {
+            self.flush();
+        }
+    }
+
     // Room for `count` bytes behind those held, or in a buffer that is empty again.
     fn reserve(&mut self, count: usize)
         requires { count ≤ 65536 }
@@ -109,6 +120,17 @@ impl Output {
         self.reserve(1);
         self.buffer[self.held] = b;
         self.held += 1;
+    }
+
+    // Two bytes.
+    pub fn put_both(&mut self, first: u8, second: u8)
+        ensures held { length self.old.bytes + 2 ≤ 65536 → self.new ≡ more self.old (first ∷ second ∷ []) }
+        ensures stays { Stays self.old self.new }
+    {
+        self.reserve(2);
+        self.buffer[self.held] = first;
+        self.buffer[self.held + 1] = second;
+        self.held += 2;
     }
 
     // A text; one that is longer than the buffer is written past it.

@@ -20,17 +20,17 @@ loop-i-preserved c =
     let i = c.loop-i.i in
     let p = c.loop-i.part in
     let ds = c.args.text.now in
-    let v = c.unwrap_or.result in
+    let v = c.pair-value.result.0 in
     let first : take (i + 1) (set p i v) ≡ take i p ++ v ∷ [] = rw add-one (take-suc-set p i v (omega arith)) in
-    let worth = c.unwrap_or.ensures ∙ ap (λ o. unwrap_or o 0) c.byte-b.ensures in
+    let worth = c.pair-value.ensures.value in
     let two : 2 * i + 2 ≡ 2 * (i + 1) = omega arith in
     let rest = bytes_more ds (2 * i) (omega arith) ∙ ap₂ (λ (x n : ℕ). x ∷ bytes (drop n ds)) (sym worth) two in
-    let valid : c.is_some-all.result ≡ is_some (byte (get_or ds (2 * i) 0) (get_or ds (2 * i + 1) 0)) = c.is_some-all.ensures ∙ ap (λ o. is_some o) c.byte-b.ensures in
-    let left : (c.is_some-all.result && whole (drop (2 * (i + 1)) ds)) ≡ whole (drop (2 * i) ds) = ap₂ (λ (x : Bool) (n : ℕ). x && whole (drop n ds)) valid (sym two) ∙ sym (whole_more ds (2 * i) (omega arith)) in (
+    let valid : c.pair-value.result.1 ≡ is_some (byte (get_or ds (2 * i) 0) (get_or ds (2 * i + 1) 0)) = c.pair-value.ensures.both in
+    let left : (c.pair-value.result.1 && whole (drop (2 * (i + 1)) ds)) ≡ whole (drop (2 * i) ds) = ap₂ (λ (x : Bool) (n : ℕ). x && whole (drop n ds)) valid (sym two) ∙ sym (whole_more ds (2 * i) (omega arith)) in (
       ap (λ (l : List ℕ). l ++ bytes (drop (2 * (i + 1)) ds)) first
           ∙ append_assoc (take i p) (v ∷ []) (bytes (drop (2 * (i + 1)) ds))
           ∙ ap (λ (l : List ℕ). take i p ++ l) (sym rest) ∙ c.loop-i.invariant.0,
-      all_more c.loop-i.all c.is_some-all.result _ ∙ ap (λ x. c.loop-i.all && x) left ∙ c.loop-i.invariant.1,
+      all_more c.loop-i.all c.pair-value.result.1 _ ∙ ap (λ x. c.loop-i.all && x) left ∙ c.loop-i.invariant.1,
     )
 
 pub returns-clause-all : goal.returns-clause-all
