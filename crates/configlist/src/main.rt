@@ -1,10 +1,11 @@
 // Lists what the descriptor sets of standard input ask for: a line of hexadecimal pairs each, answered as `config` answers it.
 #![tactic(auto)]
 
-ghost use Rattle.std.specs.Prelude.{◌≤◌};
+ghost use Rattle.std.specs.Option.{ForSome};
+ghost use Rattle.std.specs.Prelude.{◌≡◌, ◌<◌, ◌≤◌, None};
 
 use config::ConfigInfo;
-use script::words;
+use script::{answers, words};
 use std::fmt;
 use std::fmt::Write;
 use stdio::{Input, Output};
@@ -27,7 +28,7 @@ impl fmt::Display for Fault {
     }
 }
 
-// The line being read: the bytes of its set, the first digit of a pair where one waits, as the byte's upper half, and what was wrong first.
+// The line being read: the bytes of its set, the first digit of a pair where one waits, and what was wrong first.
 #[derive(Drop)]
 struct Line {
     set: [u8; 65536],
@@ -35,10 +36,15 @@ struct Line {
     high: Option<u8>,
     fault: Option<Fault>,
     ghost inside: { held ≤ 65536 },
+    ghost digit: { ForSome high (λ h. h < 16) },
 }
 
 impl Line {
-    fn new() -> Self {
+    fn new() -> Self
+        ensures held { result.held ≡ 0 }
+        ensures high { result.high ≡ None }
+        ensures fault { result.fault ≡ None }
+    {
         Line {
             set: [0; 65536],
             held: 0,
@@ -65,34 +71,35 @@ impl Line {
             return;
         };
         let Some(high) = self.high else {
-            self.high = Some(value * 16);
+            self.high = Some(value);
             return;
         };
         if self.held == self.set.len() {
             self.refuse(Fault::Long);
             return;
         }
-        self.set[self.held] = high | value;
+        self.set[self.held] = high * 16 + value;
         self.held += 1;
         self.high = None;
     }
 
-    // The set, or what is wrong with it.
-    fn parse(&self) -> Result<ConfigInfo, Fault> {
-        if let Some(fault) = self.fault {
-            return Err(fault);
+    // What is wrong with the whole line.
+    fn wrong(&self) -> Option<Fault> {
+        if self.fault.is_none() && self.high.is_some() {
+            return Some(Fault::Odd);
         }
-        if self.high.is_some() {
-            return Err(Fault::Odd);
-        }
-        Ok(config::parse_config(&self.set[..self.held]))
+        self.fault
     }
 
     // The end of the line: its answer, and an empty line.
-    fn end(&mut self, out: &mut Output) {
-        match self.parse() {
-            Ok(info) => show_info(info, out),
-            Err(fault) => {
+    fn end(&mut self, out: &mut Output)
+        ensures held { self.new.held ≡ 0 }
+        ensures high { self.new.high ≡ None }
+        ensures fault { self.new.fault ≡ None }
+    {
+        match self.wrong() {
+            None => show_info(&config::parse_config(&self.set[..self.held]), out),
+            Some(fault) => {
                 let _ = writeln!(out, "refused: {fault}");
             }
         }
@@ -103,16 +110,19 @@ impl Line {
 }
 
 // The answer to a set: the two sizes and the number of pairs, then a line for each pair.
-fn show_info(info: ConfigInfo, out: &mut Output) {
+fn show_info(info: &ConfigInfo, out: &mut Output) {
     let pairs = info.pairs.as_slice();
-    let input = info.ob_in_packet;
-    let output = info.ob_out_packet;
-    let count = pairs.len();
-    let _ = writeln!(out, "{input} {output} {count}");
+    answers::decimal(out, u64::from(info.ob_in_packet));
+    out.put(b' ');
+    answers::decimal(out, u64::from(info.ob_out_packet));
+    out.put(b' ');
+    answers::decimal(out, pairs.len() as u64);
+    out.put(b'\n');
     for pair in pairs {
-        let interface = pair.interface;
-        let alternate = pair.alternate;
-        let _ = writeln!(out, "{interface} {alternate}");
+        answers::decimal(out, u64::from(pair.interface));
+        out.put(b' ');
+        answers::decimal(out, u64::from(pair.alternate));
+        out.put(b'\n');
     }
 }
 
@@ -124,6 +134,7 @@ fn take_piece(line: &mut Line, piece: &[u8], out: &mut Output) {
             continue;
         }
         line.end(out);
+        out.make_room();
         if out.failed() {
             return;
         }

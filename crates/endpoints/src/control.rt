@@ -1,4 +1,6 @@
 // A request on endpoint 0 that asks the device for 64 bytes, a microframe at a time: data, then status.
+ghost use Rattle.bus.specs.Windows.{SameWindows};
+
 use crate::frames;
 use bus::Windows;
 
@@ -28,7 +30,9 @@ pub fn posted() -> Request {
 }
 
 // The data stage: input on endpoint 0, of which the reply keeps 64 bytes.
-fn data(windows: &mut Windows<'_>, request: Request, flag: bool) -> Step {
+fn data(windows: &mut Windows<'_>, request: Request, flag: bool) -> Step
+    ensures { SameWindows windows.old windows.new }
+{
     let mut reply = request.reply;
     let at = request.filled.min(64);
     let filled = runs::run0_in(windows, &mut reply, at, 64, flag);
@@ -58,7 +62,9 @@ fn status(windows: &mut Windows<'_>, before: Step) -> Step {
 }
 
 // The request before its status stage: as it stands, or after a microframe's data stage.
-fn staged(windows: &mut Windows<'_>, request: Request, flag: bool) -> Step {
+fn staged(windows: &mut Windows<'_>, request: Request, flag: bool) -> Step
+    ensures { SameWindows windows.old windows.new }
+{
     if request.status {
         return Step {
             request,

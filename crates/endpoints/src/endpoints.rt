@@ -1,5 +1,6 @@
 // What a run on endpoints 0 and 2 has, and its answer to each line.
 ghost use Rattle.std.specs.Prelude.{◌≤◌};
+ghost use Rattle.stdio.specs.Behind.{Behind};
 
 use crate::control::{self, Request, Step};
 use crate::frames::{self, Served};
@@ -147,7 +148,9 @@ impl Part for Endpoints {
 }
 
 // The hashes of the three windows, and the line's end.
-fn show_windows(view: View<'_>, out: &mut Output) {
+fn show_windows(view: View<'_>, out: &mut Output)
+    ensures { Behind 52 out.old out.new }
+{
     let View {
         dynamic,
         sram,
@@ -162,6 +165,7 @@ fn show_windows(view: View<'_>, out: &mut Output) {
 // What a serial host's microframe did: the line's flag, bytes received and their hash, and bytes still queued.
 fn show_served(served: Served, input: &[u8; 32768], queued: usize, out: &mut Output)
     requires { served.received ≤ 32767 }
+    ensures { Behind 54 out.old out.new }
 {
     let received = &input[..served.received];
     out.put(b'u');
@@ -173,7 +177,9 @@ fn show_served(served: Served, input: &[u8; 32768], queued: usize, out: &mut Out
 
 // What a request's microframe did: the line's flag, whether it runs, its stage, and its reply's length and hash; one that has ended shows as an
 // empty one.
-fn show_step(step: Step, out: &mut Output) {
+fn show_step(step: Step, out: &mut Output)
+    ensures { Behind 41 out.old out.new }
+{
     let mut request = step.request;
     if !step.running {
         request = control::posted();

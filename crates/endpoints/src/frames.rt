@@ -1,5 +1,6 @@
 // Single runs on endpoint 2, as a microframe of a serial host does them.
 ghost use Rattle.std.specs.Prelude.{◌≡◌, ◌≤◌, length, IfSome};
+ghost use Rattle.bus.specs.Windows.{SameWindows};
 
 use bus::{View, Windows, put_at, word_at};
 use dtd::Found;
@@ -51,7 +52,8 @@ fn wanted(view: View<'_>, queued: usize) -> Option<usize>
 
 // Input on endpoint 2.
 fn receive(windows: &mut Windows<'_>, input: &mut [u8; 32768], flag: bool) -> Served
-    ensures { (result.received ≤ 32767) × (result.sent ≡ 0) }
+    ensures counts { (result.received ≤ 32767) × (result.sent ≡ 0) }
+    ensures same { SameWindows windows.old windows.new }
 {
     let received = take_in(windows.view(), input);
     let ran = dtd::run_count(windows, 2, flag);

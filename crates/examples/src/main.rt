@@ -1,19 +1,25 @@
 // Runs the worked examples of document 01 that are not marked, by the crates' own calls.
 #![tactic(auto)]
 
+ghost use Rattle.stdio.specs.Behind.{Behind};
+
 use midi::Packer;
 use refusal::Refusal;
 use script::answers;
 use stdio::Output;
 
 // A line of one number.
-fn show_line(out: &mut Output, n: u64) {
+fn show_line(out: &mut Output, n: u64)
+    ensures { Behind 21 out.old out.new }
+{
     answers::decimal(out, n);
     out.put(b'\n');
 }
 
 // A line of the number of a refusal, or of 0.
-fn show_refusal<T: Drop>(out: &mut Output, called: &Result<T, Refusal>) {
+fn show_refusal<T: Drop>(out: &mut Output, called: &Result<T, Refusal>)
+    ensures { Behind 21 out.old out.new }
+{
     show_line(
         out,
         match called {
@@ -24,7 +30,9 @@ fn show_refusal<T: Drop>(out: &mut Output, called: &Result<T, Refusal>) {
 }
 
 // First pointer 40000FFE, total 4: two bytes there, two from the start of the second page.
-fn two_pages(out: &mut Output) {
+fn two_pages(out: &mut Output)
+    ensures { Behind 134 out.old out.new }
+{
     let mut dynamic = [0u8; 65536];
     let sram = [0u8; 65536];
     let page = [0u8; 4096];
@@ -45,7 +53,9 @@ fn two_pages(out: &mut Output) {
 }
 
 // At 4,092 held MIDI bytes F8 is accepted; at 4,096 it meets 7.
-fn queue_space(out: &mut Output, held: usize) {
+fn queue_space(out: &mut Output, held: usize)
+    ensures { Behind 146 out.old out.new }
+{
     let mut queue = [0u8; 4096];
     let sent = midi::send(Packer::new(), 0, b"\xF8", &mut queue, held);
     out.append(b"F8 with so many held: refusal, held then, last byte but three\n");

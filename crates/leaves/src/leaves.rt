@@ -1,4 +1,6 @@
 // What a run of the leaf crates has, and their answer to each line.
+ghost use Rattle.stdio.specs.Behind.{Behind};
+
 use bench::{Memory, Part, Queue};
 use gptimers::Timers;
 use midi::Packer;
@@ -140,7 +142,9 @@ fn device_read(line: &[u8], page: &[u8], out: &mut Output) -> Option<()> {
     Some(())
 }
 
-fn show_timers(timers: Timers, on: bool, out: &mut Output) {
+fn show_timers(timers: Timers, on: bool, out: &mut Output)
+    ensures { Behind 42 out.old out.new }
+{
     out.put(b'u');
     show_timer(timers.zero, out);
     show_timer(timers.one, out);

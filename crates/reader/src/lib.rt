@@ -23,6 +23,7 @@ pub fn replay(rt: HostRuntime) {
             script::answers::bad_line(&mut out);
             break;
         }
+        out.make_room();
         if out.failed() {
             break;
         }
@@ -50,19 +51,25 @@ impl Table {
     fn end_run(&mut self, run: &Run) {
         progress(self.rt, run.number);
         rows::end_run(run, &mut self.sums, &mut self.out);
+        self.out.make_room();
     }
 
     // The rows of a script's runs but the last, which is `run`, unless a line is bad.
     fn read(&mut self, input: &mut Input, run: &mut Run, areas: &mut Areas) -> Option<()> {
         let mut unseen = Output::nowhere();
+        let mut before = *run;
         for _ in 0..u64::MAX {
             let Some(line) = input.next_line() else {
                 break;
             };
-            let before = *run;
+            // no other line begins a run, and a run is too long to be kept at each
+            let begins = matches!(line, [b'n', ..]);
+            if begins {
+                before = *run;
+            }
             lines::answer(run, line, areas, &mut unseen)?;
             run.mode = Mode::Nothing;
-            if before.number != run.number {
+            if begins {
                 self.end_run(&before);
             }
             if self.out.failed() {

@@ -1,4 +1,6 @@
 // The table of runs: a row of counters for each, tab-separated, and their sums.
+ghost use Rattle.stdio.specs.Behind.{Behind};
+
 use record::Counter;
 use script::answers;
 use scripted::run::Run;
@@ -43,7 +45,9 @@ impl Row {
     }
 
     // All cells behind the first, and the row's end.
-    fn show(&self, out: &mut Output) {
+    fn show(&self, out: &mut Output)
+        ensures { Behind 337 out.old out.new }
+    {
         let cells = [
             self.stats[Counter::Microframes.place()],
             self.stats[Counter::InFrames.place()],
@@ -70,7 +74,9 @@ impl Row {
     }
 }
 
-pub fn heading(out: &mut Output) {
+pub fn heading(out: &mut Output)
+    ensures { Behind 215 out.old out.new }
+{
     out.append(
         b"run\tmicroframes\tframes received\tframes sent\tcredit\tbad blocks\tinput transfers\toutput transfers\tunderruns\t",
     );
@@ -80,7 +86,9 @@ pub fn heading(out: &mut Output) {
 }
 
 // The row of a run that ended: a run that was passed over has none of its counters, and no run has no row.
-pub fn end_run(run: &Run, sums: &mut Row, out: &mut Output) {
+pub fn end_run(run: &Run, sums: &mut Row, out: &mut Output)
+    ensures { Behind 357 out.old out.new }
+{
     if run.number == 0 {
         return;
     }
@@ -95,7 +103,9 @@ pub fn end_run(run: &Run, sums: &mut Row, out: &mut Output) {
 }
 
 // The row of the sums.
-pub fn end_all(sums: &Row, out: &mut Output) {
+pub fn end_all(sums: &Row, out: &mut Output)
+    ensures { Behind 340 out.old out.new }
+{
     out.append(b"all");
     sums.show(out);
 }

@@ -3,6 +3,9 @@
 // Bytes of the longest dynamic memory.
 pub const DYNAMIC: usize = 1_048_576;
 
+// Bytes of the longest byte string that a line holds.
+pub const BYTES: usize = 32_768;
+
 // All of them are zero at a run's start; the first bytes of `dynamic` and the first words of `sending` are the run's. `bytes` are those of a line that sends.
 #[derive(Drop)]
 pub struct Areas {
@@ -19,7 +22,7 @@ pub struct Areas {
     pub cables: [u8; record::RECEIVE],
     pub received: [u32; record::RING],
     pub sending: [u32; record::RING],
-    pub bytes: [u8; 32_768],
+    pub bytes: [u8; BYTES],
 }
 
 // How much a run may have written of the long ones: bytes of dynamic memory, of the receive area and so of that of cables, words of the two rings.
@@ -58,7 +61,7 @@ impl Areas {
         cables: [0; record::RECEIVE],
         received: [0; record::RING],
         sending: [0; record::RING],
-        bytes: [0; 32_768],
+        bytes: [0; BYTES],
     };
 
     // Zeros wherever a run that used so much may have written.

@@ -1,11 +1,12 @@
 // The calls that a line makes beside microframes. A bad line has no answer, and leaves the run as it was.
 ghost use Rattle.std.specs.Prelude.{◌≡◌, IsNone};
 
-use crate::areas::{Areas, first_mut};
+use crate::areas::{Areas, BYTES, first_mut};
 use crate::log;
 use crate::run::{Mode, Run};
 use crate::start::read_flag;
-use record::{SETUP_BYTES, State};
+use bus::PAGE;
+use record::{QUEUE, RING, SETUP_BYTES, State};
 use refusal::Refusal;
 use script::words::Words;
 use script::{answers, hash};
@@ -119,7 +120,8 @@ impl Run {
     pub(crate) fn write_device(
         &mut self,
         words: &mut Words,
-        areas: &mut Areas,
+        setups: &[u8; SETUP_BYTES],
+        page: &mut [u8; PAGE],
         out: &mut Output,
     ) -> Option<()>
         ensures { IsNone result → self.new ≡ self.old }
@@ -128,13 +130,7 @@ impl Run {
         let off = words.word()?;
         let value = words.word()?;
         words.end()?;
-        let written = usbhost::write_device(
-            self.parts(&areas.setups),
-            &mut areas.page,
-            off,
-            size,
-            value,
-        );
+        let written = usbhost::write_device(self.parts(setups), page, off, size, value);
         self.store(written, out);
         Some(())
     }
@@ -144,18 +140,15 @@ impl Run {
         &mut self,
         cable: u64,
         words: &mut Words,
-        areas: &mut Areas,
+        setups: &[u8; SETUP_BYTES],
+        midi: &mut [u8; QUEUE],
+        buffer: &mut [u8; BYTES],
         out: &mut Output,
     ) -> Option<()>
         ensures { IsNone result → self.new ≡ self.old }
     {
-        let bytes = words.bytes(&mut areas.bytes)?;
-        let sent = usbhost::send_midi(
-            self.parts(&areas.setups),
-            cable.min(255) as u8,
-            bytes,
-            &mut areas.midi,
-        );
+        let bytes = words.bytes(buffer)?;
+        let sent = usbhost::send_midi(self.parts(setups), cable.min(255) as u8, bytes, midi);
         if let Ok(sent) = sent {
             let packers = sent.packers;
             self.packers = packers;
@@ -168,13 +161,15 @@ impl Run {
     pub(crate) fn send_serial(
         &mut self,
         words: &mut Words,
-        areas: &mut Areas,
+        setups: &[u8; SETUP_BYTES],
+        serial: &mut [u8; QUEUE],
+        buffer: &mut [u8; BYTES],
         out: &mut Output,
     ) -> Option<()>
         ensures { IsNone result → self.new ≡ self.old }
     {
-        let bytes = words.bytes(&mut areas.bytes)?;
-        let sent = usbhost::send_serial(self.parts(&areas.setups), bytes, &mut areas.serial);
+        let bytes = words.bytes(buffer)?;
+        let sent = usbhost::send_serial(self.parts(setups), bytes, serial);
         self.store(sent, out);
         Some(())
     }
@@ -183,16 +178,17 @@ impl Run {
     pub(crate) fn give_frame(
         &mut self,
         words: &mut Words,
-        areas: &mut Areas,
+        setups: &[u8; SETUP_BYTES],
+        sending: &mut [u32; RING],
         out: &mut Output,
     ) -> Option<()>
         ensures { IsNone result → self.new ≡ self.old }
     {
         let frame = read_frame(words)?;
         let given = usbhost::give_frame(
-            self.parts(&areas.setups),
+            self.parts(setups),
             &frame,
-            first_mut(&mut areas.sending, self.sending_words()),
+            first_mut(sending, self.sending_words()),
         );
         self.store(given, out);
         Some(())

@@ -25,13 +25,28 @@ fn start(run: &mut Run, words: &mut Words, areas: &mut Areas, out: &mut Output) 
     Some(())
 }
 
-// A line through the windows; dynamic memory is as long as the run's.
-fn reach(run: &Run, letter: u8, line: &[u8], areas: &mut Areas, out: &mut Output) -> Option<()> {
-    let dynamic = first_mut(&mut areas.dynamic, run.length);
-    memory::line(letter, line, dynamic, &mut areas.sram, &mut areas.page, out)
+// A line that writes to the device, sends or gives: each call is lent what it changes, and the setups to read.
+fn change(
+    run: &mut Run,
+    letter: u8,
+    words: &mut Words,
+    areas: &mut Areas,
+    out: &mut Output,
+) -> Option<()>
+    ensures { IsNone result → run.new ≡ run.old }
+{
+    let setups = &areas.setups;
+    let bytes = &mut areas.bytes;
+    match letter {
+        b'd' => run.write_device(words, setups, &mut areas.page, out),
+        b'm' => run.send_midi(0, words, setups, &mut areas.midi, bytes, out),
+        b'c' => run.send_midi(words.number()?, words, setups, &mut areas.midi, bytes, out),
+        b's' => run.send_serial(words, setups, &mut areas.serial, bytes, out),
+        _ => run.give_frame(words, setups, &mut areas.sending, out),
+    }
 }
 
-// A line of a live run.
+// A line of a live run; the windows have as much of dynamic memory as the run.
 fn call(run: &mut Run, letter: u8, line: &[u8], areas: &mut Areas, out: &mut Output) -> Option<()>
     ensures { IsNone result → run.new ≡ run.old }
 {
@@ -47,14 +62,13 @@ fn call(run: &mut Run, letter: u8, line: &[u8], areas: &mut Areas, out: &mut Out
         b'j' => run.set_through(&mut words)?,
         b'x' => run.show_answer(&mut words, &*areas, out)?,
         b'r' => run.read_device(&mut words, &*areas, out)?,
-        b'd' => run.write_device(&mut words, areas, out)?,
-        b'm' => run.send_midi(0, &mut words, areas, out)?,
-        b'c' => run.send_midi(words.number()?, &mut words, areas, out)?,
-        b's' => run.send_serial(&mut words, areas, out)?,
-        b'g' => run.give_frame(&mut words, areas, out)?,
+        b'd' | b'm' | b'c' | b's' | b'g' => change(run, letter, &mut words, areas, out)?,
         b't' => run.take_frame(&words, &*areas, out)?,
         b'T' => run.take_frames(&mut words, &*areas, out)?,
-        _ => reach(&*run, letter, line, areas, out)?,
+        _ => {
+            let dynamic = first_mut(&mut areas.dynamic, run.length);
+            memory::line(letter, line, dynamic, &mut areas.sram, &mut areas.page, out)?;
+        }
     }
     Some(())
 }

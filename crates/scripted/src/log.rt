@@ -1,4 +1,6 @@
 // The lines that show the host record: what a microframe logs, and an observation.
+ghost use Rattle.stdio.specs.Behind.{Behind};
+
 use crate::areas::{Areas, first};
 use crate::run::Run;
 use midi::Packer;
@@ -90,7 +92,9 @@ fn ring_hash(words: &[u32], ring: Ring) -> u64 {
 }
 
 // Fields 1 to 6.
-fn show_phase(state: &State, out: &mut Output) {
+fn show_phase(state: &State, out: &mut Output)
+    ensures { Behind 102 out.old out.new }
+{
     answers::field(out, state.phase as u64);
     answers::field(out, state.port.uf);
     answers::field(out, state.port.t);
@@ -100,14 +104,18 @@ fn show_phase(state: &State, out: &mut Output) {
 }
 
 // The four bytes of a word, low byte first.
-fn show_word(word: u32, out: &mut Output) {
+fn show_word(word: u32, out: &mut Output)
+    ensures { Behind 8 out.old out.new }
+{
     for b in word.to_le_bytes() {
         answers::pair(out, b);
     }
 }
 
 // Fields 7 to 11.
-fn show_control(control: Control, out: &mut Output) {
+fn show_control(control: Control, out: &mut Output)
+    ensures { Behind 85 out.old out.new }
+{
     if !control.on {
         out.append(b" 0 0 0 0 0000000000000000");
         return;
@@ -122,7 +130,9 @@ fn show_control(control: Control, out: &mut Output) {
 }
 
 // Fields 12 to 16.
-fn show_held(state: &State, out: &mut Output) {
+fn show_held(state: &State, out: &mut Output)
+    ensures { Behind 85 out.old out.new }
+{
     answers::field(out, state.lengths.setups as u64);
     answers::field(out, state.lengths.midi as u64);
     answers::field(out, state.lengths.serial as u64);
@@ -131,7 +141,9 @@ fn show_held(state: &State, out: &mut Output) {
 }
 
 // Fields 17 to 23.
-fn show_port(state: &State, out: &mut Output) {
+fn show_port(state: &State, out: &mut Output)
+    ensures { Behind 44 out.old out.new }
+{
     answers::flag(out, state.port.suspended);
     answers::flag(out, state.port.gone);
     answers::flag(out, state.port.was_running);
@@ -140,14 +152,18 @@ fn show_port(state: &State, out: &mut Output) {
 }
 
 // Fields 24 to 28.
-fn show_block(audio: Audio, packer: Packer, out: &mut Output) {
+fn show_block(audio: Audio, packer: Packer, out: &mut Output)
+    ensures { Behind 70 out.old out.new }
+{
     answers::field(out, u64::from(audio.block));
     answers::field(out, u64::from(audio.channels));
     show_packer(packer, out);
 }
 
 // Fields 44 to 48.
-fn show_came(line: bool, came: Came, out: &mut Output) {
+fn show_came(line: bool, came: Came, out: &mut Output)
+    ensures { Behind 70 out.old out.new }
+{
     answers::flag(out, line);
     for bytes in [came.midi, came.serial] {
         answers::field(out, bytes.count);
@@ -156,7 +172,9 @@ fn show_came(line: bool, came: Came, out: &mut Output) {
 }
 
 // Fields 1 to 48; of these 31 to 43 are the counters in their order.
-pub fn show_record(run: &Run, came: Came, out: &mut Output) {
+pub fn show_record(run: &Run, came: Came, out: &mut Output)
+    ensures { Behind 711 out.old out.new }
+{
     let state = &run.state;
     show_phase(state, out);
     show_control(state.control, out);
@@ -165,14 +183,16 @@ pub fn show_record(run: &Run, came: Came, out: &mut Output) {
     show_block(state.audio, run.packers[0], out);
     answers::field(out, state.lengths.device as u64);
     answers::field(out, state.lengths.config as u64);
-    for n in state.stats.iter().take(STATS) {
+    for n in &state.stats[..STATS] {
         answers::field(out, *n);
     }
     show_came(state.port.line, came, out);
 }
 
 // Fields 49 to 53.
-pub fn show_areas(run: &Run, areas: &Areas, out: &mut Output) {
+pub fn show_areas(run: &Run, areas: &Areas, out: &mut Output)
+    ensures { Behind 85 out.old out.new }
+{
     let lengths = run.state.lengths;
     answers::field(out, first_hash(&areas.dynamic, run.length));
     answers::field(out, hash::hash_all(&areas.sram));
@@ -182,7 +202,9 @@ pub fn show_areas(run: &Run, areas: &Areas, out: &mut Output) {
 }
 
 // Fields 54 to 56.
-fn show_queues(state: &State, areas: &Areas, out: &mut Output) {
+fn show_queues(state: &State, areas: &Areas, out: &mut Output)
+    ensures { Behind 51 out.old out.new }
+{
     let lengths = state.lengths;
     let setups = lengths.setups.min(record::SETUPS);
     answers::field(out, first_hash(&areas.setups, 8 * setups));
@@ -200,7 +222,9 @@ fn reply_hash(control: Control, reply: &[u8]) -> u64 {
 }
 
 // Fields 57 to 60.
-fn show_rings(run: &Run, areas: &Areas, out: &mut Output) {
+fn show_rings(run: &Run, areas: &Areas, out: &mut Output)
+    ensures { Behind 68 out.old out.new }
+{
     let audio = run.state.audio;
     let sending = first(&areas.sending, run.sending_words());
     answers::field(out, ring_hash(&areas.received, audio.received));
@@ -220,7 +244,9 @@ pub fn observe(run: &Run, areas: &Areas, out: &mut Output) {
 }
 
 // `x 1`: the descriptors that the last microframe retired, and the bytes that it dropped.
-pub fn show_counts(answer: Answer, out: &mut Output) {
+pub fn show_counts(answer: Answer, out: &mut Output)
+    ensures { Behind 38 out.old out.new }
+{
     out.append(b"x 1");
     answers::field(out, answer.retired);
     answers::field(out, answer.dropped);
@@ -228,7 +254,9 @@ pub fn show_counts(answer: Answer, out: &mut Output) {
 }
 
 // `x 2`: the cables of the MIDI bytes that the last microframe received, how many and their hash, and the packers of all; serial bytes have none.
-pub fn show_cables(run: &Run, areas: &Areas, out: &mut Output) {
+pub fn show_cables(run: &Run, areas: &Areas, out: &mut Output)
+    ensures { Behind 614 out.old out.new }
+{
     let count = if run.settings.cdc {
         0
     } else {

@@ -1,5 +1,5 @@
 // The state of a run: the host by its parts, and what its lines chose and counted.
-ghost use Rattle.std.specs.Prelude.{◌≡◌, false};
+ghost use Rattle.std.specs.Prelude.{◌≡◌, ◌≤◌, false};
 
 use crate::areas::{DYNAMIC, Used};
 use crate::log::Came;
@@ -36,7 +36,9 @@ pub struct Run {
 }
 
 // The words of so many frames, or of as many as a ring holds at most.
-fn ring_words(frames: usize) -> usize {
+fn ring_words(frames: usize) -> usize
+    ensures { result ≤ 576000 }
+{
     frames.min(record::RING_FRAMES) * 12
 }
 

@@ -71,17 +71,14 @@ impl Run {
             if !self.live || out.failed() {
                 break;
             }
-            match turn(&*self, state, areas, time) {
-                Ok(next) => state = next,
-                Err(_) => {
-                    state.answer = Answer::NONE;
-                    self.count_refused();
-                }
+            if turn(&*self, &mut state, areas, time).is_err() {
+                self.count_refused();
             }
             self.count(state.answer, &areas.receive);
             if self.mode != Mode::Nothing || !self.live {
                 self.state = state;
                 show(&*self, &*areas, out);
+                out.make_room();
             }
             time = time.wrapping_add(asked.step);
         }
@@ -90,7 +87,7 @@ impl Run {
 }
 
 // One microframe of a run in a state.
-fn turn(run: &Run, state: State, areas: &mut Areas, time: u64) -> Result<State, Refusal> {
+fn turn(run: &Run, state: &mut State, areas: &mut Areas, time: u64) -> Result<(), Refusal> {
     usbhost::run_microframe(
         state,
         run.settings,

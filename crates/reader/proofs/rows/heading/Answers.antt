@@ -1,0 +1,6 @@
+-- One behind the other.
+use Rattle.stdio.proofs.Behind.{behind_text, behind_then}
+use Rattle.reader.proofs.rows.heading.Goals as goal
+
+pub returns : goal.returns
+returns c = behind_then (behind_text _ c.append.ensures.held) (behind_text _ c.append-2.ensures.held)
