@@ -2,7 +2,7 @@
 #![tactic(auto)]
 
 ghost use Rattle.std.specs.Option.{ForSome};
-ghost use Rattle.std.specs.Prelude.{◌≡◌, ◌<◌, ◌≤◌, None};
+ghost use Rattle.std.specs.Prelude.{◌≡◌, ◌<◌, ◌≤◌, None, length};
 
 use config::ConfigInfo;
 use script::{answers, words};
@@ -127,7 +127,9 @@ fn show_info(info: &ConfigInfo, out: &mut Output) {
 }
 
 // The bytes of a piece, up to a write that fails.
-fn take_piece(line: &mut Line, piece: &[u8], out: &mut Output) {
+fn take_piece(line: &mut Line, piece: &[u8], out: &mut Output)
+    ensures { length out.old.bytes ≤ 40000 → length out.new.bytes ≤ 40000 }
+{
     for b in piece {
         if *b != b'\n' {
             line.feed(*b);
