@@ -1,4 +1,4 @@
--- Places give their pairs back, which the model of `Pairs` needs for its inverse: the pairs, and zeros behind them, are all 256 places.
+-- Places give their pairs back, which the model of `Pairs` needs for its inverse: the pairs, and no pair behind them, are all 256 places.
 use Rattle.std.specs.Prelude.{◌≡◌, ℕ, ◌-◌, List, [], ◌∷◌, ◌++◌, map, length, take, replicate}
 use Rattle.std.proofs.Common.{sym, ap, ◌∙◌, refl, arith}
 use Rattle.std.proofs.lemmas.List.{take-append-drop}
